@@ -1,0 +1,86 @@
+-- Laws of the numbered walks and of tabulated lists.
+use mathlib.Core.Path.{_≡_, refl, sym, ap, _∙_}
+use mathlib.Core.Logic.{_≢_}
+use mathlib.Core.Bool.{Bool, true, _&&_}
+use Prim.Native.Nat.{ℕ, zero, suc, _+_, _≤_, _<_}
+use native.Mathlib.Nat.{le-of-suc-le-suc, not-suc-le-zero}
+use native.Mathlib.Omega.{arith}
+use native.Mathlib.Decide.{ℕ-discrete}
+use native.Mathlib.Numerals.{add-one}
+use mathlib.Core.List.{List, [], _∷_, _++_, map, map-append}
+use lib.ListN.{length, getD, set, take, drop, replicate, length-append, List·getD-append}
+use lib.Seq.{set-append-left, set-at, getD-at, getD-drop, take-suc, drop-cons}
+use Rattle.lists.specs.Lists.{everyFrom, tabulate}
+use Rattle.lists.proofs.TestLaws.{and-left, and-right, and-both}
+
+-- ---- every
+
+module _ {A : Type 0} where
+  -- the test at each element; n is its number
+  pub every-at : (t : ℕ → A → Bool) (i : ℕ) (xs : List A) (d : A) → everyFrom t i xs ≡ true → (k n : ℕ) → n ≡ i + k → k < length xs → t n (getD xs k d) ≡ true
+  unfolding everyFrom
+  every-at t i [] d e k n q h = absurd (not-suc-le-zero h)
+  every-at t i (x ∷ xs) d e zero n q h = let z : n ≡ i = omega arith in rw z (and-left (t i x) (everyFrom t (i + 1) xs) e)
+  every-at t i (x ∷ xs) d e (suc k) n q h = every-at t (i + 1) xs d (and-right (t i x) (everyFrom t (i + 1) xs) e) k n (omega arith) (le-of-suc-le-suc h)
+
+  pub every-all : (t : ℕ → A → Bool) (i : ℕ) (xs : List A) (d : A) → ((k n : ℕ) → n ≡ i + k → k < length xs → t n (getD xs k d) ≡ true) → everyFrom t i xs ≡ true
+  unfolding everyFrom
+  every-all t i [] d f = refl
+  every-all t i (x ∷ xs) d f =
+      and-both (t i x) (everyFrom t (i + 1) xs) (f 0 i (omega arith) (omega arith))
+      (every-all t (i + 1) xs d (λ k n q h. f (suc k) n (omega arith) (omega arith)))
+
+  pub every-replicate : (t : ℕ → A → Bool) (i n : ℕ) (x : A) → ((k : ℕ) → t k x ≡ true) → everyFrom t i (replicate n x) ≡ true
+  unfolding everyFrom
+  every-replicate t i zero x f = refl
+  every-replicate t i (suc n) x f = and-both (t i x) (everyFrom t (i + 1) (replicate n x)) (f i) (every-replicate t (i + 1) n x f)
+
+-- ---- tabulate
+
+module _ {A : Type 0} where
+  pub length-tabulate : (f : ℕ → A) (n : ℕ) → length (tabulate f n) ≡ n
+  unfolding tabulate
+  length-tabulate f zero = refl
+  length-tabulate f (suc n) = length-append (tabulate f n) (f n ∷ []) ∙ omega (arith, length-tabulate f n)
+
+  pub tabulate-more : (f : ℕ → A) (n : ℕ) → tabulate f (n + 1) ≡ tabulate f n ++ (f n ∷ [])
+  unfolding tabulate
+  tabulate-more f n = ap (tabulate f) (add-one n)
+
+  pub tabulate-same : (f g : ℕ → A) (n : ℕ) → ((k : ℕ) → k < n → f k ≡ g k) → tabulate f n ≡ tabulate g n
+  unfolding tabulate
+  tabulate-same f g zero e = refl
+  tabulate-same f g (suc n) e = rw (tabulate-same f g n (λ k h. e k (omega arith)), e n (omega arith))
+
+  pub tabulate-at : (f : ℕ → A) (n k : ℕ) (d : A) → k < n → getD (tabulate f n) k d ≡ f k
+  unfolding tabulate
+  tabulate-at f zero k d h = absurd (omega arith)
+  tabulate-at f (suc n) k d h =
+      elim (ℕ-discrete k n) [
+        | yes e ↦ getD-at (tabulate f n) (f n) [] d k (length-tabulate f n ∙ sym e) ∙ ap f (sym e)
+        | no q ↦ List·getD-append (tabulate f n) _ d k (rw length-tabulate (omega arith)) ∙ tabulate-at f n k d (omega arith)
+      ]
+
+  -- one value is another
+  pub tabulate-set : (f g : ℕ → A) (n i : ℕ) (a : A) → i < n → f i ≡ a → ((k : ℕ) → k ≢ i → f k ≡ g k) → tabulate f n ≡ set (tabulate g n) i a
+  unfolding tabulate
+  tabulate-set f g zero i a h e o = refl
+  tabulate-set f g (suc n) i a h e o =
+      elim (ℕ-discrete i n) [
+        | yes p ↦ rw (set-at (tabulate g n) (g n) [] a i (length-tabulate g n ∙ sym p), tabulate-same f g n (λ k q. o k (λ w. omega arith)), ← p, e)
+        | no q ↦ rw (set-append-left (tabulate g n) (g n ∷ []) i a (rw length-tabulate (omega arith)), ← tabulate-set f g n i a (omega arith) e o, o n (λ w. q (sym w)))
+      ]
+
+  -- a list is the table of its own elements
+  pub tabulate-getD : (xs : List A) (a n : ℕ) (d : A) → a + n ≤ length xs → tabulate (λ j. getD xs (a + j) d) n ≡ take n (drop a xs)
+  unfolding tabulate
+  tabulate-getD xs a zero d h = refl
+  tabulate-getD xs a (suc n) d h =
+      rw (tabulate-getD xs a n d (omega arith), ← getD-drop a xs n d)
+      (sym (take-suc (drop a xs) n d (omega (arith, lib.ListN.length-drop a xs))))
+
+module _ {A B : Type 0} where
+  pub tabulate-map : (h : A → B) (f : ℕ → B) (g : ℕ → A) (n : ℕ) → ((k : ℕ) → k < n → f k ≡ h (g k)) → tabulate f n ≡ map h (tabulate g n)
+  unfolding tabulate
+  tabulate-map h f g zero e = refl
+  tabulate-map h f g (suc n) e = rw (tabulate-map h f g n (λ k q. e k (omega arith)), e n (omega arith), map-append)

@@ -1,0 +1,53 @@
+-- A row and an account with one field changed: the only places that list all the fields of one.
+use Prim.Native.Nat.{ℕ}
+use Rattle.records.specs.declared.Row.{Row}
+use Rattle.records.specs.declared.Account.{Account}
+
+-- ---- rows
+
+-- kind 0, empty: the row where the journal has none
+abbrev pub blank : Row
+blank = record { kind = 0; account = 0; day = 0; amount = 0; settled = 0; mark = 0; due = 0; dispute = 0; hold = 0; reference = 0 }
+
+-- "New rows carry today and start unsettled": kind, account, day and amount; "words without a use in a kind are 0"
+abbrev pub newRow : ℕ → ℕ → ℕ → ℕ → Row
+newRow k a d n = record { kind = k; account = a; day = d; amount = n; settled = 0; mark = 0; due = 0; dispute = 0; hold = 0; reference = 0 }
+
+abbrev pub withSettled : ℕ → Row → Row
+withSettled v r = record { kind = r .kind; account = r .account; day = r .day; amount = r .amount; settled = v; mark = r .mark; due = r .due; dispute = r .dispute; hold = r .hold; reference = r .reference }
+
+abbrev pub withMark : ℕ → Row → Row
+withMark v r = record { kind = r .kind; account = r .account; day = r .day; amount = r .amount; settled = r .settled; mark = v; due = r .due; dispute = r .dispute; hold = r .hold; reference = r .reference }
+
+abbrev pub withDue : ℕ → Row → Row
+withDue v r = record { kind = r .kind; account = r .account; day = r .day; amount = r .amount; settled = r .settled; mark = r .mark; due = v; dispute = r .dispute; hold = r .hold; reference = r .reference }
+
+abbrev pub withDispute : ℕ → Row → Row
+withDispute v r = record { kind = r .kind; account = r .account; day = r .day; amount = r .amount; settled = r .settled; mark = r .mark; due = r .due; dispute = v; hold = r .hold; reference = r .reference }
+
+abbrev pub withHold : ℕ → Row → Row
+withHold v r = record { kind = r .kind; account = r .account; day = r .day; amount = r .amount; settled = r .settled; mark = r .mark; due = r .due; dispute = r .dispute; hold = v; reference = r .reference }
+
+abbrev pub withReference : ℕ → Row → Row
+withReference v r = record { kind = r .kind; account = r .account; day = r .day; amount = r .amount; settled = r .settled; mark = r .mark; due = r .due; dispute = r .dispute; hold = r .hold; reference = v }
+
+-- ---- accounts
+
+-- "unused accounts are all 0"
+abbrev pub unused : Account
+unused = record { state = 0; request = 0; returned = 0; threshold = 0; topup = 0; declines = 0; declined = 0 }
+
+abbrev pub withState : ℕ → Account → Account
+withState v x = record { state = v; request = x .request; returned = x .returned; threshold = x .threshold; topup = x .topup; declines = x .declines; declined = x .declined }
+
+abbrev pub withRequest : ℕ → Account → Account
+withRequest v x = record { state = x .state; request = v; returned = x .returned; threshold = x .threshold; topup = x .topup; declines = x .declines; declined = x .declined }
+
+abbrev pub withReturned : ℕ → Account → Account
+withReturned v x = record { state = x .state; request = x .request; returned = v; threshold = x .threshold; topup = x .topup; declines = x .declines; declined = x .declined }
+
+abbrev pub withTopUp : ℕ → ℕ → Account → Account
+withTopUp t n x = record { state = x .state; request = x .request; returned = x .returned; threshold = t; topup = n; declines = x .declines; declined = x .declined }
+
+abbrev pub withDeclines : ℕ → ℕ → Account → Account
+withDeclines n d x = record { state = x .state; request = x .request; returned = x .returned; threshold = x .threshold; topup = x .topup; declines = n; declined = d }

@@ -1,0 +1,3 @@
+pub mod Entries
+pub mod Replay
+pub mod Demand3

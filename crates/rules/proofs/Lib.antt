@@ -1,0 +1,12 @@
+pub mod AllocationLaws
+pub mod SettlementLaws
+pub mod SettlementStepsLaws
+pub mod SoundnessLaws
+pub mod PostingLaws
+pub mod Computing
+pub mod Examples
+pub mod StorableLaws
+pub mod TableLaws
+pub mod OpeningLaws
+pub mod Boundaries
+pub mod CallExamples

@@ -1,0 +1,89 @@
+-- Laws of opening: an opened book is sound, and so are its tables.
+use mathlib.Core.Path.{_≡_, refl, sym, ap, _∙_}
+use mathlib.Core.Bool.{Bool, true, false, not, cond, _&&_}
+use Prim.Native.Nat.{ℕ, zero, suc, _≤_, _<_}
+use native.Mathlib.Omega.{arith}
+use mathlib.Core.List.{List, [], _∷_}
+use lib.ListN.{length, getD, replicate, length-replicate}
+use lib.Dec.{eqb}
+use lib.IntN.{ℤ}
+use borrow.Author.Tests.{le-leb, not-false, eq-eqb}
+use Rattle.records.specs.Layout.{openingWidth, firstDayPlace, openingSchedule}
+use Rattle.records.specs.Encoding.{word}
+use Rattle.lists.specs.Tests.{_is_, first, allOf}
+use Rattle.lists.specs.Lists.{sumBy, count, everyFrom}
+use Rattle.lists.proofs.TestLaws.{and-left, and-right, first-fails}
+use Rattle.lists.proofs.ListLaws.{every-replicate}
+use Rattle.rules.specs.Schedule.{Schedule, scheduleFits}
+use Rattle.rules.specs.Settlement.{money, debt, used, paid, owed}
+use Rattle.rules.specs.Book.{unused, Book}
+use Rattle.rules.specs.Opening.{opening, dayFits, sizesFit}
+use Rattle.rules.specs.Soundness.{sound, accountSound, stateFits, unusedZero, requestFits, topUpFits, declineFits, returnedFits, returnedOf, even, spent, closedClear}
+use Rattle.rules.specs.Tables.{Tables, accountsIn, roomIn, scheduleFrom, bookOf, tablesOf, wholeRecords, lengthsFit, soundTables}
+use Rattle.rules.specs.Calls.{Called, openRefusals, openedBook, openCall}
+use Rattle.rules.proofs.TableLaws.{bookOf-tablesOf, soundTables-tablesOf}
+
+unused-sound : (day : ℕ) (s : Schedule) (accounts room n : ℕ) → accountSound (opening day s accounts room) n unused ≡ true
+unfolding opening accountSound allOf stateFits unusedZero requestFits topUpFits declineFits returnedFits returnedOf even spent owed closedClear count sumBy money debt used paid
+unused-sound day s accounts room n = rw (le-leb 0 day (omega arith))
+
+pub opening-sound : (day : ℕ) (s : Schedule) (accounts room : ℕ) → dayFits day ≡ true → scheduleFits s ≡ true → sizesFit accounts room ≡ true
+    → sound (opening day s accounts room) ≡ true
+unfolding opening sound allOf everyFrom
+opening-sound day s accounts room d f n =
+    rw (
+      d,
+      f,
+      length-replicate accounts unused,
+      n,
+      le-leb 0 room (omega arith),
+      every-replicate (accountSound (opening day s accounts room)) 1 accounts unused (unused-sound day s accounts room),
+    )
+
+-- ---- the call: where it gives 0, its tables are those of the opened book, and sound
+
+module _ (t : Tables) (w : List ℤ) (e : openCall t w .number ≡ 0) where
+  refusals-fail : (k : ℕ) → getD (openRefusals t w) k (1, false) .1 ≡ false
+  unfolding openCall openRefusals
+  refusals-fail = first-fails (openRefusals t w) (λ k h. positive k) e
+    where
+      positive : (k : ℕ) → 0 < getD (openRefusals t w) k (1, false) .0
+      positive zero = omega arith
+      positive (suc zero) = omega arith
+      positive (suc (suc k)) = omega arith
+
+  abbrev width-part : Bool
+  width-part = length w is openingWidth
+
+  abbrev day-part : Bool
+  day-part = dayFits (word w firstDayPlace)
+
+  abbrev schedule-part : Bool
+  schedule-part = scheduleFits (scheduleFrom w openingSchedule)
+
+  lengths-fit : lengthsFit t ≡ true
+  unfolding openRefusals
+  lengths-fit = not-false (lengthsFit t) (refusals-fail 0)
+
+  words-fit : width-part && day-part && schedule-part ≡ true
+  unfolding openRefusals
+  words-fit = not-false (width-part && day-part && schedule-part) (refusals-fail 1)
+
+  pub openedBook-sound : sound (openedBook t w) ≡ true
+  unfolding openedBook lengthsFit
+  openedBook-sound =
+      opening-sound (word w firstDayPlace) (scheduleFrom w openingSchedule) (accountsIn t) (roomIn t)
+      (and-right width-part day-part (and-left (width-part && day-part) schedule-part words-fit))
+      (and-right (width-part && day-part) schedule-part words-fit)
+      (and-right (wholeRecords t) (sizesFit (accountsIn t) (roomIn t)) lengths-fit)
+
+  pub openCall-tables : openCall t w .tables ≡ tablesOf (openedBook t w)
+  unfolding openCall
+  openCall-tables = rw (eq-eqb (first (openRefusals t w)) 0 e)
+
+  pub openCall-sound : soundTables (openCall t w .tables) ≡ true
+  openCall-sound = rw openCall-tables (soundTables-tablesOf (openedBook t w) openedBook-sound)
+
+  pub bookOf-openCall : bookOf (openCall t w .tables) ≡ openedBook t w
+  unfolding openedBook opening
+  bookOf-openCall = rw openCall-tables (bookOf-tablesOf (openedBook t w) (omega arith))

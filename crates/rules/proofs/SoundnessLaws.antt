@@ -1,0 +1,124 @@
+-- Soundness as facts: a record for a row, an account and a book, equal to the test. The parts are split by what they read, so
+-- that each law of preservation touches few of them.
+use mathlib.Core.Path.{_≡_, refl}
+use mathlib.Core.Bool.{true}
+use Prim.Native.Nat.{ℕ, suc, _+_, _<_}
+use native.Mathlib.Omega.{arith}
+use mathlib.Core.List.{List, [], _∷_}
+use lib.ListN.{length, getD}
+use lib.Dec.{leb}
+use Rattle.lists.specs.Tests.{allOf}
+use Rattle.lists.specs.Lists.{everyFrom, every}
+use Rattle.lists.proofs.TestLaws.{allOf-at}
+use Rattle.lists.proofs.ListLaws.{every-at, every-all}
+use Rattle.rules.specs.Schedule.{scheduleFits}
+use Rattle.rules.specs.Rows.{Row, blank}
+use Rattle.rules.specs.Book.{Account, unused, Book}
+use Rattle.rules.specs.Opening.{dayFits, sizesFit}
+use Rattle.rules.specs.Soundness.{kindFits, amountFits, settledFits, markFits, tollWordsFit, noReference, rowDayFits, dueWithin, holdFits, accountUsed, referenceFits, passageOnce, feesFit, rowSound, stateFits, unusedZero, requestFits, topUpFits, declineFits, returnedFits, even, spent, closedClear, accountSound, sound}
+
+-- what does not look at the part settled
+pub record Shape (today : ℕ) (xs : List Account) (rows : List Row) (n : ℕ) (r : Row) : Type 0 where
+  pub kind : kindFits r ≡ true
+  pub amount : amountFits r ≡ true
+  pub mark : markFits r ≡ true
+  pub words : tollWordsFit r ≡ true
+  pub none : noReference r ≡ true
+  pub day : rowDayFits today r ≡ true
+  pub account : accountUsed xs r ≡ true
+  pub reference : referenceFits rows n r ≡ true
+  pub passage : passageOnce rows r ≡ true
+  pub fees : feesFit rows n r ≡ true
+
+-- what does, of the row alone; open tolls are due after `past`: today in a sound book, yesterday in the middle of a tick
+pub record Live (past today L : ℕ) (r : Row) : Type 0 where
+  pub settled : settledFits r ≡ true
+  pub due : dueWithin past (today + L) r ≡ true
+  pub hold : holdFits today L r ≡ true
+
+-- an account by itself
+pub record Standing (today : ℕ) (x : Account) : Type 0 where
+  pub state : stateFits x ≡ true
+  pub zero : unusedZero x ≡ true
+  pub request : requestFits today x ≡ true
+  pub topup : topUpFits x ≡ true
+  pub decline : declineFits today x ≡ true
+
+-- an account and its rows: all but "no unused source beside an unsettled unheld debit", which settlement makes
+pub record Counted (rows : List Row) (n : ℕ) (x : Account) : Type 0 where
+  pub returned : returnedFits rows n x ≡ true
+  pub even : even rows n ≡ true
+  pub clear : closedClear rows n x ≡ true
+
+-- a sound book but for what settlement makes
+pub record Near (past : ℕ) (b : Book) : Type 0 where
+  pub day : dayFits (b .day) ≡ true
+  pub schedule : scheduleFits (b .schedule) ≡ true
+  pub sizes : sizesFit (length (b .accounts)) (b .room) ≡ true
+  pub fits : leb (length (b .rows)) (b .room) ≡ true
+  pub shape : (k : ℕ) → k < length (b .rows) → Shape (b .day) (b .accounts) (b .rows) (suc k) (getD (b .rows) k blank)
+  pub live : (k : ℕ) → k < length (b .rows) → Live past (b .day) (b .schedule .stage) (getD (b .rows) k blank)
+  pub standing : (k : ℕ) → k < length (b .accounts) → Standing (b .day) (getD (b .accounts) k unused)
+  pub counted : (k : ℕ) → k < length (b .accounts) → Counted (b .rows) (suc k) (getD (b .accounts) k unused)
+
+pub record Sound (b : Book) : Type 0 where
+  pub near : Near (b .day) b
+  pub spent : (k : ℕ) → k < length (b .accounts) → spent (b .rows) (suc k) ≡ true
+
+-- ---- the test gives the facts
+
+module _ (b : Book) (e : sound b ≡ true) where
+  part : (k : ℕ) → getD (dayFits (b .day) ∷ scheduleFits (b .schedule) ∷ sizesFit (length (b .accounts)) (b .room) ∷ leb (length (b .rows)) (b .room)
+      ∷ every (rowSound b) (b .rows) ∷ every (accountSound b) (b .accounts) ∷ []) k true ≡ true
+  unfolding sound
+  part = allOf-at _ e
+
+  row-sound : (k : ℕ) → k < length (b .rows) → rowSound b (suc k) (getD (b .rows) k blank) ≡ true
+  row-sound k h = every-at (rowSound b) 1 (b .rows) blank (part 4) k (suc k) (omega arith) h
+
+  account-sound : (k : ℕ) → k < length (b .accounts) → accountSound b (suc k) (getD (b .accounts) k unused) ≡ true
+  account-sound k h = every-at (accountSound b) 1 (b .accounts) unused (part 5) k (suc k) (omega arith) h
+
+  pub sound-facts : Sound b
+  unfolding rowSound accountSound
+  sound-facts = record {
+    near = record {
+      day = part 0;
+      schedule = part 1;
+      sizes = part 2;
+      fits = part 3;
+      shape = λ k h. let p = allOf-at _ (row-sound k h) in record {
+        kind = p 0;
+        amount = p 1;
+        mark = p 3;
+        words = p 4;
+        none = p 5;
+        day = p 6;
+        account = p 9;
+        reference = p 10;
+        passage = p 11;
+        fees = p 12;
+      };
+      live = λ k h. let p = allOf-at _ (row-sound k h) in record { settled = p 2; due = p 7; hold = p 8 };
+      standing = λ k h. let p = allOf-at _ (account-sound k h) in record { state = p 0; zero = p 1; request = p 2; topup = p 3; decline = p 4 };
+      counted = λ k h. let p = allOf-at _ (account-sound k h) in record { returned = p 5; even = p 6; clear = p 8 };
+    };
+    spent = λ k h. allOf-at _ (account-sound k h) 7;
+  }
+
+-- ---- and the facts the test
+
+pub facts-sound : (b : Book) → Sound b → sound b ≡ true
+unfolding sound rowSound accountSound allOf
+facts-sound b s =
+    let p : every (rowSound b) (b .rows) ≡ true = every-all (rowSound b) 1 (b .rows) blank (λ k n q h.
+    let z : n ≡ suc k = omega arith in
+    let v = s .near .shape k h in
+    let w = s .near .live k h in
+    rw (z, v .kind, v .amount, w .settled, v .mark, v .words, v .none, v .day, w .due, w .hold, v .account, v .reference, v .passage, v .fees)) in
+    let q : every (accountSound b) (b .accounts) ≡ true = every-all (accountSound b) 1 (b .accounts) unused (λ k n q h.
+    let z : n ≡ suc k = omega arith in
+    let v = s .near .standing k h in
+    let w = s .near .counted k h in
+    rw (z, v .state, v .zero, v .request, v .topup, v .decline, w .returned, w .even, s .spent k h, w .clear)) in
+    rw (s .near .day, s .near .schedule, s .near .sizes, s .near .fits, p, q)

@@ -1,0 +1,95 @@
+-- Events 1 to 8 (document 01, "Events"): what each does to the book when it is accepted, before settlement.
+use mathlib.Core.Bool.{cond}
+use Prim.Native.Nat.{ℕ, _+_, _-_}
+use mathlib.Core.List.{List, map}
+use lib.ListN.{set}
+use Rattle.records.specs.Codes.{Card, CheckReturned, Ended, Upheld, Yes}
+use Rattle.records.specs.AccountOperations.{opened, checkReturned, declinedOn, topUpPaid, closeRequestedOn}
+use Rattle.lists.specs.Tests.{_is_}
+use Rattle.lists.specs.Lists.{sumBy, only}
+use Rattle.rules.specs.Limits.{returnFee}
+use Rattle.rules.specs.Schedule.{Schedule, class, rate}
+use Rattle.rules.specs.Rows.{Row, Toll, Fee, Reversal, Payment, Credit, Held, newRow, withSettled, withMark, withDue, withDispute, withHold, withReference, remaining, settleWhole, feeNaming}
+use Rattle.rules.specs.Book.{Book, Instruction, withRows, account, row, putAccount, putRow, addRow}
+
+abbrev pub Change : Type 0
+Change = Book → Instruction → Book
+
+-- ---- 1. "Open: a threshold, b top-up amount"
+
+unfoldable pub openAccount : Change
+openAccount b e = putAccount (e .account) (opened (e .a) (e .b)) b
+
+-- ---- 2. "Toll: a passage number, .. c axles, d height, e mode. Row: rate, stage 0, due today + L"
+
+unfoldable pub tollRate : Schedule → Instruction → ℕ
+tollRate s e = rate (s .rates) (class (e .c) (e .d)) (e .e)
+
+unfoldable pub postToll : Change
+postToll b e =
+    addRow (withReference (e .a) (withDue (b .day + b .schedule .stage) (newRow Toll (e .account) (b .day) (tollRate (b .schedule) e)))) b
+
+-- ---- 3. "Payment: a amount, b method"
+
+unfoldable pub postPayment : Change
+postPayment b e = addRow (withMark (e .b) (newRow Payment (e .account) (b .day) (e .a))) b
+
+-- ---- 4. "Returned check: a payment row, b bank charge. Adds a reversal of the amount, then a fee of charge + 500; mark becomes 4,
+-- the count rises; a closed account becomes pending with its old request day"
+
+unfoldable pub returnCheck : Change
+returnCheck b e =
+    addRow (withReference (e .a) (newRow Fee (e .account) (b .day) (e .b + returnFee)))
+    (addRow (withReference (e .a) (newRow Reversal (e .account) (b .day) (row b (e .a) .amount)))
+    (putRow (e .a) (withMark CheckReturned (row b (e .a)))
+    (putAccount (e .account) (checkReturned (account b (e .account))) b)))
+
+-- ---- 5. "Dispute: a toll row. Hold starts today"
+
+unfoldable pub holdFrom : ℕ → Row → Row
+holdFrom today r = withHold today (withDispute Held r)
+
+unfoldable pub holdToll : Change
+holdToll b e = putRow (e .a) (holdFrom (b .day) (row b (e .a))) b
+
+-- ---- 6. "Decision: a toll row, b verdict"
+
+-- "0: dispute 2, due moves by today - hold start. .. Hold start becomes 0"
+unfoldable pub release : ℕ → Row → Row
+release today r = withHold 0 (withDispute Ended (withDue (r .due + (today - r .hold)) r))
+
+unfoldable pub reject : Change
+reject b e = putRow (e .a) (release (b .day) (row b (e .a))) b
+
+-- what f gives for the toll "plus all its fees"
+unfoldable pub withFees : Book → ℕ → (Row → ℕ) → ℕ
+withFees b n f = f (row b n) + sumBy (only (feeNaming n) f) (b .rows)
+
+-- "1: dispute 3, and a credit of the toll plus all its fees settles what is unsettled of exactly these; the rest of the credit is unused"
+unfoldable pub uphold : Change
+uphold b e =
+    addRow (withReference (e .a) (withSettled (withFees b (e .a) remaining) (newRow Credit (e .account) (b .day) (withFees b (e .a) (λ r. r .amount)))))
+    (withRows (map (λ r. cond (feeNaming (e .a) r) (settleWhole r) r)
+    (set (b .rows) (e .a - 1) (settleWhole (withHold 0 (withDispute Upheld (row b (e .a))))))) b)
+
+unfoldable pub decide : Change
+decide b e = cond (e .b is Yes) (uphold b e) (reject b e)
+
+-- ---- 7. "Top-up result: b 1 paid, 0 declined"
+
+-- "Paid: a card payment, declines and last decline 0"
+unfoldable pub payTopUp : Change
+payTopUp b e =
+    addRow (withMark Card (newRow Payment (e .account) (b .day) (account b (e .account) .topup)))
+    (putAccount (e .account) (topUpPaid (account b (e .account))) b)
+
+unfoldable pub declineTopUp : Change
+declineTopUp b e = putAccount (e .account) (declinedOn (b .day) (account b (e .account))) b
+
+unfoldable pub topUpResult : Change
+topUpResult b e = cond (e .b is Yes) (payTopUp b e) (declineTopUp b e)
+
+-- ---- 8. "Close request: pending from today"
+
+unfoldable pub requestClose : Change
+requestClose b e = putAccount (e .account) (closeRequestedOn (b .day) (account b (e .account))) b

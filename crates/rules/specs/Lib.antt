@@ -1,0 +1,14 @@
+pub mod Limits
+pub mod Schedule
+pub mod Rows
+pub mod Settlement
+pub mod SettlementSteps
+pub mod Book
+pub mod Events
+pub mod Tick
+pub mod Refusals
+pub mod Posting
+pub mod Opening
+pub mod Soundness
+pub mod Tables
+pub mod Calls

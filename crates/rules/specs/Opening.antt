@@ -1,0 +1,22 @@
+-- Opening (document 01, "The book").
+use mathlib.Core.Bool.{Bool, _&&_}
+use Prim.Native.Nat.{ℕ}
+use mathlib.Core.List.{[]}
+use lib.ListN.{replicate}
+use lib.Dec.{leb}
+use Rattle.lists.specs.Tests.{_from_to_}
+use Rattle.rules.specs.Limits.{finalDay, mostAccounts, mostRows}
+use Rattle.rules.specs.Schedule.{Schedule}
+use Rattle.rules.specs.Book.{Book, unused}
+
+-- "Opening takes the first day and the schedule and makes all else 0"
+unfoldable pub opening : ℕ → Schedule → ℕ → ℕ → Book
+opening day s accounts room = record { day = day; schedule = s; accounts = replicate accounts unused; rows = []; room = room }
+
+-- "day 1 to 36,525"
+unfoldable pub dayFits : ℕ → Bool
+dayFits day = day from 1 to finalDay
+
+-- "1 to 256 of them", "1 to 8,192 rows"
+unfoldable pub sizesFit : ℕ → ℕ → Bool
+sizesFit accounts room = accounts from 1 to mostAccounts && room from 1 to mostRows
