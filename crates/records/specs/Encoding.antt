@@ -53,12 +53,15 @@ rowFrom t p = record {
 abbrev pub accountAt : List ℤ → ℕ → Account
 accountAt t i = accountFrom t (i * Layout.accountWidth)
 
+-- row i, counted from 0
 abbrev pub rowAt : List ℤ → ℕ → Row
 rowAt t i = rowFrom t (i * Layout.rowWidth)
 
+-- the first n accounts
 abbrev pub accountsOf : List ℤ → ℕ → List Account
 accountsOf t n = tabulate (accountAt t) n
 
+-- the first n rows
 abbrev pub rowsOf : List ℤ → ℕ → List Row
 rowsOf t n = tabulate (rowAt t) n
 
@@ -74,6 +77,7 @@ instructionOf e = record {
   e = natOf (e .e);
 }
 
+-- a single event's table: "Seven words: kind, account, a, b, c, d, e"
 unfoldable pub instructionFrom : List ℤ → Instruction
 instructionFrom t = record {
   kind = word t Layout.eventKindPlace;
@@ -87,13 +91,16 @@ instructionFrom t = record {
 
 -- ---- writing: the words of each record, in order of their places
 
+-- "Accounts, 7 words each: state, close request day, returned checks, top-up threshold, top-up amount, declines, day of last decline"
 unfoldable pub accountWords : Account → List ℤ
 accountWords x = map pos (x .state ∷ x .request ∷ x .returned ∷ x .threshold ∷ x .topup ∷ x .declines ∷ x .declined ∷ [])
 
+-- "Journal, 10 words a row: kind, account, day, amount, settled, mark, due day, dispute, hold start, reference"
 unfoldable pub rowWords : Row → List ℤ
 rowWords r = map pos
     (r .kind ∷ r .account ∷ r .day ∷ r .amount ∷ r .settled ∷ r .mark ∷ r .due ∷ r .dispute ∷ r .hold ∷ r .reference ∷ [])
 
+-- "Answer, five words: number, first new row, new rows, tolls raised, 1 if the top-up was removed"
 unfoldable pub answerWords : Answer → List ℤ
 answerWords a = map pos (a .number ∷ a .first ∷ a .added ∷ a .raised ∷ a .removed ∷ [])
 

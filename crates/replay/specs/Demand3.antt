@@ -26,6 +26,7 @@ pub data Call : Type 0 where
   single : List ℤ → List ℤ → Call
   batch : List Event → List ℤ → Call
 
+-- what a call leaves
 unfoldable pub called : Tables → Call → Called
 called t (single e answers) = eventCall t e answers
 called t (batch es answers) = batchCall t es answers
@@ -42,6 +43,7 @@ unfoldable pub reportsOf : Book → List Instruction → List Report
 reportsOf b [] = []
 reportsOf b (e ∷ es) = record { event = e; accepted = answerNumber b e is 0 } ∷ reportsOf (post b e .book) es
 
+-- the events of a call that is not refused, n being its refusal
 unfoldable pub reportsIf : ℕ → Book → List Instruction → List Report
 reportsIf n b es = cond (n is 0) (reportsOf b es) []
 
@@ -50,6 +52,7 @@ unfoldable pub reportsAt : Tables → Call → List Report
 reportsAt t (single e answers) = reportsIf (first (eventRefusals t e answers)) (bookOf t) (instructionFrom e ∷ [])
 reportsAt t (batch es answers) = reportsIf (first (batchRefusals t es answers)) (bookOf t) (map instructionOf es)
 
+-- the reports of all calls, each on the tables as the last one left them
 unfoldable pub reports : Tables → List Call → List Report
 reports t [] = []
 reports t (c ∷ cs) = reportsAt t c ++ reports (called t c .tables) cs
@@ -64,9 +67,11 @@ pub record Line : Type 0 where
   pub amount : ℕ
   pub settled : ℕ
 
+-- a row of the book as a line
 abbrev pub lineOfRow : Row → Line
 lineOfRow r = record { kind = r .kind; account = r .account; day = r .day; amount = r .amount; settled = r .settled }
 
+-- an entry of the replay as a line
 abbrev pub lineOfEntry : Entry → Line
 lineOfEntry x = record { kind = x .kind; account = x .account; day = x .day; amount = x .amount; settled = x .covered }
 
@@ -116,6 +121,7 @@ pub record Demand3 (b : Book) (start : Replay) (hs : List Report) (xs : List Ent
 unfoldable pub replayStart : Tables → List ℤ → Replay
 replayStart t w = begin (word w firstDayPlace) (scheduleFrom w openingSchedule) (accountsIn t)
 
+-- the claim over any tables and words for which opening gives 0, and any list of calls
 abbrev pub Claim3 : Type 0
 Claim3 =
     (t : Tables) (w : List ℤ) → openCall t w .number ≡ 0 → (cs : List Call) →

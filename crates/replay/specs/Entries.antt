@@ -22,6 +22,7 @@ pub record Entry : Type 0 where
   pub open-days : ℕ
   pub toll : ℕ
 
+-- a new entry: kind, account, day and amount; nothing of it is covered
 abbrev pub newEntry : ℕ → ℕ → ℕ → ℕ → Entry
 newEntry k a d n = record { kind = k; account = a; day = d; amount = n; covered = 0; hold = false; ticks = 0; open-days = 0; toll = 0 }
 
@@ -44,6 +45,7 @@ withToll v x = record { kind = x .kind; account = x .account; day = x .day; amou
 abbrev pub noEntry : Entry
 noEntry = newEntry 0 0 0 0
 
+-- entry n, counted from 1
 abbrev pub entryNo : List Entry → ℕ → Entry
 entryNo xs n = getD (noEntry ∷ xs) n noEntry
 
@@ -52,12 +54,15 @@ entryNo xs n = getD (noEntry ∷ xs) n noEntry
 abbrev pub EntryTest : Type 0
 EntryTest = Entry → Bool
 
+-- payments and credits
 abbrev pub isMoney : EntryTest
 isMoney x = x .kind is Payment || x .kind is Credit
 
+-- tolls, fees, reversals and refunds
 abbrev pub isDebt : EntryTest
 isDebt x = x .kind is Toll || x .kind is Fee || x .kind is Reversal || x .kind is Refund
 
+-- a toll
 abbrev pub isToll : EntryTest
 isToll x = x .kind is Toll
 
@@ -65,9 +70,11 @@ isToll x = x .kind is Toll
 abbrev pub uncovered : Entry → ℕ
 uncovered x = x .amount - x .covered
 
+-- "covered whole"
 abbrev pub coveredWhole : EntryTest
 coveredWhole x = not (ltb (x .covered) (x .amount))
 
+-- the entry, covered whole
 abbrev pub coverWhole : Entry → Entry
 coverWhole x = withCovered (x .amount) x
 
@@ -110,11 +117,13 @@ balanceOf a xs = pos (payments a xs) +ℤ pos (credits a xs) -ℤ pos (tolls a x
 unfoldable pub moneyIn : ℕ → List Entry → ℕ
 moneyIn a xs = payments a xs + credits a xs
 
+-- what is subtracted: tolls, fees, reversals, refunds
 unfoldable pub moneyOut : ℕ → List Entry → ℕ
 moneyOut a xs = tolls a xs + fees a xs + reversals a xs + refunds a xs
 
 -- ---- "settlement among the entries"
 
+-- the unused part of an account's money
 unfoldable pub unusedOf : ℕ → Entry → ℕ
 unusedOf a x = cond (x .account is a && isMoney x) (uncovered x) 0
 
@@ -127,11 +136,13 @@ unfoldable pub cover : (Entry → ℕ) → ℕ → List Entry → List Entry
 cover take n [] = []
 cover take n (x ∷ xs) = withCovered (x .covered + min (take x) n) x ∷ cover take (n - take x) xs
 
+-- settlement of one account: the lesser of its unused money and its wanted debt, spread over each side
 unfoldable pub settleEntries : ℕ → List Entry → List Entry
 settleEntries a xs =
     let n : ℕ = min (sumBy (unusedOf a) xs) (sumBy (wantedBy xs a) xs) in
     cover (wantedBy xs a) n (cover (unusedOf a) n xs)
 
+-- settlement of accounts 1 to n
 unfoldable pub settleAllEntries : ℕ → List Entry → List Entry
 settleAllEntries zero xs = xs
 settleAllEntries (suc n) xs = settleEntries (suc n) (settleAllEntries n xs)

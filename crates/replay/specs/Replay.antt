@@ -17,6 +17,7 @@ pub record Note : Type 0 where
   pub topup : ℕ
   pub request : ℕ
 
+-- nothing noted yet
 abbrev pub noNote : Note
 noNote = record { topup = 0; request = 0 }
 
@@ -27,18 +28,23 @@ pub record Replay : Type 0 where
   pub notes : List Note
   pub entries : List Entry
 
+-- the replay with other entries
 abbrev pub withEntries : List Entry → Replay → Replay
 withEntries xs p = record { day = p .day; schedule = p .schedule; notes = p .notes; entries = xs }
 
+-- the note of account n, counted from 1
 abbrev pub noteNo : List Note → ℕ → Note
 noteNo ns n = getD (noNote ∷ ns) n noNote
 
+-- the note of account n, written
 abbrev pub putNote : ℕ → Note → Replay → Replay
 putNote n x p = record { day = p .day; schedule = p .schedule; notes = set (p .notes) (n - 1) x; entries = p .entries }
 
+-- an entry more
 abbrev pub addEntry : Entry → Replay → Replay
 addEntry x p = withEntries (p .entries ++ (x ∷ [])) p
 
+-- entry n, written
 abbrev pub changeEntry : ℕ → Entry → Replay → Replay
 changeEntry n x p = withEntries (set (p .entries) (n - 1) x) p
 
@@ -46,30 +52,37 @@ changeEntry n x p = withEntries (set (p .entries) (n - 1) x) p
 unfoldable pub settledReplay : Replay → Replay
 settledReplay p = withEntries (settleAllEntries (length (p .notes)) (p .entries)) p
 
+-- what an accepted event does to the replay, before settlement
 abbrev pub Step : Type 0
 Step = Replay → Instruction → Replay
 
 -- ---- "1 notes b, 8 the request day"
 
+-- "1 notes b"
 unfoldable pub noteTopUp : Step
 noteTopUp p e = putNote (e .account) (record { topup = e .b; request = noteNo (p .notes) (e .account) .request }) p
 
+-- "8 the request day"
 unfoldable pub noteRequest : Step
 noteRequest p e = putNote (e .account) (record { topup = noteNo (p .notes) (e .account) .topup; request = p .day }) p
 
 -- ---- "2 adds a toll at its rate, 3 a payment of a, 7 if paid one of the noted b"
 
+-- "2 adds a toll at its rate"
 unfoldable pub addToll : Step
 addToll p e = addEntry (newEntry Toll (e .account) (p .day) (rate (p .schedule .rates) (class (e .c) (e .d)) (e .e))) p
 
+-- "3 a payment of a"
 unfoldable pub addPayment : Step
 addPayment p e = addEntry (newEntry Payment (e .account) (p .day) (e .a)) p
 
+-- "7 if paid one of the noted b"
 unfoldable pub addTopUp : Step
 addTopUp p e = cond (e .b is Yes) (addEntry (newEntry Payment (e .account) (p .day) (noteNo (p .notes) (e .account) .topup)) p) p
 
 -- ---- "4 adds a reversal of the payment's amount, then a fee of charge + 500"
 
+-- "a reversal of the payment's amount, then a fee of charge + 500"
 unfoldable pub addReturn : Step
 addReturn p e =
     addEntry (newEntry Fee (e .account) (p .day) (e .b + returnFee))
@@ -77,6 +90,7 @@ addReturn p e =
 
 -- ---- "5 holds the toll and its fees, 6 frees them"
 
+-- a fee is held with its toll: Entries.onHold
 unfoldable pub setHold : Bool → Step
 setHold v p e = changeEntry (e .a) (withHold v (entryNo (p .entries) (e .a))) p
 
@@ -90,6 +104,7 @@ addCredit p e =
     addEntry (withCovered (tollAndFees (e .a) uncovered (p .entries)) (newEntry Credit (e .account) (p .day) (tollAndFees (e .a) (λ x. x .amount) (p .entries))))
     (withEntries (map (λ x. cond (feeOf (e .a) x) (coverWhole x) x) (set (p .entries) (e .a - 1) (coverWhole (entryNo (p .entries) (e .a))))) p)
 
+-- event 6: frees the toll; an upheld one is credited
 unfoldable pub freeToll : Step
 freeToll p e = cond (e .b is Yes) (addCredit (setHold false p e) e) (setHold false p e)
 
@@ -103,6 +118,7 @@ gains x = isToll x && not (coveredWhole x) && not (x .hold)
 unfoldable pub countTick : Entry → Entry
 countTick x = withHold (not (x .ticks + 1 is holdDays)) (withTicks (x .ticks + 1) x)
 
+-- what a tick counts for an entry: an open day, a tick held, or nothing
 unfoldable pub countDay : Entry → Entry
 countDay x = cond (gains x) (withOpenDays (x .open-days + 1) x) (cond (x .hold) (countTick x) x)
 
@@ -134,10 +150,12 @@ addRefund today xs a x =
 unfoldable pub useMoney : ℕ → List Note → List Entry → Entry → Entry
 useMoney today ns xs y = cond (isMoney y && closing today xs (y .account) (noteNo ns (y .account))) (coverWhole y) y
 
+-- all closings of a tick, judged on the entries before them
 unfoldable pub closeAll : Replay → Replay
 closeAll p =
     withEntries (map (useMoney (p .day) (p .notes) (p .entries)) (p .entries) ++ gather (addRefund (p .day) (p .entries)) (p .notes)) p
 
+-- "9: the day rises; .. settlement; .. adds fee k ..; by number, each requested account .. closes"
 unfoldable pub tickReplay : Step
 tickReplay p e =
     let today : ℕ = p .day + 1 in
@@ -149,6 +167,7 @@ tickReplay p e =
 abbrev pub noStep : Step
 noStep p e = p
 
+-- the nine events by their kind
 unfoldable pub stepOf : ℕ → Step
 stepOf k =
     getD (noStep ∷ noteTopUp ∷ addToll ∷ addPayment ∷ addReturn ∷ setHold true ∷ freeToll ∷ addTopUp ∷ noteRequest ∷ tickReplay ∷ []) k noStep
@@ -162,6 +181,7 @@ pub record Report : Type 0 where
 unfoldable pub replayOne : Replay → Report → Replay
 replayOne p h = cond (h .accepted) (settledReplay (stepOf (h .event .kind) p (h .event))) p
 
+-- reports in order
 unfoldable pub replay : Replay → List Report → Replay
 replay p [] = p
 replay p (h ∷ hs) = replay (replayOne p h) hs

@@ -23,40 +23,51 @@ pub record Book : Type 0 where
   pub rows : List Row
   pub room : ℕ
 
+-- the book with another day
 abbrev pub withDay : ℕ → Book → Book
 withDay d b = record { day = d; schedule = b .schedule; accounts = b .accounts; rows = b .rows; room = b .room }
 
+-- the book with other accounts
 abbrev pub withAccounts : List Account → Book → Book
 withAccounts xs b = record { day = b .day; schedule = b .schedule; accounts = xs; rows = b .rows; room = b .room }
 
+-- the book with other rows
 abbrev pub withRows : List Row → Book → Book
 withRows rs b = record { day = b .day; schedule = b .schedule; accounts = b .accounts; rows = rs; room = b .room }
 
 -- ---- accounts and rows by their numbers, "numbered from 1"; all 0 where there is none
 
+-- account n of a list
 abbrev pub accountNo : List Account → ℕ → Account
 accountNo xs n = getD (unused ∷ xs) n unused
 
+-- account n of the book
 abbrev pub account : Book → ℕ → Account
 account b n = accountNo (b .accounts) n
 
+-- row n of the book
 abbrev pub row : Book → ℕ → Row
 row b n = rowNo (b .rows) n
 
+-- account n, put back
 abbrev pub putAccount : ℕ → Account → Book → Book
 putAccount n x b = withAccounts (set (b .accounts) (n - 1) x) b
 
+-- row n, written
 abbrev pub putRow : ℕ → Row → Book → Book
 putRow n r b = withRows (set (b .rows) (n - 1) r) b
 
+-- a row more
 abbrev pub addRow : Row → Book → Book
 addRow r b = withRows (b .rows ++ (r ∷ [])) b
 
 -- ---- balance
 
+-- "sum of sources" of an account
 unfoldable pub sources : List Row → ℕ → ℕ
 sources rows a = sumBy (only (sourceOf a) (λ r. r .amount)) rows
 
+-- "sum of debits" of an account, held or not
 unfoldable pub debits : List Row → ℕ → ℕ
 debits rows a = sumBy (only (debitOf a) (λ r. r .amount)) rows
 
@@ -80,5 +91,6 @@ topUpDue b a = account b a .state is Open && ltb 0 (account b a .topup) && not (
 
 -- ---- "Settlement ends every accepted event: per account"
 
+-- the book after settlement of every account
 unfoldable pub settled : Book → Book
 settled b = withRows (settleAccounts (length (b .accounts)) (b .rows)) b

@@ -36,6 +36,7 @@ openRefusals t w =
     ∷ (2, not (length w is Layout.openingWidth && dayFits (word w Layout.firstDayPlace) && scheduleFits (scheduleFrom w Layout.openingSchedule)))
     ∷ []
 
+-- the book that opening makes: first day and schedule from its words, sizes from the tables
 unfoldable pub openedBook : Tables → List ℤ → Book
 openedBook t w = opening (word w Layout.firstDayPlace) (scheduleFrom w Layout.openingSchedule) (accountsIn t) (roomIn t)
 
@@ -55,6 +56,7 @@ eventRefusals t e answers = (1, not (soundTables t)) ∷ (2, not (length e is La
 unfoldable pub answered : Answer → List ℤ → List ℤ
 answered a answers = cond (leb Layout.answerWidth (length answers)) (written (a ∷ []) answers) answers
 
+-- 1 before 2 before the refusals of the table; the tables change only where the answer is 0
 unfoldable pub eventCall : Tables → List ℤ → List ℤ → Called
 eventCall t e answers =
     let n : ℕ = first (eventRefusals t e answers) in
@@ -67,6 +69,7 @@ eventCall t e answers =
 unfoldable pub batchRefusals : Tables → List Event → List ℤ → Cases
 batchRefusals t es answers = (1, not (soundTables t)) ∷ (2, ltb mostEvents (length es) || ltb (length answers) (length es * Layout.answerWidth)) ∷ []
 
+-- "it goes on after a refusal"; "a refused batch .. writes nothing"
 unfoldable pub batchCall : Tables → List Event → List ℤ → Called
 batchCall t es answers =
     let n : ℕ = first (batchRefusals t es answers) in
@@ -81,17 +84,21 @@ pub record Reply : Type 0 where
   pub number : ℕ
   pub value : ℤ
 
+-- "refuse by 1 and 3": 3 for an account that is unused or outside the table
 unfoldable pub questionRefusals : Tables → ℕ → Cases
 questionRefusals t n = (1, not (soundTables t)) ∷ (3, account (bookOf t) n .state is Unused) ∷ []
 
+-- a refused question has value 0
 unfoldable pub question : (Book → ℕ → ℤ) → Tables → ℤ → Reply
 question f t a =
     let n : ℕ = first (questionRefusals t (natOf a)) in
     record { number = n; value = cond (n is 0) (f (bookOf t) (natOf a)) (pos 0) }
 
+-- "Balance": the signed balance
 unfoldable pub balanceCall : Tables → ℤ → Reply
 balanceCall t a = question balance t a
 
+-- "top-up due (1 yes, 0 no)"
 unfoldable pub topUpDueCall : Tables → ℤ → Reply
 topUpDueCall t a = question (λ b n. pos (cond (topUpDue b n) 1 0)) t a
 

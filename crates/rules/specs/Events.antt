@@ -12,31 +12,37 @@ use Rattle.rules.specs.Schedule.{Schedule, class, rate}
 use Rattle.rules.specs.Rows.{Row, Toll, Fee, Reversal, Payment, Credit, Held, newRow, withSettled, withMark, withDue, withDispute, withHold, withReference, remaining, settleWhole, feeNaming}
 use Rattle.rules.specs.Book.{Book, Instruction, withRows, account, row, putAccount, putRow, addRow}
 
+-- what an accepted event makes of the book, settlement apart
 abbrev pub Change : Type 0
 Change = Book → Instruction → Book
 
 -- ---- 1. "Open: a threshold, b top-up amount"
 
+-- the account is put back as opened
 unfoldable pub openAccount : Change
 openAccount b e = putAccount (e .account) (opened (e .a) (e .b)) b
 
 -- ---- 2. "Toll: a passage number, .. c axles, d height, e mode. Row: rate, stage 0, due today + L"
 
+-- the rate by class and mode
 unfoldable pub tollRate : Schedule → Instruction → ℕ
 tollRate s e = rate (s .rates) (class (e .c) (e .d)) (e .e)
 
+-- "Row: rate, stage 0, due today + L", its reference the passage number
 unfoldable pub postToll : Change
 postToll b e =
     addRow (withReference (e .a) (withDue (b .day + b .schedule .stage) (newRow Toll (e .account) (b .day) (tollRate (b .schedule) e)))) b
 
 -- ---- 3. "Payment: a amount, b method"
 
+-- the mark is the method
 unfoldable pub postPayment : Change
 postPayment b e = addRow (withMark (e .b) (newRow Payment (e .account) (b .day) (e .a))) b
 
 -- ---- 4. "Returned check: a payment row, b bank charge. Adds a reversal of the amount, then a fee of charge + 500; mark becomes 4,
 -- the count rises; a closed account becomes pending with its old request day"
 
+-- the reversal and the fee name the payment row
 unfoldable pub returnCheck : Change
 returnCheck b e =
     addRow (withReference (e .a) (newRow Fee (e .account) (b .day) (e .b + returnFee)))
@@ -46,9 +52,11 @@ returnCheck b e =
 
 -- ---- 5. "Dispute: a toll row. Hold starts today"
 
+-- dispute 1, hold start today
 unfoldable pub holdFrom : ℕ → Row → Row
 holdFrom today r = withHold today (withDispute Held r)
 
+-- the toll row is written held
 unfoldable pub holdToll : Change
 holdToll b e = putRow (e .a) (holdFrom (b .day) (row b (e .a))) b
 
@@ -58,6 +66,7 @@ holdToll b e = putRow (e .a) (holdFrom (b .day) (row b (e .a))) b
 unfoldable pub release : ℕ → Row → Row
 release today r = withHold 0 (withDispute Ended (withDue (r .due + (today - r .hold)) r))
 
+-- verdict 0
 unfoldable pub reject : Change
 reject b e = putRow (e .a) (release (b .day) (row b (e .a))) b
 
@@ -72,6 +81,7 @@ uphold b e =
     (withRows (map (λ r. cond (feeNaming (e .a) r) (settleWhole r) r)
     (set (b .rows) (e .a - 1) (settleWhole (withHold 0 (withDispute Upheld (row b (e .a))))))) b)
 
+-- "b verdict": 1 upholds, 0 rejects
 unfoldable pub decide : Change
 decide b e = cond (e .b is Yes) (uphold b e) (reject b e)
 
@@ -83,13 +93,16 @@ payTopUp b e =
     addRow (withMark Card (newRow Payment (e .account) (b .day) (account b (e .account) .topup)))
     (putAccount (e .account) (topUpPaid (account b (e .account))) b)
 
+-- "Declined: count up, last decline today; the third clears all four words"
 unfoldable pub declineTopUp : Change
 declineTopUp b e = putAccount (e .account) (declinedOn (b .day) (account b (e .account))) b
 
+-- "b 1 paid, 0 declined"
 unfoldable pub topUpResult : Change
 topUpResult b e = cond (e .b is Yes) (payTopUp b e) (declineTopUp b e)
 
 -- ---- 8. "Close request: pending from today"
 
+-- the account is put back as pending
 unfoldable pub requestClose : Change
 requestClose b e = putAccount (e .account) (closeRequestedOn (b .day) (account b (e .account))) b

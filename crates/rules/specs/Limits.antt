@@ -53,6 +53,7 @@ highestPassage = 1_000_000_000
 abbrev pub mostAxles : ℕ
 mostAxles = 99
 
+-- "d height 0 to 999 inches"
 abbrev pub highestHeight : ℕ
 highestHeight = 999
 
@@ -60,6 +61,7 @@ highestHeight = 999
 abbrev pub highestCharge : ℕ
 highestCharge = 99_500
 
+-- "a fee of charge + 500"
 abbrev pub returnFee : ℕ
 returnFee = 500
 

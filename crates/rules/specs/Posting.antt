@@ -15,9 +15,11 @@ use Rattle.rules.specs.Refusals.{Refusal, answerNumber, after}
 unfoldable pub removesTopUp : Refusal
 removesTopUp b e = e .kind is 7 && e .b is 0 && lastDecline (account b (e .account))
 
+-- "new rows": how many rows the event adds
 unfoldable pub newRows : Book → Instruction → ℕ
 newRows b e = length (after b e .rows) - length (b .rows)
 
+-- the answer of an accepted event
 unfoldable pub acceptance : Book → Instruction → Answer
 acceptance b e = record {
   number = 0;
@@ -37,6 +39,7 @@ pub record Posted : Type 0 where
   pub answer : Answer
   pub book : Book
 
+-- refused by the first refusal that applies, else accepted
 unfoldable pub post : Book → Instruction → Posted
 post b e =
     cond (answerNumber b e is 0)
@@ -45,10 +48,12 @@ post b e =
 
 -- ---- events in order: "it goes on after a refusal"
 
+-- the book after a list of events
 unfoldable pub bookAfter : Book → List Instruction → Book
 bookAfter b [] = b
 bookAfter b (e ∷ es) = bookAfter (post b e .book) es
 
+-- their answers, in order
 unfoldable pub answersTo : Book → List Instruction → List Answer
 answersTo b [] = []
 answersTo b (e ∷ es) = post b e .answer ∷ answersTo (post b e .book) es

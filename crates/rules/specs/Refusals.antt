@@ -16,9 +16,11 @@ use Rattle.rules.specs.Tick.{tick}
 
 -- ---- the nine events by their kind, each ended by settlement
 
+-- a kind that is none of the nine
 abbrev pub noChange : Change
 noChange b e = b
 
+-- events 1 to 9; no other kind changes anything
 unfoldable pub changeOf : ℕ → Change
 changeOf k =
     getD (noChange ∷ openAccount ∷ postToll ∷ postPayment ∷ returnCheck ∷ holdToll ∷ decide ∷ topUpResult ∷ requestClose ∷ tick ∷ []) k noChange
@@ -29,18 +31,23 @@ after b e = settled (changeOf (e .kind) b e)
 
 -- ---- 2 "malformed: kind, range, length .. wrong"; "words not named are 0, else the event is malformed"
 
+-- a test of an event's words
 abbrev pub Form : Type 0
 Form = Instruction → Bool
 
+-- c, d and e are not named
 abbrev pub zeroFrom-c : Form
 zeroFrom-c e = e .c is 0 && e .d is 0 && e .e is 0
 
+-- b to e are not named
 abbrev pub zeroFrom-b : Form
 zeroFrom-b e = e .b is 0 && zeroFrom-c e
 
+-- a to e are not named
 abbrev pub zeroFrom-a : Form
 zeroFrom-a e = e .a is 0 && zeroFrom-b e
 
+-- a kind that is none of the nine is malformed
 abbrev pub noForm : Form
 noForm e = false
 
@@ -82,21 +89,26 @@ requestForm e = zeroFrom-a e
 unfoldable pub tickForm : Form
 tickForm e = e .account is 0 && zeroFrom-a e
 
+-- the form of each kind
 unfoldable pub formOf : ℕ → Form
 formOf k =
     getD (noForm ∷ openForm ∷ tollForm ∷ paymentForm ∷ returnForm ∷ disputeForm ∷ decisionForm ∷ resultForm ∷ requestForm ∷ tickForm ∷ []) k noForm
 
+-- the words are those of the event's kind
 unfoldable pub wellFormed : Form
 wellFormed e = formOf (e .kind) e
 
 -- ---- 3 to 14
 
+-- a test of an event on a book
 abbrev pub Refusal : Type 0
 Refusal = Book → Instruction → Bool
 
+-- "from 1 to the table's count"
 abbrev pub inTable : Refusal
 inTable b e = e .account from 1 to length (b .accounts)
 
+-- the state of the account that the event names
 abbrev pub stateOf : Book → Instruction → ℕ
 stateOf b e = account b (e .account) .state
 
@@ -175,5 +187,6 @@ refusals b e =
     ∷ (14, ceiling b e)
     ∷ []
 
+-- 0 where no refusal applies
 unfoldable pub answerNumber : Book → Instruction → ℕ
 answerNumber b e = first (refusals b e)

@@ -9,6 +9,7 @@ pub use Rattle.records.specs.Codes.{Toll, Fee, Reversal, Payment, Credit, Refun
 pub use Rattle.records.specs.Updates.{blank, newRow, withSettled, withMark, withDue, withDispute, withHold, withReference}
 use Rattle.lists.specs.Tests.{_is_}
 
+-- a test of a row
 abbrev pub Test : Type 0
 Test = Row → Bool
 
@@ -26,6 +27,7 @@ remaining r = r .amount - r .settled
 abbrev pub settleMore : Row → ℕ → Row
 settleMore r n = withSettled (r .settled + n) r
 
+-- the row settled whole
 abbrev pub settleWhole : Row → Row
 settleWhole r = withSettled (r .amount) r
 
@@ -35,12 +37,15 @@ settleWhole r = withSettled (r .amount) r
 abbrev pub debit : Test
 debit r = r .kind is Toll || r .kind is Fee || r .kind is Reversal || r .kind is Refund
 
+-- "4 and 5 sources"
 abbrev pub source : Test
 source r = r .kind is Payment || r .kind is Credit
 
+-- a row of kind 1
 abbrev pub toll : Test
 toll r = r .kind is Toll
 
+-- less than its amount is settled; of a source: unused
 abbrev pub unsettled : Test
 unsettled r = ltb (r .settled) (r .amount)
 
@@ -58,9 +63,11 @@ feeNaming n r = r .kind is Fee && r .reference is n
 
 -- ---- rows of one account
 
+-- a source of account a
 unfoldable pub sourceOf : ℕ → Test
 sourceOf a r = r .account is a && source r
 
+-- a debit of account a, held or not
 unfoldable pub debitOf : ℕ → Test
 debitOf a r = r .account is a && debit r
 

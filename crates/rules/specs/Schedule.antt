@@ -50,11 +50,13 @@ stageFee s k = getD (0 ∷ 0 ∷ s .fee2 ∷ s .fee3 ∷ s .fee4 ∷ []) k 0
 
 -- ---- ranges: "L (1 to 365), fees (0 to 100,000 each), six rates (1 to 1,000,000)"
 
+-- "six rates (1 to 1,000,000)"
 unfoldable pub ratesFit : Rates → Bool
 ratesFit r =
     r .tag1 from 1 to highestRate && r .plate1 from 1 to highestRate && r .tag2 from 1 to highestRate
     && r .plate2 from 1 to highestRate && r .tag3 from 1 to highestRate && r .plate3 from 1 to highestRate
 
+-- "stage length L (1 to 365), fees for stages 2, 3, 4 (0 to 100,000 each)"
 unfoldable pub scheduleFits : Schedule → Bool
 scheduleFits s =
     s .stage from 1 to longestStage && leb (s .fee2) highestFee && leb (s .fee3) highestFee && leb (s .fee4) highestFee

@@ -26,6 +26,7 @@ moved a rows = min (money a rows) (debt a rows)
 unfoldable pub pay : ℕ → ℕ → List Row → List Row
 pay a n rows = allocate (payable rows a) n (allocate (sourceOf a) n rows)
 
+-- settlement of one account
 unfoldable pub settle : ℕ → List Row → List Row
 settle a rows = pay a (moved a rows) rows
 
@@ -40,8 +41,10 @@ settleAccounts (suc n) rows = settle (suc n) (settleAccounts n rows)
 unfoldable pub used : ℕ → List Row → ℕ
 used a rows = sumBy (only (sourceOf a) (λ r. r .settled)) rows
 
+-- "settled debits": what is settled of its debits
 unfoldable pub paid : ℕ → List Row → ℕ
 paid a rows = sumBy (only (debitOf a) (λ r. r .settled)) rows
 
+-- what is unsettled of its debits, held or not
 unfoldable pub owed : ℕ → List Row → ℕ
 owed a rows = sumBy (only (debitOf a) remaining) rows

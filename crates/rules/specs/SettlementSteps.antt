@@ -22,9 +22,11 @@ settleFirst t n (r ∷ rs) = cond (only t remaining r is 0) (r ∷ settleFirst t
 unfoldable pub firstPayment : ℕ → List Row → ℕ
 firstPayment a rows = min (firstRemaining (sourceOf a) rows) (firstRemaining (payable rows a) rows)
 
+-- one payment: both rows have that much more settled
 unfoldable pub payFirst : ℕ → List Row → List Row
 payFirst a rows = settleFirst (payable rows a) (firstPayment a rows) (settleFirst (sourceOf a) (firstPayment a rows) rows)
 
+-- k payments, one after the other
 unfoldable pub payTimes : ℕ → ℕ → List Row → List Row
 payTimes zero a rows = rows
 payTimes (suc k) a rows = payTimes k a (payFirst a rows)

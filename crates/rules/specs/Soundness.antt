@@ -92,6 +92,7 @@ referenceFits rows n r =
 unfoldable pub passage : ℕ → Test
 passage p r = toll r && r .reference is p
 
+-- "passage numbers differ": a toll's stands once in the journal
 unfoldable pub passageOnce : List Row → Test
 passageOnce rows r = toll r implies count (passage (r .reference)) rows is 1
 
@@ -99,6 +100,7 @@ passageOnce rows r = toll r implies count (passage (r .reference)) rows is 1
 unfoldable pub feesFit : List Row → ℕ → Test
 feesFit rows n r = toll r implies leb (count (feeNaming n) rows) (r .mark - 1)
 
+-- every clause about row number n
 unfoldable pub rowSound : Book → ℕ → Row → Bool
 rowSound b n r = allOf
     (kindFits r ∷ amountFits r ∷ settledFits r ∷ markFits r ∷ tollWordsFit r ∷ noReference r
@@ -107,6 +109,7 @@ rowSound b n r = allOf
 
 -- ---- an account by itself
 
+-- a test of an account
 abbrev pub AccountTest : Type 0
 AccountTest = Account → Bool
 
@@ -141,6 +144,7 @@ declineFits today x = leb (x .declined) today
 unfoldable pub returnedOf : ℕ → Test
 returnedOf n r = r .account is n && r .kind is Payment && r .mark is CheckReturned
 
+-- "returned checks = its payments with mark 4"
 unfoldable pub returnedFits : List Row → ℕ → AccountTest
 returnedFits rows n x = x .returned is count (returnedOf n) rows
 
@@ -156,6 +160,7 @@ spent rows n = money n rows is 0 || debt n rows is 0
 unfoldable pub closedClear : List Row → ℕ → AccountTest
 closedClear rows n x = x .state is Closed implies money n rows is 0 && owed n rows is 0
 
+-- every clause about account number n
 unfoldable pub accountSound : Book → ℕ → Account → Bool
 accountSound b n x = allOf
     (stateFits x ∷ unusedZero x ∷ requestFits (b .day) x ∷ topUpFits x ∷ declineFits (b .day) x
@@ -163,6 +168,7 @@ accountSound b n x = allOf
 
 -- ---- the book
 
+-- every clause about the book
 unfoldable pub sound : Book → Bool
 sound b = allOf
     (dayFits (b .day) ∷ scheduleFits (b .schedule) ∷ sizesFit (length (b .accounts)) (b .room) ∷ leb (length (b .rows)) (b .room)

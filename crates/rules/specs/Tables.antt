@@ -24,9 +24,11 @@ pub record Tables : Type 0 where
 abbrev pub accountsIn : Tables → ℕ
 accountsIn t = length (t .accounts) / Layout.accountWidth
 
+-- how many rows the third table has room for
 abbrev pub roomIn : Tables → ℕ
 roomIn t = length (t .journal) / Layout.rowWidth
 
+-- "rows used", as the header says
 abbrev pub rowsUsed : Tables → ℕ
 rowsUsed t = word (t .header) Layout.usedPlace
 
@@ -61,14 +63,17 @@ bookOf t = record {
 
 -- ---- writing
 
+-- "stage length L, fees for stages 2, 3, 4, six rates"
 unfoldable pub scheduleWords : Schedule → List ℤ
 scheduleWords s = map pos
     (s .stage ∷ s .fee2 ∷ s .fee3 ∷ s .fee4
     ∷ s .rates .tag1 ∷ s .rates .plate1 ∷ s .rates .tag2 ∷ s .rates .plate2 ∷ s .rates .tag3 ∷ s .rates .plate3 ∷ [])
 
+-- "Header, 12 words: day, rows used", then the schedule
 unfoldable pub headerWords : Book → List ℤ
 headerWords b = pos (b .day) ∷ pos (length (b .rows)) ∷ scheduleWords (b .schedule)
 
+-- the tables of a book: the rows past the used ones are all 0
 unfoldable pub tablesOf : Book → Tables
 tablesOf b = record {
   header = headerWords b;
@@ -91,6 +96,7 @@ lengthsFit t = wholeRecords t && sizesFit (accountsIn t) (roomIn t)
 unfoldable pub usedFits : Tables → Bool
 usedFits t = leb (rowsUsed t) (roomIn t)
 
+-- the word is 0
 unfoldable pub zeroWord : ℕ → ℤ → Bool
 zeroWord i w = natOf w is 0
 
@@ -98,5 +104,6 @@ zeroWord i w = natOf w is 0
 unfoldable pub laterRowsZero : Tables → Bool
 laterRowsZero t = every zeroWord (drop (rowsUsed t * Layout.rowWidth) (t .journal))
 
+-- the whole paragraph, on any tables
 unfoldable pub soundTables : Tables → Bool
 soundTables t = allOf (lengthsFit t ∷ usedFits t ∷ laterRowsZero t ∷ sound (bookOf t) ∷ [])
