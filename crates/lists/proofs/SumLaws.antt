@@ -42,6 +42,19 @@ module _ {A : Type 0} where
   sumBy-take-suc f (x ∷ xs) zero d h = omega arith
   sumBy-take-suc f (x ∷ xs) (suc i) d h = omega (arith, sumBy-take-suc f xs i d (le-of-suc-le-suc h))
 
+  -- elements without a share add nothing
+  pub sumBy-take-skip : (f : A → ℕ) (xs : List A) (d : A) (j n : ℕ) → j + n ≤ length xs → ((i : ℕ) → j ≤ i → i < j + n → f (getD xs i d) ≡ 0)
+      → sumBy f (take (j + n) xs) ≡ sumBy f (take j xs)
+  sumBy-take-skip f xs d j zero h z = let e : j + 0 ≡ j = omega arith in rw e
+  sumBy-take-skip f xs d j (suc n) h z =
+      let e : j + suc n ≡ suc (j + n) = omega arith in
+      rw e (omega (
+        arith,
+        sumBy-take-suc f xs (j + n) d (omega arith),
+        z (j + n) (omega arith) (omega arith),
+        sumBy-take-skip f xs d j n (omega arith) (λ i l q. z i l (omega arith)),
+      ))
+
   -- no element's share passes the sum
   pub sumBy-at-le : (f : A → ℕ) (xs : List A) (i : ℕ) (d : A) → i < length xs → f (getD xs i d) ≤ sumBy f xs
   unfolding sumBy

@@ -1,0 +1,3 @@
+pub mod RowTestLaws
+pub mod PayingLaws
+pub mod WalkLaws

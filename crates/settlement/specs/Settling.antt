@@ -1,0 +1,29 @@
+-- What the settlement of an account leaves of the journal.
+use Prim.Native.Nat.{ℕ, _+_, _*_, _^_, _≤_, _<_}
+use mathlib.Core.Path.{_≡_}
+use mathlib.Core.List.{List}
+use lib.IntN.{ℤ}
+use lib.ListN.{length}
+use Rattle.records.specs.Layout.{rowWidth}
+use Rattle.records.specs.Encoding.{rowAt, rowsOf}
+use Rattle.lists.specs.Lists.{only}
+use Rattle.rules.specs.Rows.{remaining, payable}
+use Rattle.rules.specs.Settlement.{settle}
+
+-- a journal with room for the used rows, whose amounts a signed word holds
+pub record Journal (t : List ℤ) (used : ℕ) : Type 0 where
+  pub room : used * rowWidth ≤ length t
+  pub amounts : (k : ℕ) → k < used → rowAt t k .amount < 2 ^ 63
+
+-- k is the first row from j on that wants something of the account's, or the end
+pub record NextDebit (t : List ℤ) (used a j k : ℕ) : Type 0 where
+  pub after : j ≤ k
+  pub within : k ≤ used
+  pub passed : (i : ℕ) → j ≤ i → i < k → only (payable (rowsOf t used) a) remaining (rowAt t i) ≡ 0
+  pub wants : k < used → 0 < only (payable (rowsOf t used) a) remaining (rowAt t k)
+
+-- the used rows are those after settlement; the others are as before
+pub record Settled (t u : List ℤ) (used a : ℕ) : Type 0 where
+  pub size : length u ≡ length t
+  pub rows : rowsOf u used ≡ settle a (rowsOf t used)
+  pub rest : (k : ℕ) → used ≤ k → rowAt u k ≡ rowAt t k

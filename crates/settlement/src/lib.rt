@@ -1,0 +1,139 @@
+// The settlement of one account over the journal: unused sources in row order pay unsettled unheld debits in row order, until either
+// side is spent. Uses lists, records, rules and tables.
+use records::Row;
+use tables::rows::put_settled;
+use tables::rows::read_row;
+use tables::rows::row_numbered;
+ghost use mathlib.Core.Path.{_≡_};
+ghost use Prim.Native.Nat.{_+_, _*_, _^_, _≤_, _<_, min};
+ghost use lib.ListN.{length};
+ghost use Rattle.records.specs.Layout.{rowWidth};
+ghost use Rattle.records.specs.Encoding.{rowAt, rowsOf};
+ghost use Rattle.lists.specs.Lists.{only};
+ghost use Rattle.rules.specs.Rows.{remaining, settleMore, source, debit, heldToll, held, sourceOf, payable};
+ghost use Rattle.tables.specs.Changes.{RowIn, RowChanged};
+ghost use Rattle.settlement.specs.Settling.{Journal, NextDebit, Settled};
+
+// What remains of a row: 0 where more is settled than its amount, which no sound book has.
+fn remaining_of(r: Row) -> u64
+    ensures { λ n. ⌜ n ≡ remaining r ⌝ }
+{
+    if r.amount <= r.settled {
+        0
+    } else {
+        r.amount - r.settled
+    }
+}
+
+fn is_source(r: Row) -> bool
+    ensures { λ b. ⌜ b ≡ source r ⌝ }
+{
+    (r.kind == 4) | (r.kind == 5)
+}
+
+fn is_debit(r: Row) -> bool
+    ensures { λ b. ⌜ b ≡ debit r ⌝ }
+{
+    (r.kind == 1) | (r.kind == 2) | (r.kind == 3) | (r.kind == 6)
+}
+
+// What the row has as a source of the account.
+fn unused(r: Row, account: u64) -> u64
+    ensures { λ n. ⌜ n ≡ only (sourceOf account) remaining r ⌝ }
+{
+    if r.account != account {
+        return 0;
+    }
+    if is_source(r) {
+        return remaining_of(r);
+    }
+    0
+}
+
+// A toll in dispute.
+fn held_toll(r: Row) -> bool
+    ensures { λ b. ⌜ b ≡ heldToll r ⌝ }
+{
+    (r.kind == 1) & (r.dispute == 1)
+}
+
+// A toll in dispute, or a fee whose toll is: a fee is held while its toll is held.
+fn is_held(journal: &[i64], used: usize, r: Row) -> bool
+    requires { ⌜ used * rowWidth ≤ length (now journal) ⌝ }
+    ensures { λ b. ⌜ b ≡ held (rowsOf (now (journal .entry)) used) r ⌝ }
+{
+    if r.kind == 2 {
+        return held_toll(row_numbered(journal, used, r.reference));
+    }
+    held_toll(r)
+}
+
+// What the row wants as a debit of the account that is not held.
+fn wanted(journal: &[i64], used: usize, r: Row, account: u64) -> u64
+    requires { ⌜ used * rowWidth ≤ length (now journal) ⌝ }
+    ensures { λ n. ⌜ n ≡ only (payable (rowsOf (now (journal .entry)) used) account) remaining r ⌝ }
+{
+    if r.account != account {
+        return 0;
+    }
+    if is_debit(r) {
+        if is_held(journal, used, r) {
+            return 0;
+        }
+        return remaining_of(r);
+    }
+    0
+}
+
+// The first row from j on that wants something, or the end of the used rows.
+fn next_debit(journal: &[i64], used: usize, j: usize, account: u64) -> usize
+    requires { ⌜ (used * rowWidth ≤ length (now journal)) × (j ≤ used) ⌝ }
+    ensures { λ k. ⌜ NextDebit (now (journal .entry)) used account j k ⌝ }
+{
+    let mut k = j;
+    while k < used {
+        if 0 < wanted(journal, used, read_row(journal, k), account) {
+            return k;
+        }
+        k += 1;
+    }
+    k
+}
+
+fn lesser(x: u64, y: u64) -> u64
+    ensures { λ m. ⌜ m ≡ min x y ⌝ }
+{
+    if x < y { x } else { y }
+}
+
+// Row i has m more settled.
+fn add_settled(journal: &mut [i64], i: usize, m: u64)
+    requires { ⌜ RowIn (now journal) i × (rowAt (now journal) i .settled + m < 2 ^ 63) ⌝ }
+    ensures { λ _. ⌜ RowChanged (now (journal .entry)) (now (journal .exit)) i (settleMore (rowAt (now (journal .entry)) i) m) ⌝ }
+{
+    let r = read_row(journal, i);
+    put_settled(journal, i, r.settled + m);
+}
+
+// Settles the account among the used rows. Sources and debits are each passed over once.
+pub fn settle(journal: &mut [i64], used: usize, account: u64)
+    requires { ⌜ Journal (now journal) used ⌝ }
+    ensures { λ _. ⌜ Settled (now (journal .entry)) (now (journal .exit)) used account ⌝ }
+{
+    let mut i = 0;
+    let mut j = 0;
+    'sources: while i < used {
+        let mut x = unused(read_row(journal, i), account);
+        while 0 < x {
+            j = next_debit(journal, used, j, account);
+            if used <= j {
+                break 'sources;
+            }
+            let m = lesser(x, wanted(journal, used, read_row(journal, j), account));
+            add_settled(journal, i, m);
+            add_settled(journal, j, m);
+            x = x - m;
+        }
+        i += 1;
+    }
+}
