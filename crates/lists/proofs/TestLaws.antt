@@ -1,11 +1,11 @@
 -- Laws of tests, of conjunctions and of tables of cases.
 use mathlib.Core.Path.{_≡_, refl}
-use mathlib.Core.Bool.{Bool, true, false, cond, _&&_, false≢true}
+use mathlib.Core.Bool.{Bool, true, false, not, cond, _&&_, _||_, false≢true}
 use Prim.Native.Nat.{ℕ, zero, suc, _<_}
 use native.Mathlib.Omega.{arith}
 use mathlib.Core.List.{List, [], _∷_}
 use lib.ListN.{length, getD}
-use Rattle.lists.specs.Tests.{allOf, Cases, first}
+use Rattle.lists.specs.Tests.{_implies_, allOf, Cases, first}
 
 -- ---- _&&_
 
@@ -19,6 +19,12 @@ and-right false b e = absurd (false≢true e)
 
 pub and-both : (a b : Bool) → a ≡ true → b ≡ true → a && b ≡ true
 and-both a b p q = rw p q
+
+-- ---- _implies_
+
+pub or-implies : (a b : Bool) → not a || b ≡ (a implies b)
+or-implies true b = refl
+or-implies false b = refl
 
 -- ---- allOf
 

@@ -1,41 +1,21 @@
 // The settlement of one account over the journal: unused sources in row order pay unsettled unheld debits in row order, until either
 // side is spent. Uses lists, records, rules and tables.
 use records::Row;
+use tables::row_tests::is_debit;
+use tables::row_tests::is_held;
+use tables::row_tests::is_source;
+use tables::row_tests::remaining_of;
 use tables::rows::put_settled;
 use tables::rows::read_row;
-use tables::rows::row_numbered;
 ghost use mathlib.Core.Path.{_≡_};
 ghost use Prim.Native.Nat.{_+_, _*_, _^_, _≤_, _<_, min};
 ghost use lib.ListN.{length};
 ghost use Rattle.records.specs.Layout.{rowWidth};
 ghost use Rattle.records.specs.Encoding.{rowAt, rowsOf};
 ghost use Rattle.lists.specs.Lists.{only};
-ghost use Rattle.rules.specs.Rows.{remaining, settleMore, source, debit, heldToll, held, sourceOf, payable};
+ghost use Rattle.rules.specs.Rows.{remaining, settleMore, sourceOf, payable};
 ghost use Rattle.tables.specs.Changes.{RowIn, RowChanged};
 ghost use Rattle.settlement.specs.Settling.{Journal, NextDebit, Settled};
-
-// What remains of a row: 0 where more is settled than its amount, which no sound book has.
-fn remaining_of(r: Row) -> u64
-    ensures { λ n. ⌜ n ≡ remaining r ⌝ }
-{
-    if r.amount <= r.settled {
-        0
-    } else {
-        r.amount - r.settled
-    }
-}
-
-fn is_source(r: Row) -> bool
-    ensures { λ b. ⌜ b ≡ source r ⌝ }
-{
-    (r.kind == 4) | (r.kind == 5)
-}
-
-fn is_debit(r: Row) -> bool
-    ensures { λ b. ⌜ b ≡ debit r ⌝ }
-{
-    (r.kind == 1) | (r.kind == 2) | (r.kind == 3) | (r.kind == 6)
-}
 
 // What the row has as a source of the account.
 fn unused(r: Row, account: u64) -> u64
@@ -48,24 +28,6 @@ fn unused(r: Row, account: u64) -> u64
         return remaining_of(r);
     }
     0
-}
-
-// A toll in dispute.
-fn held_toll(r: Row) -> bool
-    ensures { λ b. ⌜ b ≡ heldToll r ⌝ }
-{
-    (r.kind == 1) & (r.dispute == 1)
-}
-
-// A toll in dispute, or a fee whose toll is: a fee is held while its toll is held.
-fn is_held(journal: &[i64], used: usize, r: Row) -> bool
-    requires { ⌜ used * rowWidth ≤ length (now journal) ⌝ }
-    ensures { λ b. ⌜ b ≡ held (rowsOf (now (journal .entry)) used) r ⌝ }
-{
-    if r.kind == 2 {
-        return held_toll(row_numbered(journal, used, r.reference));
-    }
-    held_toll(r)
 }
 
 // What the row wants as a debit of the account that is not held.

@@ -1,10 +1,10 @@
--- `settlement::is_held` meets its contract.
+-- `row_tests::is_held` meets its contract.
 use borrow.Author.Needs.{needs}
 use mathlib.Core.Path.{_∙_, ap}
 use Rattle.rules.specs.Rows.{Row, heldToll}
-use Rattle.settlement.proofs.RowTestLaws.{held-fee, held-other}
-use Rattle.settlement.proofs.is_held.Statement.{statement}
-use Rattle.settlement.proofs.is_held.Tie as tie
+use Rattle.tables.proofs.RowTestLaws.{held-fee, held-other}
+use Rattle.tables.proofs.row_tests.is_held.Statement.{statement}
+use Rattle.tables.proofs.row_tests.is_held.Tie as tie
 
 row-numbered-requires : tie.Need-row-numbered-requires
 row-numbered-requires c κs = search needs
