@@ -70,6 +70,18 @@ module _ {A : Type 0} where
   sumBy-zero f [] e = refl
   sumBy-zero f (x ∷ xs) e = omega (arith, e x, sumBy-zero f xs e)
 
+  -- the sums of two lists, the second longer, whose elements have the same share, the longer part having none
+  pub sumBy-longer : (f g : A → ℕ) (d : A) (xs ys : List A) → length xs ≤ length ys
+      → ((i : ℕ) → i < length xs → f (getD xs i d) ≡ g (getD ys i d)) → ((i : ℕ) → length xs ≤ i → i < length ys → g (getD ys i d) ≡ 0)
+      → sumBy f xs ≡ sumBy g ys
+  unfolding sumBy
+  sumBy-longer f g d [] [] l e z = refl
+  sumBy-longer f g d [] (y ∷ ys) l e z =
+      omega (arith, z 0 (omega arith) (omega arith), sumBy-longer f g d [] ys (omega arith) (λ i h. absurd (omega arith)) (λ i h q. z (suc i) (omega arith) (omega arith)))
+  sumBy-longer f g d (x ∷ xs) [] l e z = absurd (omega arith)
+  sumBy-longer f g d (x ∷ xs) (y ∷ ys) l e z =
+      omega (arith, e 0 (omega arith), sumBy-longer f g d xs ys (omega arith) (λ i h. e (suc i) (omega arith)) (λ i h q. z (suc i) (omega arith) (omega arith)))
+
 -- no more elements pass than there are
 pub count-le : {A : Type 0} (t : A → Bool) (xs : List A) → count t xs ≤ length xs
 unfolding count sumBy

@@ -1,0 +1,3 @@
+pub mod CarriedLaws
+pub mod SettledLaws
+pub mod Accepted
