@@ -5,3 +5,4 @@ pub mod KeepingLaws
 pub mod LookupLaws
 pub mod PaymentKept
 pub mod AccountKept
+pub mod DisputeKept
