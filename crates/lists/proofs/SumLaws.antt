@@ -70,6 +70,11 @@ module _ {A : Type 0} where
   sumBy-zero f [] e = refl
   sumBy-zero f (x ∷ xs) e = omega (arith, e x, sumBy-zero f xs e)
 
+  pub sumBy-zero-at : (f : A → ℕ) (d : A) (xs : List A) → ((i : ℕ) → i < length xs → f (getD xs i d) ≡ 0) → sumBy f xs ≡ 0
+  unfolding sumBy
+  sumBy-zero-at f d [] e = refl
+  sumBy-zero-at f d (x ∷ xs) e = omega (arith, e 0 (omega arith), sumBy-zero-at f d xs (λ i h. e (suc i) (omega arith)))
+
   -- the sums of two lists, the second longer, whose elements have the same share, the longer part having none
   pub sumBy-longer : (f g : A → ℕ) (d : A) (xs ys : List A) → length xs ≤ length ys
       → ((i : ℕ) → i < length xs → f (getD xs i d) ≡ g (getD ys i d)) → ((i : ℕ) → length xs ≤ i → i < length ys → g (getD ys i d) ≡ 0)

@@ -6,3 +6,5 @@ pub mod LookupLaws
 pub mod PaymentKept
 pub mod AccountKept
 pub mod DisputeKept
+pub mod FeeLaws
+pub mod TollKept
