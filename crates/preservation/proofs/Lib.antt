@@ -8,3 +8,4 @@ pub mod AccountKept
 pub mod DisputeKept
 pub mod FeeLaws
 pub mod TollKept
+pub mod ReturnKept
