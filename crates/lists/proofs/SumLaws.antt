@@ -1,12 +1,12 @@
 -- Laws of sums, over any function; a count is a sum, so they are laws of counts too.
 use mathlib.Core.Path.{_≡_, refl}
 use mathlib.Core.Bool.{Bool, true, false, cond}
-use Prim.Native.Nat.{ℕ, zero, suc, _+_, _≤_, _<_}
+use Prim.Native.Nat.{ℕ, zero, suc, _+_, _*_, _≤_, _<_}
 use mathlib.Core.List.{List, [], _∷_, _++_, map}
-use native.Mathlib.Nat.{le-of-suc-le-suc, not-suc-le-zero}
+use native.Mathlib.Nat.{add-mul, one-mul, le-of-suc-le-suc, not-suc-le-zero}
 use native.Mathlib.Omega.{arith}
 use lib.ListN.{length, take, drop, getD, set}
-use Rattle.lists.specs.Lists.{sumBy, count}
+use Rattle.lists.specs.Lists.{sumBy, only, count}
 
 module _ {A : Type 0} where
   pub sumBy-append : (f : A → ℕ) (xs ys : List A) → sumBy f (xs ++ ys) ≡ sumBy f xs + sumBy f ys
@@ -86,6 +86,17 @@ module _ {A : Type 0} where
   sumBy-longer f g d (x ∷ xs) [] l e z = absurd (omega arith)
   sumBy-longer f g d (x ∷ xs) (y ∷ ys) l e z =
       omega (arith, e 0 (omega arith), sumBy-longer f g d xs ys (omega arith) (λ i h. e (suc i) (omega arith)) (λ i h q. z (suc i) (omega arith) (omega arith)))
+
+-- a sum over the elements that pass, each of at most so much
+pub sumBy-only-le : {A : Type 0} (t : A → Bool) (f : A → ℕ) (most : ℕ) (d : A) (xs : List A)
+    → ((i : ℕ) → i < length xs → t (getD xs i d) ≡ true → f (getD xs i d) ≤ most) → sumBy (only t f) xs ≤ count t xs * most
+unfolding sumBy only count
+sumBy-only-le t f most d [] h = omega arith
+sumBy-only-le t f most d (x ∷ xs) h = go (t x) (h 0 (omega arith)) (sumBy-only-le t f most d xs (λ i l. h (suc i) (omega arith)))
+  where
+    go : (b : Bool) → (b ≡ true → f x ≤ most) → sumBy (only t f) xs ≤ count t xs * most → cond b (f x) 0 + sumBy (only t f) xs ≤ (cond b 1 0 + count t xs) * most
+    go true g ih = omega (arith, g refl, add-mul 1 (count t xs) most, one-mul most)
+    go false g ih = omega arith
 
 -- no more elements pass than there are
 pub count-le : {A : Type 0} (t : A → Bool) (xs : List A) → count t xs ≤ length xs

@@ -9,7 +9,7 @@ use lib.ListN.{length, getD, set, length-append, length-map, length-set, List·g
 use lib.Seq.{getD-set-same, getD-set-other}
 use lib.Dec.{eqb, ltb}
 use borrow.Author.Tests.{ltb-true}
-use Rattle.lists.proofs.GatherLaws.{grown-at}
+use Rattle.lists.proofs.GatherLaws.{map-at, grown-at}
 use Rattle.rules.specs.Rows.{Row, blank, rowNo}
 use Rattle.rules.specs.Book.{Account}
 use Rattle.rules.specs.Soundness.{names, referenceFits, passageOnce, feesFit}
@@ -33,6 +33,13 @@ carries-grown f rest p q rows more = record { kind = kinds; account = accounts }
     accounts : (j : ℕ) → j ≤ length rows → rowNo (map f rows ++ more) j .account ≡ rowNo rows j .account
     accounts zero h = refl
     accounts (suc i) h = rw (grown-at f blank rest rows more i h) (q (getD rows i blank))
+
+pub carries-map : (f : Row → Row) → f blank ≡ blank → ((r : Row) → f r .kind ≡ r .kind) → ((r : Row) → f r .account ≡ r .account) → (rows : List Row) → Carries rows (map f rows)
+carries-map f rest p q rows = record { kind = λ j h. at j (λ r. r .kind) p; account = λ j h. at j (λ r. r .account) q }
+  where
+    at : (j : ℕ) (g : Row → ℕ) → ((r : Row) → g (f r) ≡ g r) → g (rowNo (map f rows) j) ≡ g (rowNo rows j)
+    at zero g e = refl
+    at (suc i) g e = rw (map-at f blank rest rows [] i) (e (getD rows i blank))
 
 pub carries-append : (rows more : List Row) → Carries rows (rows ++ more)
 carries-append rows more = record { kind = λ j h. ap (λ (r : Row). r .kind) (named j h); account = λ j h. ap (λ (r : Row). r .account) (named j h) }

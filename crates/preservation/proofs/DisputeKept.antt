@@ -124,7 +124,7 @@ held-is today L r k d f =
       due-after = and-right (a1 && a2 && a3 && a4 && a5) a6 e;
     }
 
-held-due : (past last : ℕ) (r : Row) → r .kind ≡ 1 → r .dispute ≡ 1 → unsettled r ≡ true → dueWithin past last r ≡ true → 1 ≤ r .due
+pub held-due : (past last : ℕ) (r : Row) → r .kind ≡ 1 → r .dispute ≡ 1 → unsettled r ≡ true → dueWithin past last r ≡ true → 1 ≤ r .due
 unfolding dueWithin
 held-due past last r k d u e =
     let z : leb (r .due) last && leb 1 (r .due) ≡ true = rw (k, d, u) at e in

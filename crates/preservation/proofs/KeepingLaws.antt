@@ -5,20 +5,57 @@ use Prim.Native.Nat.{ℕ, zero, suc, _+_, _-_, _≤_, _<_}
 use native.Mathlib.Nat.{add-zero}
 use native.Mathlib.Omega.{arith}
 use native.Mathlib.Decide.{ℕ-discrete, decLt}
-use mathlib.Core.List.{List, [], _∷_, _++_}
-use lib.ListN.{length, getD, set, length-append, length-set, List·getD-append}
+use mathlib.Core.List.{List, [], _∷_, _++_, map}
+use lib.ListN.{length, getD, set, length-append, length-set, length-map, List·getD-append}
 use lib.Seq.{getD-append-seam, getD-set-same, getD-set-other}
 use lib.Dec.{eqb, leb}
 use borrow.Author.Tests.{le-leb, eqb-true, eq-eqb}
 use Rattle.lists.specs.Tests.{_implies_}
 use Rattle.lists.specs.Lists.{sumBy, only, count}
-use Rattle.lists.proofs.SumLaws.{sumBy-snoc, sumBy-set-same}
+use Rattle.lists.proofs.GatherLaws.{map-at}
+use Rattle.lists.proofs.SumLaws.{sumBy-snoc, sumBy-set-same, sumBy-map, sumBy-ext}
+use Rattle.rules.specs.Schedule.{scheduleFits}
 use Rattle.rules.specs.Rows.{Row, Test, blank, rowNo, toll, remaining, withDue, withDispute, withHold, feeNaming, sourceOf, debitOf}
 use Rattle.rules.specs.Settlement.{money, used, paid, owed}
 use Rattle.rules.specs.Book.{Account, unused, Book, withRows, withAccounts, addRow, accountNo}
+use Rattle.rules.specs.Opening.{dayFits, sizesFit}
 use Rattle.rules.specs.Soundness.{accountUsed, passage, passageOnce, feesFit, returnedOf, returnedFits, even, closedClear}
 use Rattle.rules.proofs.SoundnessLaws.{Shape, Live, Standing, Counted, Near}
-use Rattle.preservation.proofs.CarriedLaws.{Carries, carries-append, carries-set, shape-carried}
+use Rattle.preservation.proofs.CarriedLaws.{Carries, carries-map, carries-append, carries-set, shape-carried}
+
+-- ---- a nearly sound book but for the accounts' sums
+
+pub record Framed (past : ℕ) (b : Book) : Type 0 where
+  pub day : dayFits (b .day) ≡ true
+  pub schedule : scheduleFits (b .schedule) ≡ true
+  pub sizes : sizesFit (length (b .accounts)) (b .room) ≡ true
+  pub fits : leb (length (b .rows)) (b .room) ≡ true
+  pub shape : (k : ℕ) → k < length (b .rows) → Shape (b .day) (b .accounts) (b .rows) (suc k) (getD (b .rows) k blank)
+  pub live : (k : ℕ) → k < length (b .rows) → Live past (b .day) (b .schedule .stage) (getD (b .rows) k blank)
+  pub standing : (k : ℕ) → k < length (b .accounts) → Standing (b .day) (getD (b .accounts) k unused)
+
+pub near-framed : (past : ℕ) (b : Book) → Near past b → Framed past b
+near-framed past b s = record {
+  day = s .day;
+  schedule = s .schedule;
+  sizes = s .sizes;
+  fits = s .fits;
+  shape = s .shape;
+  live = s .live;
+  standing = s .standing;
+}
+
+pub framed-near : (past : ℕ) (b : Book) → Framed past b → ((k : ℕ) → k < length (b .accounts) → Counted (b .rows) (suc k) (getD (b .accounts) k unused)) → Near past b
+framed-near past b s c = record {
+  day = s .day;
+  schedule = s .schedule;
+  sizes = s .sizes;
+  fits = s .fits;
+  shape = s .shape;
+  live = s .live;
+  standing = s .standing;
+  counted = c;
+}
 
 -- ---- a row added
 
@@ -69,11 +106,10 @@ fees-add rows r x n f = go (toll x) refl
     go true q e = rw (count-add (feeNaming n) rows r (f q)) e
     go false q e = refl
 
--- the law where the accounts' sums are given
-pub near-add : (past : ℕ) (b : Book) (r : Row) → Near past b → length (b .rows) < b .room → Distinct (b .rows) r
+pub framed-add : (past : ℕ) (b : Book) (r : Row) → Framed past b → length (b .rows) < b .room → Distinct (b .rows) r
     → Shape (b .day) (b .accounts) (grown (b .rows) r) (suc (length (b .rows))) r → Live past (b .day) (b .schedule .stage) r
-    → ((k : ℕ) → k < length (b .accounts) → Counted (grown (b .rows) r) (suc k) (getD (b .accounts) k unused)) → Near past (addRow r b)
-near-add past b r s h p w v c =
+    → Framed past (addRow r b)
+framed-add past b r s h p w v =
     let rows : List Row = b .rows in
     record {
       day = s .day;
@@ -87,7 +123,6 @@ near-add past b r s h p w v c =
           (λ q. rw q w);
       live = λ k l. grown-row rows r k (λ x. Live past (b .day) (b .schedule .stage) x) l (λ q. s .live k q) (λ q. v);
       standing = s .standing;
-      counted = c;
     }
 
 -- the sums of an account where the new row is unsettled, no returned check, and of an account that is not closed
@@ -121,7 +156,8 @@ counted-add xs rows r n p c = record {
 
 pub near-add-quiet : (past : ℕ) (b : Book) (r : Row) → Near past b → length (b .rows) < b .room → Distinct (b .rows) r → Quiet (b .accounts) r
     → Shape (b .day) (b .accounts) (grown (b .rows) r) (suc (length (b .rows))) r → Live past (b .day) (b .schedule .stage) r → Near past (addRow r b)
-near-add-quiet past b r s h p q w v = near-add past b r s h p w v (λ k l. counted-add (b .accounts) (b .rows) r (suc k) q (s .counted k l))
+near-add-quiet past b r s h p q w v =
+    framed-near past (addRow r b) (framed-add past b r (near-framed past b s) h p w v) (λ k l. counted-add (b .accounts) (b .rows) r (suc k) q (s .counted k l))
 
 -- ---- accounts changed
 
@@ -131,7 +167,7 @@ pub record Kept (today : ℕ) (xs ys : List Account) : Type 0 where
   pub used : (a : ℕ) → not (eqb (accountNo xs a .state) 0) ≡ true → not (eqb (accountNo ys a .state) 0) ≡ true
   pub standing : (k : ℕ) → k < length ys → Standing today (getD ys k unused)
 
-pub kept-same : (past : ℕ) (b : Book) → Near past b → Kept (b .day) (b .accounts) (b .accounts)
+pub kept-same : (past : ℕ) (b : Book) → Framed past b → Kept (b .day) (b .accounts) (b .accounts)
 kept-same past b s = record { size = refl; used = λ a e. e; standing = s .standing }
 
 -- the property of each account where one is another
@@ -227,10 +263,10 @@ module _ (rows : List Row) (j : ℕ) (r : Row) (same : Same r (getD rows j blank
       shape-carried rows (set rows j r) (carries-set rows j r (same .kind) (same .account)) today xs n x h
       (passage-put x ∙ s .passage) (fees-put n x ∙ s .fees) s
 
-pub near-put : (past : ℕ) (b : Book) (xs : List Account) (j : ℕ) (r : Row) → Near past b → j < length (b .rows) → Same r (getD (b .rows) j blank) → Kept (b .day) (b .accounts) xs
+pub framed-put : (past : ℕ) (b : Book) (xs : List Account) (j : ℕ) (r : Row) → Framed past b → j < length (b .rows) → Same r (getD (b .rows) j blank) → Kept (b .day) (b .accounts) xs
     → Shape (b .day) (b .accounts) (b .rows) (suc j) r → Live past (b .day) (b .schedule .stage) r
-    → ((k : ℕ) → k < length xs → Counted (set (b .rows) j r) (suc k) (getD xs k unused)) → Near past (withRows (set (b .rows) j r) (withAccounts xs b))
-near-put past b xs j r s h same m w v c =
+    → Framed past (withRows (set (b .rows) j r) (withAccounts xs b))
+framed-put past b xs j r s h same m w v =
     let rows : List Row = b .rows in
     record {
       day = s .day;
@@ -244,7 +280,6 @@ near-put past b xs j r s h same m w v c =
           (λ q. rw q (shape-accounts (b .day) (b .accounts) xs (set rows j r) (suc j) r m (shape-put rows j r same (b .day) (b .accounts) (suc j) r (omega arith) w)));
       live = λ k l. set-row rows j r h k (λ x. Live past (b .day) (b .schedule .stage) x) (s .live k (rw (length-set (b .rows) j r) at l)) (λ q. v);
       standing = m .standing;
-      counted = c;
     }
 
 -- a row changed in its due day, dispute and hold alone
@@ -265,7 +300,42 @@ counted-put rows j r same n x c = record {
 pub near-put-core : (past : ℕ) (b : Book) (j : ℕ) (r : Row) → Near past b → j < length (b .rows) → core r ≡ core (getD (b .rows) j blank)
     → Shape (b .day) (b .accounts) (b .rows) (suc j) r → Live past (b .day) (b .schedule .stage) r → Near past (withRows (set (b .rows) j r) b)
 near-put-core past b j r s h same w v =
-    near-put past b (b .accounts) j r s h
+    framed-near past (withRows (set (b .rows) j r) b)
+    (framed-put past b (b .accounts) j r (near-framed past b s) h
     (record { kind = ap (λ (x : Row). x .kind) same; account = ap (λ (x : Row). x .account) same; reference = ap (λ (x : Row). x .reference) same })
-    (kept-same past b s) w v
+    (kept-same past b (near-framed past b s)) w v)
     (λ k l. counted-put (b .rows) j r same (suc k) (getD (b .accounts) k unused) (s .counted k l))
+
+-- ---- every row changed
+
+-- the law where the changed rows' own shape is given against the rows before
+pub framed-map : (past : ℕ) (b : Book) (f : Row → Row) → f blank ≡ blank → ((r : Row) → Same (f r) r)
+    → dayFits (b .day) ≡ true → scheduleFits (b .schedule) ≡ true → sizesFit (length (b .accounts)) (b .room) ≡ true → leb (length (b .rows)) (b .room) ≡ true
+    → ((k : ℕ) → k < length (b .rows) → Shape (b .day) (b .accounts) (b .rows) (suc k) (f (getD (b .rows) k blank)))
+    → ((k : ℕ) → k < length (b .rows) → Live past (b .day) (b .schedule .stage) (f (getD (b .rows) k blank)))
+    → ((k : ℕ) → k < length (b .accounts) → Standing (b .day) (getD (b .accounts) k unused)) → Framed past (withRows (map f (b .rows)) b)
+framed-map past b f rest same d c z n w v st =
+    let rows : List Row = b .rows in
+    record {
+      day = d;
+      schedule = c;
+      sizes = z;
+      fits = rw (length-map rows f) n;
+      shape = λ k h.
+          let l : k < length (b .rows) = rw (length-map (b .rows) f) at h in
+          let o = w k l in
+          rw (map-at f blank rest rows [] k)
+          (shape-carried rows (map f rows) (carries-map f rest (λ r. same r .kind) (λ r. same r .account) rows) (b .day) (b .accounts) (suc k) (f (getD rows k blank)) (omega arith)
+          (passage-map (f (getD rows k blank)) ∙ o .passage) (fees-map (suc k) (f (getD rows k blank)) ∙ o .fees) o);
+      live = λ k h. rw (map-at f blank rest rows [] k) (v k (rw (length-map (b .rows) f) at h));
+      standing = st;
+    }
+  where
+    count-map : (t : Test) → ((r : Row) → t (f r) ≡ t r) → count t (map f (b .rows)) ≡ count t (b .rows)
+    count-map t e = unfold count in (sumBy-map (λ x. cond (t x) 1 0) f (b .rows) ∙ sumBy-ext (λ x. cond (t (f x)) 1 0) (λ x. cond (t x) 1 0) (b .rows) (λ r. rw (e r)))
+
+    passage-map : (x : Row) → passageOnce (map f (b .rows)) x ≡ passageOnce (b .rows) x
+    passage-map x = unfold passageOnce passage in (rw (count-map (passage (x .reference)) (λ r. rw (same r .kind, same r .reference))))
+
+    fees-map : (n : ℕ) (x : Row) → feesFit (map f (b .rows)) n x ≡ feesFit (b .rows) n x
+    fees-map n x = unfold feesFit feeNaming in (rw (count-map (feeNaming n) (λ r. rw (same r .kind, same r .reference))))

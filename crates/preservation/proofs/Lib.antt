@@ -2,6 +2,7 @@ pub mod CarriedLaws
 pub mod SettledLaws
 pub mod Accepted
 pub mod KeepingLaws
+pub mod OthersLaws
 pub mod LookupLaws
 pub mod PaymentKept
 pub mod AccountKept
@@ -9,3 +10,5 @@ pub mod DisputeKept
 pub mod FeeLaws
 pub mod TollKept
 pub mod ReturnKept
+pub mod ForgiveLaws
+pub mod UpholdKept

@@ -1,6 +1,5 @@
 -- Sound stays sound: a returned check (event 4).
-use mathlib.Core.Path.{_≡_, refl, ap, sym, _∙_}
-use mathlib.Core.Logic.{_≢_}
+use mathlib.Core.Path.{_≡_, refl, ap, _∙_}
 use mathlib.Core.Bool.{Bool, true, false, not, cond, _&&_, _||_, false≢true, true≢false}
 use Prim.Native.Nat.{ℕ, zero, suc, _+_, _-_, _≤_, _<_}
 use native.Mathlib.Omega.{arith}
@@ -12,20 +11,21 @@ use lib.Dec.{eqb, leb, ltb}
 use borrow.Author.Tests.{leb-true, le-leb, lt-ltb, eqb-true, eq-eqb, ne-eqb, not-false}
 use Rattle.records.specs.Updates.{withState, withReturned}
 use Rattle.records.specs.AccountOperations.{checkReturned}
-use Rattle.lists.specs.Tests.{_from_to_, _implies_}
+use Rattle.lists.specs.Tests.{_from_to_}
 use Rattle.lists.specs.Lists.{only, count}
 use Rattle.lists.proofs.TestLaws.{and-left, and-right, and-both, or-left}
 use Rattle.lists.proofs.SumLaws.{sumBy-set, sumBy-set-same}
 use Rattle.rules.specs.Limits.{highestPayment, highestFee, highestCharge, returnFee}
-use Rattle.rules.specs.Rows.{Row, Fee, Reversal, blank, rowNo, toll, newRow, withMark, withReference, remaining, feeNaming, sourceOf, debitOf}
-use Rattle.rules.specs.Settlement.{money, used, paid, owed}
+use Rattle.rules.specs.Rows.{Row, Fee, Reversal, blank, rowNo, toll, newRow, withMark, withReference, feeNaming, sourceOf, debitOf}
+use Rattle.rules.specs.Settlement.{used, paid}
 use Rattle.rules.specs.Book.{Account, unused, Instruction, Book, withRows, withAccounts, accountNo, addRow}
 use Rattle.rules.specs.Events.{returnCheck}
 use Rattle.rules.specs.Soundness.{kindFits, mostOf, amountFits, settledFits, markFits, tollWordsFit, noReference, rowDayFits, dueWithin, holdFits, accountUsed, names, referenceFits, passage, passageOnce, feesFit, returnedOf, stateFits, unusedZero, requestFits, topUpFits, declineFits, returnedFits, even, closedClear}
 use Rattle.rules.specs.Refusals.{changeOf, wellFormed, formOf, returnForm, unknown, noRow, untimely}
 use Rattle.rules.proofs.SoundnessLaws.{Shape, Live, Standing, Counted, Near}
 use Rattle.preservation.proofs.Accepted.{Accepted}
-use Rattle.preservation.proofs.KeepingLaws.{grown, Distinct, Quiet, near-add-quiet, kept-set, set-account, near-put}
+use Rattle.preservation.proofs.KeepingLaws.{grown, Distinct, Quiet, near-framed, framed-near, near-add-quiet, kept-set, framed-put}
+use Rattle.preservation.proofs.OthersLaws.{others-set, counted-others}
 use Rattle.preservation.proofs.LookupLaws.{there, today-fits, inside, used-state, after-fits}
 
 -- ---- the account
@@ -167,26 +167,12 @@ module _ (b : Book) (k j m c d x : ℕ) where
         let old : f it ≡ 0 = rw (its-account, is-payment, is-check, eq-eqb (suc k) (suc k) refl) in
         omega (arith, sumBy-set f (b .rows) j (withMark 4 it) blank row-there)
 
-    no-more : (n : ℕ) → n ≢ suc k → count (returnedOf n) rows₁ ≡ count (returnedOf n) (b .rows)
-    unfolding count returnedOf
-    no-more n ne =
-        sumBy-set-same (λ r. cond (returnedOf n r) 1 0) (b .rows) j (withMark 4 it) blank
-        (rw (its-account, ne-eqb (suc k) n (λ e. ne (sym e))))
-
-    even-kept : (n : ℕ) → even (b .rows) n ≡ true → even rows₁ n ≡ true
+    even-kept : even (b .rows) (suc k) ≡ true → even rows₁ (suc k) ≡ true
     unfolding even used paid only sourceOf debitOf
-    even-kept n e =
+    even-kept e =
         rw (
-          sumBy-set-same (only (sourceOf n) (λ r. r .settled)) (b .rows) j (withMark 4 it) blank refl,
-          sumBy-set-same (only (debitOf n) (λ r. r .settled)) (b .rows) j (withMark 4 it) blank refl,
-        ) e
-
-    clear-kept : (n : ℕ) (y : Account) → closedClear (b .rows) n y ≡ true → closedClear rows₁ n y ≡ true
-    unfolding closedClear money owed only sourceOf debitOf
-    clear-kept n y e =
-        rw (
-          sumBy-set-same (only (sourceOf n) remaining) (b .rows) j (withMark 4 it) blank refl,
-          sumBy-set-same (only (debitOf n) remaining) (b .rows) j (withMark 4 it) blank refl,
+          sumBy-set-same (only (sourceOf (suc k)) (λ r. r .settled)) (b .rows) j (withMark 4 it) blank refl,
+          sumBy-set-same (only (debitOf (suc k)) (λ r. r .settled)) (b .rows) j (withMark 4 it) blank refl,
         ) e
 
     marked-counted : (i : ℕ) → i < length (b .accounts) → Counted rows₁ (suc i) (getD accounts₁ i unused)
@@ -198,22 +184,22 @@ module _ (b : Book) (k j m c d x : ℕ) where
             let v = s .counted k account-there in
             rw (e, getD-set-same (b .accounts) k (checkReturned holder) unused account-there) (record {
               returned = eq-eqb _ _ (returned-count holder ∙ omega (arith, one-more, eqb-true (holder .returned) (count (returnedOf (suc k)) (b .rows)) (v .returned)));
-              even = even-kept (suc k) (v .even);
+              even = even-kept (v .even);
               clear = rw (returned-unclosed holder);
             })
         go (no e) =
-            let v = s .counted i l in
-            rw (getD-set-other (b .accounts) k i (checkReturned holder) unused e) (record {
-              returned = rw (no-more (suc i) (λ w. e (omega arith))) (v .returned);
-              even = even-kept (suc i) (v .even);
-              clear = clear-kept (suc i) (getD (b .accounts) i unused) (v .clear);
-            })
+            rw (getD-set-other (b .accounts) k i (checkReturned holder) unused e)
+            (counted-others (suc k) (b .rows) rows₁ (others-set (suc k) (b .rows) j (withMark 4 it) its-account its-account) (suc i) (λ w. e (omega arith))
+            (getD (b .accounts) i unused) (s .counted i l))
 
     marked-near : Near (b .day) marked
     marked-near =
-        near-put (b .day) b accounts₁ j (withMark 4 it) s row-there (record { kind = refl; account = refl; reference = refl })
-        (kept-set (b .day) b k (checkReturned holder) s account-there (returned-used (b .day) holder account-used) (returned-standing (b .day) holder account-used (s .standing k account-there)))
-        marked-shape marked-live (λ i l. marked-counted i (rw (length-set (b .accounts) k (checkReturned holder)) at l))
+        framed-near (b .day) marked
+        (framed-put (b .day) b accounts₁ j (withMark 4 it) (near-framed (b .day) b s) row-there (record { kind = refl; account = refl; reference = refl })
+        (kept-set (b .day) b k (checkReturned holder) s account-there (returned-used (b .day) holder account-used)
+        (returned-standing (b .day) holder account-used (s .standing k account-there)))
+        marked-shape marked-live)
+        (λ i l. marked-counted i (rw (length-set (b .accounts) k (checkReturned holder)) at l))
 
     -- the two new rows
 
