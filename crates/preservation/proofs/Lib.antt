@@ -12,3 +12,4 @@ pub mod TollKept
 pub mod ReturnKept
 pub mod ForgiveLaws
 pub mod UpholdKept
+pub mod HoldsEnded
