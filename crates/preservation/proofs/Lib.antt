@@ -13,3 +13,4 @@ pub mod ReturnKept
 pub mod ForgiveLaws
 pub mod UpholdKept
 pub mod HoldsEnded
+pub mod TollsRaised
