@@ -46,15 +46,27 @@ leb-up m n e = le-leb m (n + 1) (omega (arith, leb-true m n e))
 shape-later : (today : ℕ) (xs : List Account) (rows : List Row) (n : ℕ) (r : Row) → Shape today xs rows n r → Shape (today + 1) xs rows n r
 unfolding rowDayFits
 shape-later today xs rows n r s = record {
-    kind = s .kind; amount = s .amount; mark = s .mark; words = s .words; none = s .none; account = s .account; reference = s .reference; passage = s .passage; fees = s .fees;
-    day = and-both (leb 1 (r .day)) _ (and-left (leb 1 (r .day)) _ (s .day)) (leb-up (r .day) today (and-right (leb 1 (r .day)) _ (s .day))) }
+  kind = s .kind;
+  amount = s .amount;
+  mark = s .mark;
+  words = s .words;
+  none = s .none;
+  account = s .account;
+  reference = s .reference;
+  passage = s .passage;
+  fees = s .fees;
+  day = and-both (leb 1 (r .day)) _ (and-left (leb 1 (r .day)) _ (s .day)) (leb-up (r .day) today (and-right (leb 1 (r .day)) _ (s .day)));
+}
 
 standing-later : (today : ℕ) (x : Account) → Standing today x → Standing (today + 1) x
 unfolding requestFits declineFits
-standing-later today x s = record { state = s .state; zero = s .zero;
-    request = and-both (eqb (x .state) 1 implies eqb (x .request) 0) _ (and-left _ _ (s .request)) (later (leb 2 (x .state)) (and-right (eqb (x .state) 1 implies eqb (x .request) 0) _ (s .request)));
-    topup = s .topup;
-    decline = leb-up (x .declined) today (s .decline) }
+standing-later today x s = record {
+  state = s .state;
+  zero = s .zero;
+  request = and-both (eqb (x .state) 1 implies eqb (x .request) 0) _ (and-left _ _ (s .request)) (later (leb 2 (x .state)) (and-right (eqb (x .state) 1 implies eqb (x .request) 0) _ (s .request)));
+  topup = s .topup;
+  decline = leb-up (x .declined) today (s .decline);
+}
   where
     later : (t : Bool) → (t implies x .request from 1 to today) ≡ true → (t implies x .request from 1 to (today + 1)) ≡ true
     later true e = and-both (leb 1 (x .request)) _ (and-left (leb 1 (x .request)) _ e) (leb-up (x .request) today (and-right (leb 1 (x .request)) _ e))
@@ -77,14 +89,16 @@ core-atDawn today r = go (holdEnds today r)
 live-stays : (today L : ℕ) (r : Row) → holdEnds (today + 1) r ≡ false → Live today today L r → Live today (today + 1) L r
 unfolding holdEnds settledFits dueWithin holdFits
 live-stays today L r n v = record {
-    settled = v .settled;
-    due = due (eqb (r .kind) 1) (v .due);
-    hold = hold (eqb (r .kind) 1) (eqb (r .dispute) 1) n (v .hold) }
+  settled = v .settled;
+  due = due (eqb (r .kind) 1) (v .due);
+  hold = hold (eqb (r .kind) 1) (eqb (r .dispute) 1) n (v .hold);
+}
   where
     due : (t : Bool) → (t implies leb (r .due) (today + L) && cond (unsettled r && not (heldToll r) && ltb (r .mark) 4) (ltb today (r .due)) (leb 1 (r .due))) ≡ true
         → (t implies leb (r .due) (today + 1 + L) && cond (unsettled r && not (heldToll r) && ltb (r .mark) 4) (ltb today (r .due)) (leb 1 (r .due))) ≡ true
     due true e = and-both (leb (r .due) (today + 1 + L)) _ (le-leb (r .due) (today + 1 + L) (omega (arith, leb-true (r .due) (today + L) (and-left (leb (r .due) (today + L)) _ e)))) (and-right (leb (r .due) (today + L)) _ e)
     due false e = refl
+
     hold : (t d : Bool) → t && d && eqb (r .hold + 30) (today + 1) ≡ false
         → (t implies cond d (leb 1 (r .hold) && leb today (r .hold + 29) && leb (r .hold) today && unsettled r && leb (r .due) (r .hold + L) && (ltb (r .mark) 4 implies ltb (r .hold) (r .due))) (eqb (r .hold) 0)) ≡ true
         → (t implies cond d (leb 1 (r .hold) && leb (today + 1) (r .hold + 29) && leb (r .hold) (today + 1) && unsettled r && leb (r .due) (r .hold + L) && (ltb (r .mark) 4 implies ltb (r .hold) (r .due))) (eqb (r .hold) 0)) ≡ true
@@ -101,7 +115,7 @@ live-stays today L r n v = record {
         let h3 : r .hold ≤ today = leb-true (r .hold) today (and-right (a1 && a2) a3 e3) in
         let ne : r .hold + 30 ≢ today + 1 = λ q. true≢false (sym (eq-eqb (r .hold + 30) (today + 1) q) ∙ z) in
         rw (and-left a1 a2 (and-left (a1 && a2) a3 e3), le-leb (today + 1) (r .hold + 29) (omega arith), le-leb (r .hold) (today + 1) (omega arith), and-right (a1 && a2 && a3) a4 e4, and-right (a1 && a2 && a3 && a4) a5 e5)
-          (and-right (a1 && a2 && a3 && a4 && a5) _ e)
+        (and-right (a1 && a2 && a3 && a4 && a5) _ e)
     hold true false z e = e
     hold false d z e = refl
 

@@ -14,3 +14,5 @@ pub mod ForgiveLaws
 pub mod UpholdKept
 pub mod HoldsEnded
 pub mod TollsRaised
+pub mod ClosingLaws
+pub mod AccountsClosed

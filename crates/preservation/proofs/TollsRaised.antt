@@ -45,8 +45,13 @@ rising today r e =
     let e4 = and-left (a1 && a2 && a3 && a4) a5 e in
     let e3 = and-left (a1 && a2 && a3) a4 e4 in
     let e2 = and-left (a1 && a2) a3 e3 in
-    record { toll = eqb-true (r .kind) 1 (and-left a1 a2 e2); free = not-true (heldToll r) (and-right a1 a2 e2); open-still = and-right (a1 && a2) a3 e3;
-      under = ltb-true (r .mark) 4 (and-right (a1 && a2 && a3) a4 e4); due = eqb-true (r .due) today (and-right (a1 && a2 && a3 && a4) a5 e) }
+    record {
+      toll = eqb-true (r .kind) 1 (and-left a1 a2 e2);
+      free = not-true (heldToll r) (and-right a1 a2 e2);
+      open-still = and-right (a1 && a2) a3 e3;
+      under = ltb-true (r .mark) 4 (and-right (a1 && a2 && a3) a4 e4);
+      due = eqb-true (r .due) today (and-right (a1 && a2 && a3 && a4) a5 e);
+    }
 
 -- an account that owes nothing has no toll that rises
 wanted : (n : ℕ) (r : Row) (m : ℕ) → r .kind ≡ 1 → r .settled < r .amount → only (debitOf n) remaining r ≤ 0 → cond (eqb (r .account) n && true) m 0 ≡ 0
@@ -97,20 +102,26 @@ module _ (s : Schedule) (today : ℕ) where
       stays true true false d e n x x′ y f true w = w
       stays true false true d e n x x′ y f true w = w
       stays true false false d e n x x′ y f true w = w
+
       go : (q : Bool) → rises today r ≡ q → Live today today (s .stage) (cond q (withDue (r .due + s .stage) (withMark (r .mark + 1) r)) r)
       go true e =
           let w : Rising today r = rising today r e in
           let d : r .due ≡ today = w .due in
-          record { settled = v .settled;
+          record {
+            settled = v .settled;
             due = rw (w .toll, le-leb (r .due + s .stage) (today + s .stage) (omega arith)) (pick (unsettled r && not (eqb 1 1 && eqb (r .dispute) 1) && ltb (r .mark + 1) 4) (lt-ltb today (r .due + s .stage) (omega arith)) (le-leb 1 (r .due + s .stage) (omega arith)));
-            hold = hold-free (eqb (r .kind) 1) (eqb (r .dispute) 1) _ _ (eqb (r .hold) 0) (w .free) (v .hold) }
+            hold = hold-free (eqb (r .kind) 1) (eqb (r .dispute) 1) _ _ (eqb (r .hold) 0) (w .free) (v .hold);
+          }
         where
           pick : (c : Bool) {x y : Bool} → x ≡ true → y ≡ true → cond c x y ≡ true
           pick true p q = p
           pick false p q = q
-      go false e = record { settled = v .settled; hold = v .hold;
-          due = stays (eqb (r .kind) 1) (not (heldToll r)) (unsettled r) (ltb (r .mark) 4) (eqb (r .due) today) e (ltb past (r .due)) (ltb today (r .due)) (leb 1 (r .due))
-            (λ n p. let ne : r .due ≢ today = λ q. true≢false (sym (eq-eqb (r .due) today q) ∙ n) in lt-ltb today (r .due) (omega (arith, ltb-true past (r .due) p))) (leb (r .due) (today + s .stage)) (v .due) }
+      go false e = record {
+        settled = v .settled;
+        hold = v .hold;
+        due = stays (eqb (r .kind) 1) (not (heldToll r)) (unsettled r) (ltb (r .mark) 4) (eqb (r .due) today) e (ltb past (r .due)) (ltb today (r .due)) (leb 1 (r .due))
+            (λ n p. let ne : r .due ≢ today = λ q. true≢false (sym (eq-eqb (r .due) today q) ∙ n) in lt-ltb today (r .due) (omega (arith, ltb-true past (r .due) p))) (leb (r .due) (today + s .stage)) (v .due);
+      }
 
   -- ---- the rows after the step: those of before, raised, and the fees
 
@@ -161,6 +172,7 @@ module _ (s : Schedule) (today : ℕ) where
       where
         other : (m : ℕ) (x : Row) → m ≢ suc k → sumBy (λ r. cond (feeNaming (suc k) r) 1 0) (feeRow s today m x) ≡ 0
         other m x ne = late-zero (λ r. cond (feeNaming (suc k) r) 1 0) m x (λ q. rw (ne-eqb m (suc k) ne))
+
         self : (t : Bool) (a : ℕ) → sumBy (λ r. cond (feeNaming (suc k) r) 1 0) (one t (withReference (suc k) (newRow Fee a today (stageFee s (getD rows k blank .mark + 1))))) ≡ cond t 1 0
         self true a = rw (eq-eqb (suc k) (suc k) refl)
         self false a = refl
@@ -173,10 +185,11 @@ module _ (s : Schedule) (today : ℕ) where
       where
         r : Row
         r = getD rows k blank
+
         go : (t : Bool) → rises today (getD rows k blank) ≡ t
             → (eqb (cond t (withDue (getD rows k blank .due + s .stage) (withMark (getD rows k blank .mark + 1) (getD rows k blank))) (getD rows k blank) .kind) 1
-              implies leb (count (feeNaming (suc k)) rows + cond (t && ltb 0 (getD (0 ∷ 0 ∷ s .fee2 ∷ s .fee3 ∷ s .fee4 ∷ []) (getD rows k blank .mark + 1) 0)) 1 0)
-                (cond t (withDue (getD rows k blank .due + s .stage) (withMark (getD rows k blank .mark + 1) (getD rows k blank))) (getD rows k blank) .mark - 1)) ≡ true
+            implies leb (count (feeNaming (suc k)) rows + cond (t && ltb 0 (getD (0 ∷ 0 ∷ s .fee2 ∷ s .fee3 ∷ s .fee4 ∷ []) (getD rows k blank .mark + 1) 0)) 1 0)
+            (cond t (withDue (getD rows k blank .due + s .stage) (withMark (getD rows k blank .mark + 1) (getD rows k blank))) (getD rows k blank) .mark - 1)) ≡ true
         go true e =
             let w : Rising today (getD rows k blank) = rising today (getD rows k blank) e in
             let c : count (feeNaming (suc k)) rows ≤ getD rows k blank .mark - 1 = leb-true _ _ (rw (w .toll) at f) in
@@ -229,7 +242,8 @@ module _ (s : Schedule) (today : ℕ) where
           words = words-raised r (v .words);
           reference = reference-carried rows (later ++ added) carries (suc k) (raise s today r) (omega arith) ∙ reference-keeps (suc k) r ∙ v .reference;
           passage = passage-later (raise s today r) ∙ keeps (passageOnce rows) (λ x v w. refl) r ∙ v .passage;
-          fees = fees-fit k l (v .fees) }
+          fees = fees-fit k l (v .fees);
+        }
 
     -- ---- a fee
 
@@ -248,12 +262,19 @@ module _ (s : Schedule) (today : ℕ) where
         let ac : rowNo (later ++ added) (suc k) .account ≡ x .account = carries .account (suc k) l in
         record {
           shape = λ n h. record {
-            kind = refl; words = refl; none = refl; mark = refl; passage = refl; fees = refl;
+            kind = refl;
+            words = refl;
+            none = refl;
+            mark = refl;
+            passage = refl;
+            fees = refl;
             amount = and-both (leb 1 amt) _ (and-right (rises today x) _ e) (le-leb amt 100_000 (f (x .mark + 1)));
             day = and-both (leb 1 today) _ d (le-leb today today (omega arith));
             account = v .account;
-            reference = rw (lt-ltb (suc k) n (omega arith), kd, ac, eq-eqb (x .account) (x .account) refl) };
-          live = record { settled = and-both (leb 0 amt) _ (le-leb 0 amt (omega arith)) refl; due = refl; hold = refl } }
+            reference = rw (lt-ltb (suc k) n (omega arith), kd, ac, eq-eqb (x .account) (x .account) refl);
+          };
+          live = record { settled = and-both (leb 0 amt) _ (le-leb 0 amt (omega arith)) refl; due = refl; hold = refl };
+        }
 
     all-fresh : (xs : List Account) → (leb 1 today ≡ true) → ((j : ℕ) → stageFee s j ≤ 100_000) → ((k : ℕ) → k < length rows → Shape today xs rows (suc k) (getD rows k blank))
         → (j : ℕ) → j < length added → Fresh xs (getD added j blank)
@@ -283,10 +304,13 @@ module _ (s : Schedule) (today : ℕ) where
     counted-raised : (n : ℕ) (x : Account) → Counted rows n x → Counted (later ++ added) n x
     unfolding returnedFits even closedClear returnedOf used paid money owed only sourceOf debitOf
     counted-raised n x c = record {
-        returned = rw (count-later (returnedOf n) (returned-keeps n) (λ m a k. no-and (eqb a n) (eqb 0 4))) (c .returned);
-        even = rw (same-later (only (sourceOf n) (λ r. r .settled)) (keeps (only (sourceOf n) (λ r. r .settled)) (λ r v w. refl)) (λ m a k. if-zero (sourceOf n (withReference m (newRow Fee a today k))) 0 refl),
-          same-later (only (debitOf n) (λ r. r .settled)) (keeps (only (debitOf n) (λ r. r .settled)) (λ r v w. refl)) (λ m a k. if-zero (debitOf n (withReference m (newRow Fee a today k))) 0 refl)) (c .even);
-        clear = clear (eqb (x .state) 3) (c .clear) }
+      returned = rw (count-later (returnedOf n) (returned-keeps n) (λ m a k. no-and (eqb a n) (eqb 0 4))) (c .returned);
+      even = rw (
+        same-later (only (sourceOf n) (λ r. r .settled)) (keeps (only (sourceOf n) (λ r. r .settled)) (λ r v w. refl)) (λ m a k. if-zero (sourceOf n (withReference m (newRow Fee a today k))) 0 refl),
+        same-later (only (debitOf n) (λ r. r .settled)) (keeps (only (debitOf n) (λ r. r .settled)) (λ r v w. refl)) (λ m a k. if-zero (debitOf n (withReference m (newRow Fee a today k))) 0 refl),
+      ) (c .even);
+      clear = clear (eqb (x .state) 3) (c .clear);
+    }
       where
         none-wanted : owed n rows ≡ 0 → sumBy (only (debitOf n) remaining) added ≡ 0
         none-wanted z = gather-none (feeRow s today) (only (debitOf n) remaining) 1 rows blank (λ m k e l. late-zero (only (debitOf n) remaining) m (getD rows k blank) (λ q.
@@ -294,6 +318,7 @@ module _ (s : Schedule) (today : ℕ) where
             let w : Rising today r = rising today r (and-left (rises today r) _ q) in
             let b : only (debitOf n) remaining r ≤ 0 = omega (arith, sumBy-at-le (only (debitOf n) remaining) rows k blank l) in
             wanted n r (stageFee s (r .mark + 1) - 0) (w .toll) (ltb-true (r .settled) (r .amount) (w .open-still)) b))
+
         clear : (t : Bool) → (t implies eqb (money n rows) 0 && eqb (owed n rows) 0) ≡ true → (t implies eqb (money n (later ++ added)) 0 && eqb (owed n (later ++ added)) 0) ≡ true
         clear true e =
             let m : money n rows ≡ 0 = eqb-true (money n rows) 0 (and-left (eqb (money n rows) 0) _ e) in
@@ -313,7 +338,7 @@ raiseTolls-near past b n t room =
     let p : ScheduleParts s = schedule-parts s (n .schedule) in
     let l1 : leb 1 (b .day) ≡ true = le-leb 1 (b .day) (omega arith) in
     let fees : (j : ℕ) → j < length (added s (b .day) rows) → Fresh s (b .day) rows (b .accounts) (getD (added s (b .day) rows) j blank) =
-        all-fresh s (b .day) rows (b .accounts) l1 (stageFee-le s p) (n .shape) in
+    all-fresh s (b .day) rows (b .accounts) l1 (stageFee-le s p) (n .shape) in
     record {
       day = n .day;
       schedule = n .schedule;
