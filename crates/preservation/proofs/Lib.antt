@@ -16,3 +16,4 @@ pub mod HoldsEnded
 pub mod TollsRaised
 pub mod ClosingLaws
 pub mod AccountsClosed
+pub mod TickKept
