@@ -17,3 +17,5 @@ pub mod TollsRaised
 pub mod ClosingLaws
 pub mod AccountsClosed
 pub mod TickKept
+pub mod SoundKept
+pub mod CallsKept
