@@ -1,15 +1,15 @@
 -- Sound stays sound: the tables after a call, and the book that they are of.
 use mathlib.Core.Path.{_≡_, refl, sym, ap, _∙_}
 use mathlib.Core.Bool.{Bool, true, false, not, cond, _||_, true≢false}
-use Prim.Native.Nat.{ℕ, _*_}
+use Prim.Native.Nat.{ℕ, _*_, _≤_}
 use mathlib.Core.List.{List, [], _∷_, map}
 use lib.ListN.{length}
 use lib.Dec.{eqb, ltb}
 use lib.IntN.{ℤ}
-use borrow.Author.Tests.{eqb-true}
+use borrow.Author.Tests.{eqb-true, eq-eqb, le-ltb}
 use Rattle.records.specs.Layout.{eventWidth, answerWidth}
 use Rattle.records.specs.Encoding.{instructionOf, instructionFrom}
-use Rattle.lists.specs.Tests.{_is_, first, allOf}
+use Rattle.lists.specs.Tests.{first, allOf}
 use Rattle.lists.proofs.TestLaws.{allOf-at}
 use Rattle.rules.specs.Limits.{mostEvents}
 use Rattle.rules.specs.Book.{Instruction, Book}
@@ -52,11 +52,11 @@ module _ (t : Tables) (e answers : List ℤ) (s : soundTables t ≡ true) where
       go false q = rw (eventCall-refused-tables t e answers q) s
 
   -- the book afterwards, where the event and the answer table have the right lengths
-  pub bookOf-eventCall : length e is eventWidth ≡ true → ltb (length answers) answerWidth ≡ false → bookOf (eventCall t e answers .tables) ≡ post (bookOf t) (instructionFrom e) .book
+  pub bookOf-eventCall : length e ≡ eventWidth → answerWidth ≤ length answers → bookOf (eventCall t e answers .tables) ≡ post (bookOf t) (instructionFrom e) .book
   bookOf-eventCall w a = go (eqb (post (bookOf t) (instructionFrom e) .answer .number) 0) refl
     where
       runs : first (eventRefusals t e answers) ≡ 0
-      runs = unfold eventRefusals first in rw (s, w, a)
+      runs = unfold eventRefusals first in rw (s, eq-eqb (length e) eventWidth w, le-ltb (length answers) answerWidth a)
 
       number : eventCall t e answers .number ≡ post (bookOf t) (instructionFrom e) .answer .number
       number = unfold eventCall in rw runs
@@ -87,9 +87,9 @@ module _ (t : Tables) (es : List Event) (answers : List ℤ) (s : soundTables t 
       go false q = rw (batchCall-refused t es answers q) s
 
   -- the book afterwards, where the batch is not too long and the answer table has room
-  pub bookOf-batchCall : ltb mostEvents (length es) ≡ false → ltb (length answers) (length es * answerWidth) ≡ false
+  pub bookOf-batchCall : length es ≤ mostEvents → length es * answerWidth ≤ length answers
       → bookOf (batchCall t es answers .tables) ≡ bookAfter (bookOf t) (map instructionOf es)
   bookOf-batchCall m a = rw (ran runs) (bookOf-sound (bookAfter (bookOf t) list) after-list)
     where
       runs : first (batchRefusals t es answers) ≡ 0
-      runs = unfold batchRefusals first in rw (s, m, a)
+      runs = unfold batchRefusals first in rw (s, le-ltb mostEvents (length es) m, le-ltb (length answers) (length es * answerWidth) a)

@@ -15,7 +15,7 @@ use Rattle.rules.specs.Soundness.{kindFits, amountFits, settledFits, markFits, 
 use Rattle.rules.specs.Refusals.{changeOf, noRow, untimely}
 use Rattle.rules.proofs.SoundnessLaws.{Shape, Live, Near}
 use Rattle.preservation.proofs.Accepted.{Accepted}
-use Rattle.preservation.proofs.LookupLaws.{day-from, shape-of, live-of, near-putRow}
+use Rattle.preservation.proofs.LookupLaws.{day-from, shape-of, live-of, near-putRow, named-kind, named-account}
 
 -- ---- event 5
 
@@ -29,7 +29,7 @@ module _ (b : Book) (n a c d x y : ℕ) where
 
     is-toll : it .kind ≡ Toll
     unfolding noRow
-    is-toll = eqb-true (it .kind) 1 (and-left (eqb (it .kind) 1) (eqb (it .account) n) (not-false _ (q .named)))
+    is-toll = named-kind b a n 1 (q .named)
 
     has-kind : 0 < it .kind
     has-kind = omega (arith, is-toll)
@@ -180,13 +180,8 @@ module _ (b : Book) (n a m c d x : ℕ) where
   unfolding noRow untimely
   decided q =
       let it : Row = row b a in
-      let named = not-false (eqb (it .kind) 1 && eqb (it .account) n) (q .named) in
       let is-held = not-false (heldToll it) (or-left _ false (or-left _ false (q .timely))) in
-      record {
-        toll = eqb-true (it .kind) 1 (and-left (eqb (it .kind) 1) (eqb (it .account) n) named);
-        account = eqb-true (it .account) n (and-right (eqb (it .kind) 1) (eqb (it .account) n) named);
-        held = eqb-true (it .dispute) 1 (and-right (eqb (it .kind) 1) _ is-held);
-      }
+      record { toll = named-kind b a n 1 (q .named); account = named-account b a n 1 (q .named); held = eqb-true (it .dispute) 1 (and-right (eqb (it .kind) 1) _ is-held) }
 
   pub reject-near : Near (b .day) b → Accepted b event6 → Near (b .day) (reject b event6)
   unfolding reject release

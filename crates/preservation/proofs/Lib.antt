@@ -19,3 +19,5 @@ pub mod AccountsClosed
 pub mod TickKept
 pub mod SoundKept
 pub mod CallsKept
+pub mod EventFrame
+pub mod PostFrame

@@ -8,7 +8,7 @@ use mathlib.Core.List.{List}
 use lib.ListN.{length, getD, List·getD-eq-default}
 use lib.Seq.{getD-set-same}
 use lib.Dec.{eqb, leb, ltb}
-use borrow.Author.Tests.{leb-true, le-leb, ltb-false, not-false}
+use borrow.Author.Tests.{leb-true, le-leb, ltb-false, eqb-true, not-false}
 use Rattle.lists.specs.Tests.{_from_to_}
 use Rattle.lists.proofs.TestLaws.{and-left, and-right, and-both, or-left, or-right}
 use Rattle.rules.specs.Rows.{Row, blank, rowNo}
@@ -81,7 +81,13 @@ module _ (past : ℕ) (b : Book) (s : Near past b) where
       let q : suc j - 1 ≡ j = omega arith in
       rw q (near-put-core past b j r s (there j h) same w v)
 
--- ---- what the refusals 3 and 13 leave
+-- ---- what the refusals 3, 10 and 13 leave
+
+pub named-kind : (b : Book) (a n k : ℕ) → not (eqb (row b a .kind) k && eqb (row b a .account) n) ≡ false → row b a .kind ≡ k
+named-kind b a n k e = eqb-true (row b a .kind) k (and-left (eqb (row b a .kind) k) (eqb (row b a .account) n) (not-false _ e))
+
+pub named-account : (b : Book) (a n k : ℕ) → not (eqb (row b a .kind) k && eqb (row b a .account) n) ≡ false → row b a .account ≡ n
+named-account b a n k e = eqb-true (row b a .account) n (and-right (eqb (row b a .kind) k) (eqb (row b a .account) n) (not-false _ e))
 
 pub inside : (n m : ℕ) (t : Bool) → not (n from 1 to m) || t ≡ false → n from 1 to m ≡ true
 inside n m t e = not-false (n from 1 to m) (or-left (not (n from 1 to m)) t e)

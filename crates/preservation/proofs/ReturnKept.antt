@@ -26,7 +26,7 @@ use Rattle.rules.proofs.SoundnessLaws.{Shape, Live, Standing, Counted, Near}
 use Rattle.preservation.proofs.Accepted.{Accepted}
 use Rattle.preservation.proofs.KeepingLaws.{grown, Distinct, Quiet, near-framed, framed-near, near-add-quiet, kept-set, framed-put}
 use Rattle.preservation.proofs.OthersLaws.{others-set, counted-others}
-use Rattle.preservation.proofs.LookupLaws.{there, today-fits, inside, used-state, after-fits}
+use Rattle.preservation.proofs.LookupLaws.{there, today-fits, inside, used-state, named-kind, named-account, after-fits}
 
 -- ---- the account
 
@@ -109,15 +109,13 @@ module _ (b : Book) (k j m c d x : ℕ) where
   fee = withReference (suc j) (newRow Fee (suc k) (b .day) (m + returnFee))
 
   module _ (s : Near (b .day) b) (q : Accepted b event4) where
-    named : eqb (it .kind) 4 && eqb (it .account) (suc k) ≡ true
-    unfolding noRow
-    named = not-false _ (q .named)
-
     is-payment : it .kind ≡ 4
-    is-payment = eqb-true (it .kind) 4 (and-left (eqb (it .kind) 4) (eqb (it .account) (suc k)) named)
+    unfolding noRow
+    is-payment = named-kind b (suc j) (suc k) 4 (q .named)
 
     its-account : it .account ≡ suc k
-    its-account = eqb-true (it .account) (suc k) (and-right (eqb (it .kind) 4) (eqb (it .account) (suc k)) named)
+    unfolding noRow
+    its-account = named-account b (suc j) (suc k) 4 (q .named)
 
     is-check : it .mark ≡ 3
     unfolding untimely
