@@ -20,6 +20,10 @@ and-right false b e = absurd (false≢true e)
 pub and-both : (a b : Bool) → a ≡ true → b ≡ true → a && b ≡ true
 and-both a b p q = rw p q
 
+pub and-false : (b : Bool) → b && false ≡ false
+and-false true = refl
+and-false false = refl
+
 -- ---- _||_
 
 pub or-left : (a b : Bool) → a || b ≡ false → a ≡ false
@@ -29,6 +33,20 @@ or-left false b e = refl
 pub or-right : (a b : Bool) → a || b ≡ false → b ≡ false
 or-right true b e = absurd (true≢false e)
 or-right false b e = e
+
+pub or-true : (b : Bool) → b || true ≡ true
+or-true true = refl
+or-true false = refl
+
+-- ---- cond
+
+pub cond-zero : (b : Bool) (n : ℕ) → n ≡ 0 → cond b n 0 ≡ 0
+cond-zero true n e = e
+cond-zero false n e = refl
+
+pub cond-both : (c a b : Bool) → a ≡ true → b ≡ true → cond c a b ≡ true
+cond-both true a b p q = p
+cond-both false a b p q = q
 
 -- ---- allOf
 

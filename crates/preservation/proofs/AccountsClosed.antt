@@ -1,16 +1,16 @@
 -- A tick's last step keeps a book nearly sound: accounts close, their money leaving as a refund.
-use mathlib.Core.Path.{_≡_, refl, sym, ap, _∙_}
-use mathlib.Core.Bool.{Bool, true, false, not, cond, _&&_}
-use Prim.Native.Nat.{ℕ, zero, suc, _+_, _≤_, _<_}
+use mathlib.Core.Path.{_≡_, refl, _∙_}
+use mathlib.Core.Bool.{Bool, true, false, cond, _&&_}
+use Prim.Native.Nat.{ℕ, zero, suc, _≤_, _<_}
 use native.Mathlib.Omega.{arith}
 use native.Mathlib.Decide.{decLt}
-use mathlib.Core.List.{List, [], _∷_, _++_, map}
+use mathlib.Core.List.{List}
 use lib.ListN.{length, getD, List·getD-eq-default}
 use lib.Dec.{eqb, leb, ltb}
-use borrow.Author.Tests.{leb-true, le-leb, eqb-true, eq-eqb}
+use borrow.Author.Tests.{le-leb, eq-eqb}
 use Rattle.records.specs.AccountOperations.{closed}
 use Rattle.lists.specs.Lists.{count, one, change}
-use Rattle.lists.proofs.TestLaws.{and-left, and-right, and-both}
+use Rattle.lists.proofs.TestLaws.{and-left, and-both}
 use Rattle.lists.proofs.GatherLaws.{gather-each, length-change, change-at, grown-each}
 use Rattle.rules.specs.Limits.{finalDay, highestRefund}
 use Rattle.rules.specs.Rows.{Row, Test, Refund, blank, newRow, withSettled, settleWhole, source, feeNaming}

@@ -1,22 +1,22 @@
 -- Sound stays sound: the tables after a call, and the book that they are of.
 use mathlib.Core.Path.{_≡_, refl, sym, ap, _∙_}
-use mathlib.Core.Bool.{Bool, true, false, not, cond, _||_, true≢false}
+use mathlib.Core.Bool.{Bool, true, false}
 use Prim.Native.Nat.{ℕ, _*_, _≤_}
 use mathlib.Core.List.{List, [], _∷_, map}
 use lib.ListN.{length}
-use lib.Dec.{eqb, ltb}
+use lib.Dec.{eqb}
 use lib.IntN.{ℤ}
 use borrow.Author.Tests.{eqb-true, eq-eqb, le-ltb}
 use Rattle.records.specs.Layout.{eventWidth, answerWidth}
 use Rattle.records.specs.Encoding.{instructionOf, instructionFrom}
-use Rattle.lists.specs.Tests.{first, allOf}
+use Rattle.lists.specs.Tests.{first}
 use Rattle.lists.proofs.TestLaws.{allOf-at}
 use Rattle.rules.specs.Limits.{mostEvents}
 use Rattle.rules.specs.Book.{Instruction, Book}
 use Rattle.rules.specs.Soundness.{sound}
 use Rattle.rules.specs.Posting.{post, bookAfter}
 use Rattle.rules.specs.Tables.{Tables, bookOf, tablesOf, lengthsFit, usedFits, laterRowsZero, soundTables}
-use Rattle.rules.specs.Calls.{Called, Event, eventRefusals, eventCall, batchRefusals, batchCall}
+use Rattle.rules.specs.Calls.{Event, eventRefusals, eventCall, batchRefusals, batchCall}
 use Rattle.rules.proofs.SoundnessLaws.{sound-facts}
 use Rattle.rules.proofs.StorableLaws.{rows-le}
 use Rattle.rules.proofs.PostingLaws.{post-refused, post-number, eventCall-refused-tables, batchCall-refused}

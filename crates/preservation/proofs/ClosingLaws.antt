@@ -8,11 +8,11 @@ use native.Mathlib.Omega.{arith}
 use mathlib.Core.List.{List, [], _∷_, _++_, map}
 use lib.ListN.{length, getD}
 use lib.Dec.{eqb, leb, ltb}
-use borrow.Author.Tests.{leb-true, le-leb, ltb-false, lt-ltb, eqb-true, eq-eqb, ne-eqb, not-true}
+use borrow.Author.Tests.{le-leb, ltb-false, lt-ltb, eqb-true, eq-eqb, ne-eqb, not-true}
 use Rattle.records.specs.AccountOperations.{closed}
 use Rattle.lists.specs.Tests.{_implies_}
 use Rattle.lists.specs.Lists.{sumBy, only, count, exists, one, gather}
-use Rattle.lists.proofs.TestLaws.{and-left, and-right, and-both}
+use Rattle.lists.proofs.TestLaws.{and-left, and-right, and-both, and-false, cond-zero}
 use Rattle.lists.proofs.SumLaws.{sumBy-ext, sumBy-zero}
 use Rattle.lists.proofs.GatherLaws.{gather-none, gather-only, sumBy-grown}
 use Rattle.rules.specs.Rows.{Row, Test, Refund, blank, newRow, withSettled, remaining, settleWhole, source, debit, unsettled, sourceOf, debitOf}
@@ -161,11 +161,7 @@ module _ (b : Book) where
 
   no-source : (f : Row → ℕ) (n m k : ℕ) → only (sourceOf n) f (settleWhole (newRow Refund m (b .day) k)) ≡ 0
   unfolding only sourceOf
-  no-source f n m k = go (eqb m n)
-    where
-      go : (t : Bool) → cond (t && false) (f (settleWhole (newRow Refund m (b .day) k))) 0 ≡ 0
-      go true = refl
-      go false = refl
+  no-source f n m k = rw (and-false (eqb m n))
 
   sources-closed : (f : Row → ℕ) (n : ℕ) → sumBy (only (sourceOf n) f) rows′ ≡ sumBy (only (sourceOf n) (λ x. cond (closes b n (account b n)) (f (settleWhole x)) (f x))) (b .rows)
   sources-closed f n =
@@ -213,12 +209,8 @@ module _ (b : Book) where
     unfolding money only
     money-closed = sources-closed remaining n ∙ go c
       where
-        nil : (t : Bool) (m : ℕ) → cond t (m - m) 0 ≡ 0
-        nil true m = omega arith
-        nil false m = refl
-
         go : (t : Bool) → sumBy (only (sourceOf n) (λ x. cond t (x .amount - x .amount) (remaining x))) (b .rows) ≡ cond t 0 (sumBy (only (sourceOf n) remaining) (b .rows))
-        go true = sumBy-zero (only (sourceOf n) (λ x. x .amount - x .amount)) (b .rows) (λ r. nil (sourceOf n r) (r .amount))
+        go true = sumBy-zero (only (sourceOf n) (λ x. x .amount - x .amount)) (b .rows) (λ r. cond-zero (sourceOf n r) (r .amount - r .amount) (omega arith))
         go false = refl
 
     paid-closed : paid n rows′ ≡ paid n (b .rows) + cond c (money n (b .rows)) 0
@@ -253,12 +245,8 @@ module _ (b : Book) where
         x : Account
         x = getD (b .accounts) k unused
 
-        no-and : (t u : Bool) → _≡_ {A = ℕ} (cond (t && false && u) 1 0) 0
-        no-and true u = refl
-        no-and false u = refl
-
         ret : sumBy (λ r. cond (returnedOf n r) 1 0) rows′ ≡ sumBy (λ r. cond (returnedOf n r) 1 0) (b .rows)
-        ret = same-closed (λ r. cond (returnedOf n r) 1 0) (λ r v. refl) (λ m i. no-and (eqb m n) (eqb 0 4))
+        ret = same-closed (λ r. cond (returnedOf n r) 1 0) (λ r v. refl) (λ m i. rw (and-false (eqb m n)))
 
         ev : eqb (used n rows′) (paid n rows′) ≡ true
         ev = eq-eqb (used n rows′) (paid n rows′) (used-closed ∙ ap (λ (m : ℕ). m + cond c (money n (b .rows)) 0) (eqb-true (used n (b .rows)) (paid n (b .rows)) (s .even)) ∙ sym paid-closed)

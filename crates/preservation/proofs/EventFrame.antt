@@ -1,23 +1,23 @@
 -- Events 1 to 8 change no account and no row of an account that they do not name, before settlement.
-use mathlib.Core.Path.{_≡_, refl, sym, ap, _∙_}
+use mathlib.Core.Path.{_≡_, refl, ap}
 use mathlib.Core.Logic.{_≢_}
-use mathlib.Core.Bool.{Bool, true, false, not, cond, _&&_, _||_, true≢false, false≢true}
-use Prim.Native.Nat.{ℕ, zero, suc, _+_, _-_, _≤_, _<_}
+use mathlib.Core.Bool.{Bool, true, false, not, cond, _||_, true≢false}
+use Prim.Native.Nat.{ℕ, zero, suc, _-_, _<_}
 use native.Mathlib.Omega.{arith}
-use mathlib.Core.List.{List, [], _∷_, _++_}
-use lib.ListN.{length, getD, set}
+use mathlib.Core.List.{List}
+use lib.ListN.{length, set}
 use lib.Seq.{getD-set-other}
-use lib.Dec.{eqb, leb}
+use lib.Dec.{eqb}
 use Rattle.records.specs.AccountOperations.{opened, checkReturned, declinedOn, topUpPaid, closeRequestedOn}
 use Rattle.lists.specs.Tests.{_from_to_}
-use Rattle.rules.specs.Rows.{Row, blank, withMark}
+use Rattle.rules.specs.Rows.{Row, withMark}
 use Rattle.rules.specs.Book.{Account, unused, Instruction, Book, account, accountNo, row, putAccount}
 use Rattle.rules.specs.Events.{openAccount, postToll, postPayment, returnCheck, holdFrom, holdToll, release, uphold, reject, decide, payTopUp, declineTopUp, topUpResult, requestClose}
-use Rattle.rules.specs.Refusals.{changeOf, wellFormed, formOf, unknown, noRow}
+use Rattle.rules.specs.Refusals.{changeOf, unknown, noRow}
 use Rattle.rules.proofs.SoundnessLaws.{Near}
 use Rattle.preservation.proofs.Accepted.{Accepted}
 use Rattle.preservation.proofs.OthersLaws.{Others, others-same, others-others, others-add, others-set}
-use Rattle.preservation.proofs.LookupLaws.{inside, named-kind, named-account}
+use Rattle.preservation.proofs.LookupLaws.{named-kind, named-account}
 use Rattle.preservation.proofs.DisputeKept.{event6, decided}
 use Rattle.preservation.proofs.UpholdKept.{uphold-others}
 

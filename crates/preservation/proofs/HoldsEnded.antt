@@ -2,10 +2,10 @@
 use mathlib.Core.Path.{_≡_, refl, sym, ap, _∙_}
 use mathlib.Core.Logic.{_≢_}
 use mathlib.Core.Bool.{Bool, true, false, not, cond, _&&_, true≢false}
-use Prim.Native.Nat.{ℕ, suc, _+_, _≤_, _<_}
+use Prim.Native.Nat.{ℕ, suc, _+_, _≤_}
 use native.Mathlib.Omega.{arith}
 use mathlib.Core.List.{List, map}
-use lib.ListN.{length, getD}
+use lib.ListN.{getD}
 use lib.Dec.{eqb, leb, ltb}
 use borrow.Author.Tests.{leb-true, le-leb, eqb-true, eq-eqb}
 use Rattle.lists.specs.Tests.{_from_to_, _implies_}
@@ -15,14 +15,14 @@ use Rattle.lists.proofs.SumLaws.{sumBy-map, sumBy-ext}
 use Rattle.rules.specs.Limits.{finalDay}
 use Rattle.rules.specs.Rows.{Row, blank, remaining, heldToll, unsettled, sourceOf, debitOf}
 use Rattle.rules.specs.Settlement.{money, used, paid, owed}
-use Rattle.rules.specs.Book.{Account, unused, Book, withRows}
+use Rattle.rules.specs.Book.{Account, unused, Book}
 use Rattle.rules.specs.Events.{release}
 use Rattle.rules.specs.Tick.{nextDay, holdEnds, endHolds, beforeRaising}
 use Rattle.rules.specs.Opening.{dayFits}
 use Rattle.rules.specs.Soundness.{settledFits, rowDayFits, dueWithin, holdFits, requestFits, declineFits, returnedOf, returnedFits, even, closedClear}
 use Rattle.rules.proofs.SoundnessLaws.{Shape, Live, Standing, Counted, Near}
 use Rattle.preservation.proofs.SettledLaws.{settled-near}
-use Rattle.preservation.proofs.KeepingLaws.{Same, framed-near, framed-map, core}
+use Rattle.preservation.proofs.KeepingLaws.{framed-near, framed-map, core}
 use Rattle.preservation.proofs.DisputeKept.{live-released, shape-released}
 
 -- ---- every row changed in its due day, dispute and hold alone

@@ -1,7 +1,7 @@
 -- A row added, a row changed and accounts changed keep a book nearly sound: the generic laws behind the events.
 use mathlib.Core.Path.{_≡_, refl, sym, ap, _∙_}
-use mathlib.Core.Bool.{Bool, true, false, not, cond, _&&_}
-use Prim.Native.Nat.{ℕ, zero, suc, _+_, _-_, _≤_, _<_}
+use mathlib.Core.Bool.{Bool, true, false, not, cond}
+use Prim.Native.Nat.{ℕ, zero, suc, _-_, _≤_, _<_}
 use native.Mathlib.Nat.{add-zero}
 use native.Mathlib.Omega.{arith}
 use native.Mathlib.Decide.{ℕ-discrete, decLt}
@@ -9,19 +9,20 @@ use mathlib.Core.List.{List, [], _∷_, _++_, map}
 use lib.ListN.{length, getD, set, length-append, length-set, length-map, List·getD-append}
 use lib.Seq.{getD-append-seam, getD-set-same, getD-set-other}
 use lib.Dec.{eqb, leb}
-use borrow.Author.Tests.{le-leb, eqb-true, eq-eqb}
+use borrow.Author.Tests.{le-leb, eqb-true}
 use Rattle.lists.specs.Tests.{_implies_}
 use Rattle.lists.specs.Lists.{sumBy, only, count}
+use Rattle.lists.proofs.TestLaws.{cond-zero}
 use Rattle.lists.proofs.GatherLaws.{map-at}
 use Rattle.lists.proofs.SumLaws.{sumBy-snoc, sumBy-set-same, sumBy-map, sumBy-ext}
 use Rattle.rules.specs.Schedule.{scheduleFits}
-use Rattle.rules.specs.Rows.{Row, Test, blank, rowNo, toll, remaining, withDue, withDispute, withHold, feeNaming, sourceOf, debitOf}
+use Rattle.rules.specs.Rows.{Row, Test, blank, toll, remaining, withDue, withDispute, withHold, feeNaming, sourceOf, debitOf}
 use Rattle.rules.specs.Settlement.{money, used, paid, owed}
 use Rattle.rules.specs.Book.{Account, unused, Book, withRows, withAccounts, addRow, accountNo}
 use Rattle.rules.specs.Opening.{dayFits, sizesFit}
 use Rattle.rules.specs.Soundness.{accountUsed, passage, passageOnce, feesFit, returnedOf, returnedFits, even, closedClear}
 use Rattle.rules.proofs.SoundnessLaws.{Shape, Live, Standing, Counted, Near}
-use Rattle.preservation.proofs.CarriedLaws.{Carries, carries-map, carries-append, carries-set, shape-carried}
+use Rattle.preservation.proofs.CarriedLaws.{carries-map, carries-append, carries-set, shape-carried}
 
 -- ---- a nearly sound book but for the accounts' sums
 
@@ -131,18 +132,14 @@ pub record Quiet (xs : List Account) (r : Row) : Type 0 where
   pub settled : r .settled ≡ 0
   pub state : eqb (accountNo xs (r .account) .state) 3 ≡ false
 
-if-zero : (b : Bool) (n : ℕ) → n ≡ 0 → cond b n 0 ≡ 0
-if-zero true n e = e
-if-zero false n e = refl
-
 pub counted-add : (xs : List Account) (rows : List Row) (r : Row) (n : ℕ) → Quiet xs r → Counted rows n (accountNo xs n) → Counted (grown rows r) n (accountNo xs n)
 unfolding returnedFits even closedClear used paid money owed only sourceOf debitOf
 counted-add xs rows r n p c = record {
   returned = rw (count-add (returnedOf n) rows r (p .returned n)) (c .returned);
   even =
       rw (
-        sum-add (only (sourceOf n) (λ x. x .settled)) rows r (if-zero (sourceOf n r) (r .settled) (p .settled)),
-        sum-add (only (debitOf n) (λ x. x .settled)) rows r (if-zero (debitOf n r) (r .settled) (p .settled)),
+        sum-add (only (sourceOf n) (λ x. x .settled)) rows r (cond-zero (sourceOf n r) (r .settled) (p .settled)),
+        sum-add (only (debitOf n) (λ x. x .settled)) rows r (cond-zero (debitOf n r) (r .settled) (p .settled)),
       ) (c .even);
   clear = go (eqb (r .account) n) refl;
 }

@@ -1,18 +1,17 @@
 -- What a nearly sound book says of the account and of the row that an event names, and the laws of changing just these.
-use mathlib.Core.Path.{_≡_, refl, sym, ap, _∙_}
-use mathlib.Core.Bool.{Bool, true, false, not, cond, _&&_, _||_, false≢true}
-use Prim.Native.Nat.{ℕ, zero, suc, _+_, _-_, _≤_, _<_}
+use mathlib.Core.Path.{_≡_}
+use mathlib.Core.Bool.{Bool, true, false, not, _&&_, _||_, false≢true}
+use Prim.Native.Nat.{ℕ, zero, suc, _-_, _≤_, _<_}
 use native.Mathlib.Omega.{arith}
 use native.Mathlib.Decide.{decLt}
-use mathlib.Core.List.{List}
 use lib.ListN.{length, getD, List·getD-eq-default}
 use lib.Seq.{getD-set-same}
-use lib.Dec.{eqb, leb, ltb}
+use lib.Dec.{eqb, leb}
 use borrow.Author.Tests.{leb-true, le-leb, ltb-false, eqb-true, not-false}
 use Rattle.lists.specs.Tests.{_from_to_}
 use Rattle.lists.proofs.TestLaws.{and-left, and-right, and-both, or-left, or-right}
-use Rattle.rules.specs.Rows.{Row, blank, rowNo}
-use Rattle.rules.specs.Book.{Account, unused, Instruction, Book, withRows, account, row, putAccount, putRow, settled}
+use Rattle.rules.specs.Rows.{Row, blank}
+use Rattle.rules.specs.Book.{Account, unused, Instruction, Book, account, row, putAccount, putRow}
 use Rattle.rules.specs.Opening.{dayFits}
 use Rattle.rules.specs.Refusals.{changeOf, after, full}
 use Rattle.rules.proofs.SoundnessLaws.{Shape, Live, Standing, Counted, Near}

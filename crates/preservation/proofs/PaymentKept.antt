@@ -3,20 +3,20 @@ use mathlib.Core.Path.{_≡_, refl}
 use mathlib.Core.Bool.{Bool, true, false, not, cond, _&&_, false≢true}
 use Prim.Native.Nat.{ℕ, suc, _+_, _≤_, _<_}
 use native.Mathlib.Omega.{arith}
-use mathlib.Core.List.{List, [], _∷_}
+use mathlib.Core.List.{[], _∷_}
 use lib.ListN.{length, length-append}
 use lib.Dec.{eqb, leb, ltb}
 use borrow.Author.Tests.{leb-true, leb-false, le-leb, ltb-true, eqb-true, ne-eqb, not-false}
 use Rattle.records.specs.AccountOperations.{topUpPaid, declinedOn}
 use Rattle.records.specs.Updates.{withTopUp, withDeclines}
 use Rattle.lists.specs.Tests.{_from_to_, _implies_}
-use Rattle.lists.proofs.TestLaws.{and-left, and-right, and-both, or-left, or-right}
+use Rattle.lists.proofs.TestLaws.{and-left, and-right, and-both, and-false, or-left}
 use Rattle.rules.specs.Limits.{highestPayment, highestTopUp, mostDeclines}
 use Rattle.rules.specs.Rows.{Row, Payment, newRow, withMark, feeNaming}
-use Rattle.rules.specs.Book.{Account, Instruction, Book, account, accountNo, addRow, putAccount, topUpDue, lowBalance}
+use Rattle.rules.specs.Book.{Account, Instruction, Book, account, addRow, putAccount, topUpDue, lowBalance}
 use Rattle.rules.specs.Events.{postPayment, payTopUp, declineTopUp, topUpResult}
 use Rattle.rules.specs.Soundness.{kindFits, mostOf, amountFits, settledFits, markFits, tollWordsFit, noReference, rowDayFits, dueWithin, holdFits, accountUsed, referenceFits, passage, passageOnce, feesFit, returnedOf, stateFits, unusedZero, requestFits, topUpFits, declineFits, returnedFits, even, closedClear}
-use Rattle.rules.specs.Refusals.{changeOf, wellFormed, formOf, paymentForm, resultForm, unknown, onClosed, untimely}
+use Rattle.rules.specs.Refusals.{changeOf, wellFormed, formOf, paymentForm, unknown, onClosed, untimely}
 use Rattle.rules.proofs.SoundnessLaws.{Shape, Live, Standing, Counted, Near}
 use Rattle.preservation.proofs.Accepted.{Accepted}
 use Rattle.preservation.proofs.KeepingLaws.{grown, Distinct, Quiet, near-add-quiet}
@@ -38,12 +38,8 @@ module _ (b : Book) (n amount method : ℕ) where
       distinct : Distinct (b .rows) payment
       distinct = unfold passage feeNaming in record { passage = λ p e. absurd (false≢true e); fee = λ k h t. refl }
 
-      no : (t : Bool) → t && true && false ≡ false
-      no true = refl
-      no false = refl
-
       quiet : Quiet (b .accounts) payment
-      quiet = unfold returnedOf in record { returned = λ p. rw (ne-eqb method 4 (λ e. omega (arith, small))) (no (eqb n p)); settled = refl; state = o }
+      quiet = unfold returnedOf in record { returned = λ p. rw (ne-eqb method 4 (λ e. omega (arith, small))) (and-false (eqb n p && true)); settled = refl; state = o }
 
       shape : Shape (b .day) (b .accounts) (grown (b .rows) payment) (suc (length (b .rows))) payment
       shape = unfold kindFits amountFits mostOf markFits tollWordsFit noReference rowDayFits accountUsed referenceFits passageOnce feesFit in record {

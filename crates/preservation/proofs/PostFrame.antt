@@ -2,7 +2,7 @@
 -- of an account that it does not name, and every row that it adds is of the account that it names.
 use mathlib.Core.Path.{_≡_, refl, sym, ap, _∙_}
 use mathlib.Core.Logic.{_≢_}
-use mathlib.Core.Bool.{Bool, true, false, not, cond, _&&_, _||_, true≢false}
+use mathlib.Core.Bool.{Bool, true, false, _&&_, _||_, true≢false}
 use Prim.Native.Nat.{ℕ, zero, suc, _≤_, _<_, min}
 use native.Mathlib.Omega.{arith}
 use native.Mathlib.Decide.{ℕ-discrete}
@@ -10,9 +10,9 @@ use mathlib.Core.List.{List}
 use lib.ListN.{length, getD, List·getD-map}
 use lib.Dec.{eqb}
 use borrow.Author.Tests.{eqb-true, ne-eqb, not-true}
-use Rattle.lists.specs.Lists.{sumBy, only}
+use Rattle.lists.specs.Lists.{only}
 use Rattle.lists.proofs.SumLaws.{sumBy-longer}
-use Rattle.rules.specs.Rows.{Row, blank, rowNo, debit, held, heldToll, remaining, payable}
+use Rattle.rules.specs.Rows.{Row, blank, rowNo, held, heldToll, remaining, payable}
 use Rattle.rules.specs.Settlement.{money, debt, moved, settleAccounts}
 use Rattle.rules.specs.Book.{Instruction, Book, account, settled}
 use Rattle.rules.specs.Soundness.{accountUsed, spent, sound}

@@ -1,19 +1,19 @@
 -- Sound stays sound: a returned check (event 4).
 use mathlib.Core.Path.{_≡_, refl, ap, _∙_}
-use mathlib.Core.Bool.{Bool, true, false, not, cond, _&&_, _||_, false≢true, true≢false}
+use mathlib.Core.Bool.{Bool, true, false, not, cond, false≢true, true≢false}
 use Prim.Native.Nat.{ℕ, zero, suc, _+_, _-_, _≤_, _<_}
 use native.Mathlib.Omega.{arith}
 use native.Mathlib.Decide.{ℕ-discrete}
 use mathlib.Core.List.{List, [], _∷_}
 use lib.ListN.{length, getD, set, length-append, length-set, List·getD-append}
 use lib.Seq.{getD-set-same, getD-set-other}
-use lib.Dec.{eqb, leb, ltb}
+use lib.Dec.{eqb, leb}
 use borrow.Author.Tests.{leb-true, le-leb, lt-ltb, eqb-true, eq-eqb, ne-eqb, not-false}
 use Rattle.records.specs.Updates.{withState, withReturned}
 use Rattle.records.specs.AccountOperations.{checkReturned}
 use Rattle.lists.specs.Tests.{_from_to_}
 use Rattle.lists.specs.Lists.{only, count}
-use Rattle.lists.proofs.TestLaws.{and-left, and-right, and-both, or-left}
+use Rattle.lists.proofs.TestLaws.{and-left, and-right, and-both, and-false, or-left, or-true}
 use Rattle.lists.proofs.SumLaws.{sumBy-set, sumBy-set-same}
 use Rattle.rules.specs.Limits.{highestPayment, highestFee, highestCharge, returnFee}
 use Rattle.rules.specs.Rows.{Row, Fee, Reversal, blank, rowNo, toll, newRow, withMark, withReference, feeNaming, sourceOf, debitOf}
@@ -24,7 +24,7 @@ use Rattle.rules.specs.Soundness.{kindFits, mostOf, amountFits, settledFits, ma
 use Rattle.rules.specs.Refusals.{changeOf, wellFormed, formOf, returnForm, unknown, noRow, untimely}
 use Rattle.rules.proofs.SoundnessLaws.{Shape, Live, Standing, Counted, Near}
 use Rattle.preservation.proofs.Accepted.{Accepted}
-use Rattle.preservation.proofs.KeepingLaws.{grown, Distinct, Quiet, near-framed, framed-near, near-add-quiet, kept-set, framed-put}
+use Rattle.preservation.proofs.KeepingLaws.{grown, near-framed, framed-near, near-add-quiet, kept-set, framed-put}
 use Rattle.preservation.proofs.OthersLaws.{others-set, counted-others}
 use Rattle.preservation.proofs.LookupLaws.{there, today-fits, inside, used-state, named-kind, named-account, after-fits}
 
@@ -75,10 +75,6 @@ named-payment rows y j l e k a =
     let p : rowNo (grown rows y) (y .reference) .kind ≡ 4 = ap (λ (r : Row). r .kind) f ∙ k in
     let q : rowNo (grown rows y) (y .reference) .account ≡ y .account = ap (λ (r : Row). r .account) f ∙ a in
     rw (lt-ltb (y .reference) (suc (length rows)) (omega arith), p, q) (eq-eqb (y .account) (y .account) refl)
-
-no-and : (t u : Bool) → t && false && u ≡ false
-no-and true u = refl
-no-and false u = refl
 
 -- ---- event 4
 
@@ -217,7 +213,7 @@ module _ (b : Book) (k j m c d x : ℕ) where
     reversal-near room =
         near-add-quiet (b .day) marked reversal marked-near room
         (unfold passage feeNaming in record { passage = λ p e. absurd (false≢true e); fee = λ i h t. refl })
-        (unfold returnedOf in record { returned = λ p. no-and (eqb (suc k) p) false; settled = refl; state = now-unclosed })
+        (unfold returnedOf in record { returned = λ p. rw (and-false (eqb (suc k) p)); settled = refl; state = now-unclosed })
         shape
         (unfold settledFits dueWithin holdFits in record { settled = and-both (leb 0 (it .amount)) _ (le-leb 0 (it .amount) (omega arith)) refl; due = refl; hold = refl })
       where
@@ -248,7 +244,7 @@ module _ (b : Book) (k j m c d x : ℕ) where
     fee-near room =
         near-add-quiet (b .day) (addRow reversal marked) fee (reversal-near (omega (arith, length-append rows₁ (reversal ∷ [])))) room
         (unfold passage feeNaming in record { passage = λ p e. absurd (false≢true e); fee = no-toll })
-        (unfold returnedOf in record { returned = λ p. no-and (eqb (suc k) p) false; settled = refl; state = now-unclosed })
+        (unfold returnedOf in record { returned = λ p. rw (and-false (eqb (suc k) p)); settled = refl; state = now-unclosed })
         shape
         (unfold settledFits dueWithin holdFits in record { settled = and-both (leb 0 (m + returnFee)) _ (le-leb 0 (m + returnFee) (omega arith)) refl; due = refl; hold = refl })
       where
@@ -273,14 +269,10 @@ module _ (b : Book) (k j m c d x : ℕ) where
           none = refl;
           day = today-fits (b .day) b s;
           account = now-used;
-          reference = rw (named-payment rows₂ fee j there₂ refl kind-there (ap (λ (r : Row). r .account) reversed-row ∙ its-account)) (or-true (names (grown rows₂ fee) (suc (length rows₂)) fee 1));
+          reference = rw (named-payment rows₂ fee j there₂ refl kind-there (ap (λ (r : Row). r .account) reversed-row ∙ its-account), or-true (names (grown rows₂ fee) (suc (length rows₂)) fee 1));
           passage = refl;
           fees = refl;
         }
-          where
-            or-true : (t : Bool) → (t || true) && true && true ≡ true
-            or-true true = refl
-            or-true false = refl
 
 pub returnCheck-near : (b : Book) (n a m c d x : ℕ) → Near (b .day) b → Accepted b (record { kind = 4; account = n; a = a; b = m; c = c; d = d; e = x })
     → Near (b .day) (changeOf 4 b (record { kind = 4; account = n; a = a; b = m; c = c; d = d; e = x }))

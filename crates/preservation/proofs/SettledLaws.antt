@@ -12,8 +12,8 @@ use lib.Dec.{eqb, leb, ltb}
 use borrow.Author.Tests.{leb-true, le-leb, ltb-true, lt-ltb, eqb-true, eq-eqb}
 use Rattle.lists.specs.Tests.{_implies_}
 use Rattle.lists.specs.Lists.{only}
-use Rattle.lists.proofs.TestLaws.{and-left, and-right, and-both}
-use Rattle.rules.specs.Rows.{Row, blank, rowNo, debit, held, heldToll, unsettled, remaining, settleMore, feeNaming, sourceOf, payable}
+use Rattle.lists.proofs.TestLaws.{and-left, and-right, and-both, and-false, or-true}
+use Rattle.rules.specs.Rows.{Row, blank, debit, held, heldToll, unsettled, remaining, settleMore, feeNaming, sourceOf, payable}
 use Rattle.rules.specs.Settlement.{money, debt, moved, settle, settleAccounts, used, paid, owed}
 use Rattle.rules.specs.Book.{Account, unused, Book, withRows, settled}
 use Rattle.rules.specs.Soundness.{kindFits, amountFits, settledFits, markFits, tollWordsFit, noReference, rowDayFits, dueWithin, holdFits, accountUsed, names, referenceFits, passage, passageOnce, feesFit, returnedOf, returnedFits, even, spent, closedClear}
@@ -100,24 +100,15 @@ live-more past today L r m f z v =
     holds false e = hold-free (eqb (r .kind) 1) (eqb (r .dispute) 1) _ _ (eqb (r .hold) 0) e (v .hold)
 
 -- a held toll takes and gives nothing
-no-and : (x : Bool) (n : ℕ) → cond (x && false) n 0 ≡ 0
-no-and true n = refl
-no-and false n = refl
-
 held-source : (a : ℕ) (r : Row) → heldToll r ≡ true → only (sourceOf a) remaining r ≡ 0
 unfolding only sourceOf
 held-source a r e =
     let k : r .kind ≡ 1 = eqb-true (r .kind) 1 (and-left (eqb (r .kind) 1) _ e) in
-    rw k (no-and (eqb (r .account) a) (remaining r))
+    rw (k, and-false (eqb (r .account) a))
 
 held-payable : (rows : List Row) (a : ℕ) (r : Row) → heldToll r ≡ true → only (payable rows a) remaining r ≡ 0
 unfolding only payable held
-held-payable rows a r e = rw e (go (eqb (r .account) a) (debit r))
-  where
-    go : (x d : Bool) → cond (x && (d && false)) (remaining r) 0 ≡ 0
-    go true true = refl
-    go true false = refl
-    go false d = refl
+held-payable rows a r e = rw (e, and-false (debit r), and-false (eqb (r .account) a))
 
 live-settle : (past today L a : ℕ) (rows : List Row) (i : ℕ) → Live past today L (getD rows i blank) → Live past today L (getD (settle a rows) i blank)
 live-settle past today L a rows i v =
@@ -195,10 +186,6 @@ spent-is : (rows : List Row) (n : ℕ) → moved n rows ≡ 0 → spent rows n �
 unfolding moved spent
 spent-is rows n e = go (money n rows) (debt n rows) e
   where
-    or-true : (b : Bool) → b || true ≡ true
-    or-true true = refl
-    or-true false = refl
-
     go : (m d : ℕ) → min m d ≡ 0 → eqb m 0 || eqb d 0 ≡ true
     go zero d q = refl
     go (suc m) d q = let z : d ≡ 0 = omega arith in rw z (or-true (eqb (suc m) 0))

@@ -1,14 +1,14 @@
 -- Sound stays sound: a day tick (event 9). Refusal 14 bounds the refunds, refusal 13 the rows, refusal 12 the day.
 use mathlib.Core.Path.{_≡_, refl, sym, ap, _∙_}
 use mathlib.Core.Logic.{_≢_}
-use mathlib.Core.Bool.{Bool, true, false, not, cond, _&&_, true≢false}
-use Prim.Native.Nat.{ℕ, zero, suc, _+_, _-_, _≤_, _<_}
+use mathlib.Core.Bool.{Bool, true, false, cond, _&&_, true≢false}
+use Prim.Native.Nat.{ℕ, suc, _+_, _-_, _≤_, _<_}
 use native.Mathlib.Omega.{arith}
-use mathlib.Core.List.{List, [], _∷_, _++_, map}
+use mathlib.Core.List.{List, _++_, map}
 use lib.ListN.{length, getD, drop, length-append, length-map, length-drop, List·getD-map}
 use lib.Seq.{getD-drop, drop-append-le}
-use lib.Dec.{eqb, leb, ltb}
-use borrow.Author.Tests.{ltb-false, ltb-true, lt-ltb, eq-eqb}
+use lib.Dec.{eqb, ltb}
+use borrow.Author.Tests.{ltb-false, eq-eqb}
 use Rattle.lists.specs.Lists.{sumBy, count, exists, one, gather}
 use Rattle.lists.proofs.SumLaws.{sumBy-append, sumBy-longer}
 use Rattle.lists.proofs.GatherLaws.{gather-at-le}
@@ -17,7 +17,7 @@ use Rattle.rules.specs.Rows.{Row, Test, blank}
 use Rattle.rules.specs.Settlement.{money, settleAccounts}
 use Rattle.rules.specs.Book.{Account, unused, Instruction, Book, settled}
 use Rattle.rules.specs.Tick.{nextDay, endHolds, beforeRaising, raise, feeRow, raiseTolls, closes, refundRow, useUp, closeAccounts, tick}
-use Rattle.rules.specs.Refusals.{changeOf, after, lastDay, full, ceiling}
+use Rattle.rules.specs.Refusals.{changeOf, after, lastDay, ceiling}
 use Rattle.rules.proofs.AllocationLaws.{bare}
 use Rattle.rules.proofs.SettlementAccountsLaws.{length-settleAccounts, settleAccounts-bare}
 use Rattle.rules.proofs.SoundnessLaws.{Near}

@@ -1,15 +1,15 @@
 -- Sound stays sound: a toll (event 2).
 use mathlib.Core.Path.{_≡_, refl, _∙_}
-use mathlib.Core.Bool.{Bool, true, false, not, cond, _&&_}
-use Prim.Native.Nat.{ℕ, suc, _+_, _≤_, _<_}
+use mathlib.Core.Bool.{Bool, true, cond, _&&_}
+use Prim.Native.Nat.{ℕ, suc, _+_, _≤_}
 use native.Mathlib.Omega.{arith}
-use mathlib.Core.List.{List, [], _∷_}
+use mathlib.Core.List.{[], _∷_}
 use lib.ListN.{length, length-append}
-use lib.Dec.{eqb, leb, ltb}
+use lib.Dec.{eqb, leb}
 use borrow.Author.Tests.{leb-true, le-leb, lt-ltb, ltb-false, eqb-true, eq-eqb, not-false}
 use Rattle.lists.specs.Tests.{_from_to_}
 use Rattle.lists.specs.Lists.{count, exists}
-use Rattle.lists.proofs.TestLaws.{and-left, and-right, and-both}
+use Rattle.lists.proofs.TestLaws.{and-left, and-right, and-both, and-false}
 use Rattle.lists.proofs.SumLaws.{sumBy-snoc}
 use Rattle.rules.specs.Limits.{finalDay, highestRate, highestPassage, mostAxles, highestHeight}
 use Rattle.rules.specs.Rows.{Row, Toll, newRow, withDue, withReference, feeNaming}
@@ -21,7 +21,7 @@ use Rattle.rules.proofs.SoundnessLaws.{Shape, Live, Near}
 use Rattle.preservation.proofs.Accepted.{Accepted}
 use Rattle.preservation.proofs.KeepingLaws.{grown, Distinct, Quiet, count-add, near-add-quiet}
 use Rattle.preservation.proofs.LookupLaws.{today-fits, used-state, after-fits}
-use Rattle.preservation.proofs.FeeLaws.{fees-none, ScheduleParts, schedule-parts, rate-fits}
+use Rattle.preservation.proofs.FeeLaws.{fees-none, schedule-parts, rate-fits}
 
 module _ (b : Book) (n a m c d x : ℕ) where
   abbrev event2 : Instruction
@@ -70,11 +70,7 @@ module _ (b : Book) (n a m c d x : ℕ) where
 
     quiet : Quiet (b .accounts) it
     unfolding returnedOf onClosed
-    quiet = record { returned = λ p. no (eqb n p); settled = refl; state = q .unclosed }
-      where
-        no : (t : Bool) → t && false && false ≡ false
-        no true = refl
-        no false = refl
+    quiet = record { returned = λ p. rw (and-false (eqb n p)); settled = refl; state = q .unclosed }
 
     once : count (passage a) (grown (b .rows) it) ≡ 1
     unfolding count passage

@@ -11,7 +11,7 @@ use lib.Dec.{eqb, leb, ltb}
 use borrow.Author.Tests.{leb-true, le-leb, ltb-true, lt-ltb, eqb-true, eq-eqb, ne-eqb, not-true}
 use Rattle.lists.specs.Tests.{_implies_}
 use Rattle.lists.specs.Lists.{sumBy, only, count, one, gather}
-use Rattle.lists.proofs.TestLaws.{and-left, and-right, and-both}
+use Rattle.lists.proofs.TestLaws.{and-left, and-right, and-both, and-false, cond-zero, cond-both}
 use Rattle.lists.proofs.SumLaws.{sumBy-append, sumBy-map, sumBy-ext, sumBy-at-le}
 use Rattle.lists.proofs.GatherLaws.{gather-none, gather-only, gather-each, grown-each}
 use Rattle.rules.specs.Schedule.{Schedule, stageFee}
@@ -81,11 +81,7 @@ module _ (s : Schedule) (today : ℕ) where
   returned-keeps n r = go (rises today r) refl
     where
       go : (t : Bool) → rises today r ≡ t → returnedOf n (cond t (withDue (r .due + s .stage) (withMark (r .mark + 1) r)) r) ≡ returnedOf n r
-      go true e = let k : r .kind ≡ 1 = rising today r e .toll in rw k (no (eqb (r .account) n))
-        where
-          no : (b : Bool) → (b && false && eqb (r .mark + 1) 4) ≡ (b && false && eqb (r .mark) 4)
-          no true = refl
-          no false = refl
+      go true e = let k : r .kind ≡ 1 = rising today r e .toll in rw (k, and-false (eqb (r .account) n))
       go false e = refl
 
   -- the stage and due day of a row after the step
@@ -109,13 +105,9 @@ module _ (s : Schedule) (today : ℕ) where
           let d : r .due ≡ today = w .due in
           record {
             settled = v .settled;
-            due = rw (w .toll, le-leb (r .due + s .stage) (today + s .stage) (omega arith)) (pick (unsettled r && not (eqb 1 1 && eqb (r .dispute) 1) && ltb (r .mark + 1) 4) (lt-ltb today (r .due + s .stage) (omega arith)) (le-leb 1 (r .due + s .stage) (omega arith)));
+            due = rw (w .toll, le-leb (r .due + s .stage) (today + s .stage) (omega arith)) (cond-both (unsettled r && not (eqb 1 1 && eqb (r .dispute) 1) && ltb (r .mark + 1) 4) _ _ (lt-ltb today (r .due + s .stage) (omega arith)) (le-leb 1 (r .due + s .stage) (omega arith)));
             hold = hold-free (eqb (r .kind) 1) (eqb (r .dispute) 1) _ _ (eqb (r .hold) 0) (w .free) (v .hold);
           }
-        where
-          pick : (c : Bool) {x y : Bool} → x ≡ true → y ≡ true → cond c x y ≡ true
-          pick true p q = p
-          pick false p q = q
       go false e = record {
         settled = v .settled;
         hold = v .hold;
@@ -289,25 +281,13 @@ module _ (s : Schedule) (today : ℕ) where
 
     -- ---- an account
 
-    if-zero : (b : Bool) (n : ℕ) → n ≡ 0 → cond b n 0 ≡ 0
-    if-zero true n e = e
-    if-zero false n e = refl
-
-    no-and : (b c : Bool) → (b && false && c) ≡ false
-    no-and true c = refl
-    no-and false c = refl
-
-    no-cond : (b : Bool) (n : ℕ) → cond (b && false) n 0 ≡ 0
-    no-cond true n = refl
-    no-cond false n = refl
-
     counted-raised : (n : ℕ) (x : Account) → Counted rows n x → Counted (later ++ added) n x
     unfolding returnedFits even closedClear returnedOf used paid money owed only sourceOf debitOf
     counted-raised n x c = record {
-      returned = rw (count-later (returnedOf n) (returned-keeps n) (λ m a k. no-and (eqb a n) (eqb 0 4))) (c .returned);
+      returned = rw (count-later (returnedOf n) (returned-keeps n) (λ m a k. rw (and-false (eqb a n)))) (c .returned);
       even = rw (
-        same-later (only (sourceOf n) (λ r. r .settled)) (keeps (only (sourceOf n) (λ r. r .settled)) (λ r v w. refl)) (λ m a k. if-zero (sourceOf n (withReference m (newRow Fee a today k))) 0 refl),
-        same-later (only (debitOf n) (λ r. r .settled)) (keeps (only (debitOf n) (λ r. r .settled)) (λ r v w. refl)) (λ m a k. if-zero (debitOf n (withReference m (newRow Fee a today k))) 0 refl),
+        same-later (only (sourceOf n) (λ r. r .settled)) (keeps (only (sourceOf n) (λ r. r .settled)) (λ r v w. refl)) (λ m a k. cond-zero (sourceOf n (withReference m (newRow Fee a today k))) 0 refl),
+        same-later (only (debitOf n) (λ r. r .settled)) (keeps (only (debitOf n) (λ r. r .settled)) (λ r v w. refl)) (λ m a k. cond-zero (debitOf n (withReference m (newRow Fee a today k))) 0 refl),
       ) (c .even);
       clear = clear (eqb (x .state) 3) (c .clear);
     }
@@ -323,7 +303,7 @@ module _ (s : Schedule) (today : ℕ) where
         clear true e =
             let m : money n rows ≡ 0 = eqb-true (money n rows) 0 (and-left (eqb (money n rows) 0) _ e) in
             let o : owed n rows ≡ 0 = eqb-true (owed n rows) 0 (and-right (eqb (money n rows) 0) _ e) in
-            let m′ : money n (later ++ added) ≡ 0 = same-later (only (sourceOf n) remaining) (keeps (only (sourceOf n) remaining) (λ r v w. refl)) (λ i a k. no-cond (eqb a n) (k - 0)) ∙ m in
+            let m′ : money n (later ++ added) ≡ 0 = same-later (only (sourceOf n) remaining) (keeps (only (sourceOf n) remaining) (λ r v w. refl)) (λ i a k. rw (and-false (eqb a n))) ∙ m in
             let o′ : owed n (later ++ added) ≡ 0 = omega (arith, sum-later (only (debitOf n) remaining) (keeps (only (debitOf n) remaining) (λ r v w. refl)), none-wanted o) in
             and-both _ _ (eq-eqb (money n (later ++ added)) 0 m′) (eq-eqb (owed n (later ++ added)) 0 o′)
         clear false e = refl

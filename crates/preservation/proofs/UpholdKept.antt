@@ -1,28 +1,28 @@
 -- Sound stays sound: a decision for the motorist (event 6, verdict 1), and so event 6 under either verdict.
 use mathlib.Core.Path.{_≡_, refl, sym, ap, subst, _∙_}
 use mathlib.Core.Logic.{_≢_}
-use mathlib.Core.Bool.{Bool, true, false, not, cond, _&&_, _||_, false≢true, true≢false}
-use Prim.Native.Nat.{ℕ, zero, suc, _+_, _*_, _-_, _≤_, _<_}
+use mathlib.Core.Bool.{Bool, true, false, cond, _&&_, false≢true}
+use Prim.Native.Nat.{ℕ, zero, suc, _+_, _-_, _≤_, _<_}
 use native.Mathlib.Nat.{add-zero}
 use native.Mathlib.Omega.{arith}
 use native.Mathlib.Decide.{ℕ-discrete}
 use mathlib.Core.List.{List, [], _∷_, map}
 use lib.ListN.{length, getD, set, length-append, length-set, length-map}
 use lib.Seq.{getD-set-same}
-use lib.Dec.{eqb, leb, ltb}
-use borrow.Author.Tests.{leb-true, le-leb, ltb-true, le-ltb, lt-ltb, eqb-true, eq-eqb, ne-eqb}
-use Rattle.lists.specs.Tests.{_from_to_, _implies_}
+use lib.Dec.{eqb, leb}
+use borrow.Author.Tests.{leb-true, le-leb, ltb-true, le-ltb, lt-ltb, eqb-true, eq-eqb}
+use Rattle.lists.specs.Tests.{_from_to_}
 use Rattle.lists.specs.Lists.{sumBy, only, count}
-use Rattle.lists.proofs.TestLaws.{and-left, and-right, and-both}
+use Rattle.lists.proofs.TestLaws.{and-left, and-right, and-both, and-false}
 use Rattle.lists.proofs.SumLaws.{sumBy-snoc, sumBy-set, sumBy-set-same, sumBy-map, sumBy-ext, sumBy-ext-at, sumBy-add, sumBy-le, sumBy-only-le, sumBy-at-le}
 use Rattle.rules.specs.Limits.{highestRate, highestFee, highestCredit}
-use Rattle.rules.specs.Rows.{Row, Test, Credit, blank, rowNo, newRow, withSettled, withDispute, withHold, withReference, remaining, settleWhole, unsettled, heldToll, feeNaming, sourceOf, debitOf}
+use Rattle.rules.specs.Rows.{Row, Credit, blank, rowNo, newRow, withSettled, withDispute, withHold, withReference, remaining, settleWhole, feeNaming, sourceOf, debitOf}
 use Rattle.rules.specs.Settlement.{money, used, paid, owed}
-use Rattle.rules.specs.Book.{Account, unused, Instruction, Book, withRows, account, accountNo, addRow}
+use Rattle.rules.specs.Book.{unused, Instruction, Book, withRows, account, addRow}
 use Rattle.rules.specs.Events.{withFees, uphold, reject, decide}
 use Rattle.rules.specs.Soundness.{kindFits, mostOf, amountFits, settledFits, markFits, tollWordsFit, noReference, rowDayFits, dueWithin, holdFits, accountUsed, names, referenceFits, passage, passageOnce, feesFit, returnedOf, returnedFits, even, closedClear}
 use Rattle.rules.specs.Refusals.{changeOf, unknown}
-use Rattle.rules.proofs.SoundnessLaws.{Shape, Live, Standing, Counted, Near}
+use Rattle.rules.proofs.SoundnessLaws.{Shape, Live, Counted, Near}
 use Rattle.preservation.proofs.Accepted.{Accepted}
 use Rattle.preservation.proofs.CarriedLaws.{Carries, carries-set, carries-map, carries-append, carries-carries}
 use Rattle.preservation.proofs.SettledLaws.{settled-le}
@@ -260,25 +260,17 @@ module _ (b : Book) (n j m c d x : ℕ) where
         let f : Row → ℕ = only (debitOf n) (λ r. r .settled) in
         let g : Row → ℕ = only (feeNaming (suc j)) remaining in
         let a : sumBy f rows₃ ≡ sumBy f rows₂ + f credit = sumBy-snoc f rows₂ credit in
-        let z : f credit ≡ 0 = unfold only debitOf in no-debit (eqb n n) in
+        let z : f credit ≡ 0 = unfold only debitOf in rw (and-false (eqb n n)) in
         let e : sumBy f rows₂ ≡ sumBy (λ r. f r + g r) rows₁ = sumBy-map f (forgive (suc j)) rows₁ ∙ sumBy-ext-at (λ r. f (forgive (suc j) r)) (λ r. f r + g r) blank rows₁ forgiven-paid in
         omega (arith, sumBy-add f g rows₁, fees-sum remaining, paid₁)
-      where
-        no-debit : (t : Bool) → cond (t && false) (withFees b (suc j) remaining) 0 ≡ 0
-        no-debit true = refl
-        no-debit false = refl
 
     -- used sources: the credit's part used more
     forgiven-used : (r : Row) → only (sourceOf n) (λ y. y .settled) (forgive (suc j) r) ≡ only (sourceOf n) (λ y. y .settled) r
     unfolding only sourceOf
     forgiven-used r = go (feeNaming (suc j) r) refl
       where
-        none : (t : Bool) (u v : ℕ) → cond (t && false) u 0 ≡ cond (t && false) v 0
-        none true u v = refl
-        none false u v = refl
-
         go : (t : Bool) → feeNaming (suc j) r ≡ t → cond (sourceOf n (cond t (settleWhole r) r)) (cond t (settleWhole r) r .settled) 0 ≡ cond (sourceOf n r) (r .settled) 0
-        go true e = rw (naming-fee (suc j) r e .0) (none (eqb (r .account) n) (r .amount) (r .settled))
+        go true e = rw (naming-fee (suc j) r e .0, and-false (eqb (r .account) n))
         go false e = refl
 
     used₃ : used n rows₃ ≡ used n (b .rows) + (remaining it + fees-open)
@@ -295,13 +287,9 @@ module _ (b : Book) (n j m c d x : ℕ) where
     unfolding count returnedOf
     returned₃ =
         let f : Row → ℕ = λ r. cond (returnedOf n r) 1 0 in
-        sumBy-snoc f rows₂ credit ∙ rw (no-return (eqb n n), add-zero) (
+        sumBy-snoc f rows₂ credit ∙ rw (and-false (eqb n n), add-zero) (
         sumBy-map f (forgive (suc j)) rows₁ ∙ sumBy-ext (λ r. f (forgive (suc j) r)) f rows₁ (forgive-keeps f (λ r v. refl) (suc j))
         ∙ sumBy-set-same f (b .rows) j upheld blank refl)
-      where
-        no-return : (t : Bool) → _≡_ {A = ℕ} (cond (t && false && false) 1 0) 0
-        no-return true = refl
-        no-return false = refl
 
     -- an account with a toll that is unsettled is not closed
     unclosed : eqb (account b n .state) 3 ≡ false
