@@ -15,6 +15,7 @@ use Rattle.lists.specs.Lists.{sumBy, only, count, exists, one, gather}
 use Rattle.lists.proofs.TestLaws.{and-left, and-right, and-both, and-false, cond-zero}
 use Rattle.lists.proofs.SumLaws.{sumBy-ext, sumBy-zero}
 use Rattle.lists.proofs.GatherLaws.{gather-none, gather-only, sumBy-grown}
+use Rattle.rules.specs.Limits.{closingDays}
 use Rattle.rules.specs.Rows.{Row, Test, Refund, blank, newRow, withSettled, remaining, settleWhole, source, debit, unsettled, sourceOf, debitOf}
 use Rattle.rules.specs.Settlement.{money, used, paid, owed}
 use Rattle.rules.specs.Book.{Account, unused, Book, account}
@@ -22,6 +23,8 @@ use Rattle.rules.specs.Tick.{closes, closeIf, refundRow, useUp}
 use Rattle.rules.specs.Soundness.{settledFits, dueWithin, holdFits, returnedOf, returnedFits, even, closedClear, stateFits, unusedZero, requestFits, topUpFits, declineFits}
 use Rattle.rules.proofs.SettlementLaws.{kinds-apart}
 use Rattle.rules.proofs.SoundnessLaws.{Live, Standing, Counted}
+
+-- ---- sums
 
 -- under any test, the amounts are what is settled and what remains
 pub settled-remaining : (t : Test) (rows : List Row) → ((i : ℕ) → getD rows i blank .settled ≤ getD rows i blank .amount)
@@ -235,16 +238,13 @@ module _ (b : Book) where
     closing e =
         let x : Account = getD (b .accounts) k unused in
         let a1 : Bool = eqb (x .state) 2 in
-        let a2 : Bool = leb (x .request + 15) (b .day) in
+        let a2 : Bool = leb (x .request + closingDays) (b .day) in
         (eqb-true (x .state) 2 (and-left a1 a2 (and-left (a1 && a2) _ e)), none-owed n (b .rows) (and-right (a1 && a2) _ e))
 
     pub counted-closed : Counted (b .rows) n (getD (b .accounts) k unused) → Counted rows′ n (closeIf b n (getD (b .accounts) k unused))
     unfolding closeIf returnedFits even closedClear returnedOf count
     counted-closed s = go c refl
       where
-        x : Account
-        x = getD (b .accounts) k unused
-
         ret : sumBy (λ r. cond (returnedOf n r) 1 0) rows′ ≡ sumBy (λ r. cond (returnedOf n r) 1 0) (b .rows)
         ret = same-closed (λ r. cond (returnedOf n r) 1 0) (λ r v. refl) (λ m i. rw (and-false (eqb m n)))
 

@@ -1,13 +1,13 @@
 -- A tick's first steps keep a book nearly sound: the day rises, holds begun 30 days ago end, settlement.
 use mathlib.Core.Path.{_≡_, refl, sym, ap, _∙_}
 use mathlib.Core.Logic.{_≢_}
-use mathlib.Core.Bool.{Bool, true, false, not, cond, _&&_, true≢false}
+use mathlib.Core.Bool.{Bool, true, false, not, cond, _&&_}
 use Prim.Native.Nat.{ℕ, suc, _+_, _≤_}
 use native.Mathlib.Omega.{arith}
 use mathlib.Core.List.{List, map}
 use lib.ListN.{getD}
 use lib.Dec.{eqb, leb, ltb}
-use borrow.Author.Tests.{leb-true, le-leb, eqb-true, eq-eqb}
+use borrow.Author.Tests.{leb-true, le-leb, eqb-true, eqb-false}
 use Rattle.lists.specs.Tests.{_from_to_, _implies_}
 use Rattle.lists.specs.Lists.{sumBy, only, count}
 use Rattle.lists.proofs.TestLaws.{and-left, and-right, and-both}
@@ -21,9 +21,9 @@ use Rattle.rules.specs.Tick.{nextDay, holdEnds, endHolds, beforeRaising}
 use Rattle.rules.specs.Opening.{dayFits}
 use Rattle.rules.specs.Soundness.{settledFits, rowDayFits, dueWithin, holdFits, requestFits, declineFits, returnedOf, returnedFits, even, closedClear}
 use Rattle.rules.proofs.SoundnessLaws.{Shape, Live, Standing, Counted, Near}
-use Rattle.preservation.proofs.SettledLaws.{settled-near}
+use Rattle.preservation.proofs.SettledLaws.{hold-free, settled-near}
 use Rattle.preservation.proofs.KeepingLaws.{framed-near, framed-map, core}
-use Rattle.preservation.proofs.DisputeKept.{live-released, shape-released}
+use Rattle.preservation.proofs.DisputeKept.{HeldToll, held-is, live-released, shape-released}
 
 -- ---- every row changed in its due day, dispute and hold alone
 
@@ -85,43 +85,42 @@ core-atDawn today r = go (holdEnds today r)
     go true = refl
     go false = refl
 
--- the holds that stay, and what was due: old facts at the new day
-live-stays : (today L : ℕ) (r : Row) → holdEnds (today + 1) r ≡ false → Live today today L r → Live today (today + 1) L r
-unfolding holdEnds settledFits dueWithin holdFits
-live-stays today L r n v = record {
-  settled = v .settled;
-  due = due (eqb (r .kind) 1) (v .due);
-  hold = hold (eqb (r .kind) 1) (eqb (r .dispute) 1) n (v .hold);
-}
-  where
-    due : (t : Bool) → (t implies leb (r .due) (today + L) && cond (unsettled r && not (heldToll r) && ltb (r .mark) 4) (ltb today (r .due)) (leb 1 (r .due))) ≡ true
-        → (t implies leb (r .due) (today + 1 + L) && cond (unsettled r && not (heldToll r) && ltb (r .mark) 4) (ltb today (r .due)) (leb 1 (r .due))) ≡ true
-    due true e = and-both (leb (r .due) (today + 1 + L)) _ (le-leb (r .due) (today + 1 + L) (omega (arith, leb-true (r .due) (today + L) (and-left (leb (r .due) (today + L)) _ e)))) (and-right (leb (r .due) (today + L)) _ e)
-    due false e = refl
-
-    hold : (t d : Bool) → t && d && eqb (r .hold + 30) (today + 1) ≡ false
-        → (t implies cond d (leb 1 (r .hold) && leb today (r .hold + 29) && leb (r .hold) today && unsettled r && leb (r .due) (r .hold + L) && (ltb (r .mark) 4 implies ltb (r .hold) (r .due))) (eqb (r .hold) 0)) ≡ true
-        → (t implies cond d (leb 1 (r .hold) && leb (today + 1) (r .hold + 29) && leb (r .hold) (today + 1) && unsettled r && leb (r .due) (r .hold + L) && (ltb (r .mark) 4 implies ltb (r .hold) (r .due))) (eqb (r .hold) 0)) ≡ true
-    hold true true z e =
-        let a1 : Bool = leb 1 (r .hold) in
-        let a2 : Bool = leb today (r .hold + 29) in
-        let a3 : Bool = leb (r .hold) today in
-        let a4 : Bool = unsettled r in
-        let a5 : Bool = leb (r .due) (r .hold + L) in
-        let e5 = and-left (a1 && a2 && a3 && a4 && a5) _ e in
-        let e4 = and-left (a1 && a2 && a3 && a4) a5 e5 in
-        let e3 = and-left (a1 && a2 && a3) a4 e4 in
-        let h2 : today ≤ r .hold + 29 = leb-true today (r .hold + 29) (and-right a1 a2 (and-left (a1 && a2) a3 e3)) in
-        let h3 : r .hold ≤ today = leb-true (r .hold) today (and-right (a1 && a2) a3 e3) in
-        let ne : r .hold + 30 ≢ today + 1 = λ q. true≢false (sym (eq-eqb (r .hold + 30) (today + 1) q) ∙ z) in
-        rw (and-left a1 a2 (and-left (a1 && a2) a3 e3), le-leb (today + 1) (r .hold + 29) (omega arith), le-leb (r .hold) (today + 1) (omega arith), and-right (a1 && a2 && a3) a4 e4, and-right (a1 && a2 && a3 && a4) a5 e5)
-        (and-right (a1 && a2 && a3 && a4 && a5) _ e)
-    hold true false z e = e
-    hold false d z e = refl
-
 ending : (today : ℕ) (r : Row) → holdEnds today r ≡ true → (r .kind ≡ 1) × (r .dispute ≡ 1)
 unfolding holdEnds
 ending today r e = let h = and-left (heldToll r) _ e in (eqb-true (r .kind) 1 (and-left (eqb (r .kind) 1) _ h), eqb-true (r .dispute) 1 (and-right (eqb (r .kind) 1) _ h))
+
+-- the holds that stay, and what was due: old facts at the new day
+live-stays : (today L : ℕ) (r : Row) → holdEnds (today + 1) r ≡ false → Live today today L r → Live today (today + 1) L r
+unfolding holdEnds settledFits dueWithin holdFits
+live-stays today L r n v = record { settled = v .settled; due = due (eqb (r .kind) 1) (v .due); hold = hold (heldToll r) refl }
+  where
+    later : Bool
+    later = cond (unsettled r && not (heldToll r) && ltb (r .mark) 4) (ltb today (r .due)) (leb 1 (r .due))
+
+    due : (t : Bool) → t implies leb (r .due) (today + L) && later ≡ true → t implies leb (r .due) (today + 1 + L) && later ≡ true
+    due true e =
+        let l : r .due ≤ today + L = leb-true (r .due) (today + L) (and-left (leb (r .due) (today + L)) later e) in
+        and-both (leb (r .due) (today + 1 + L)) later (le-leb (r .due) (today + 1 + L) (omega arith)) (and-right (leb (r .due) (today + L)) later e)
+    due false e = refl
+
+    hold : (t : Bool) → heldToll r ≡ t → holdFits (today + 1) L r ≡ true
+    hold true e =
+        let k : r .kind ≡ 1 = eqb-true (r .kind) 1 (and-left (eqb (r .kind) 1) _ e) in
+        let d : r .dispute ≡ 1 = eqb-true (r .dispute) 1 (and-right (eqb (r .kind) 1) _ e) in
+        let w : HeldToll today L r = held-is today L r k d (v .hold) in
+        let recent : today ≤ r .hold + 29 = w .recent in
+        let begun : r .hold ≤ today = w .begun in
+        let ne : r .hold + 30 ≢ today + 1 = eqb-false (r .hold + 30) (today + 1) (rw e at n) in
+        rw (
+          k,
+          d,
+          le-leb 1 (r .hold) (w .start),
+          le-leb (today + 1) (r .hold + 29) (omega arith),
+          le-leb (r .hold) (today + 1) (omega arith),
+          w .open-still,
+          le-leb (r .due) (r .hold + L) (w .due-by),
+        ) (w .due-after)
+    hold false e = hold-free (eqb (r .kind) 1) (eqb (r .dispute) 1) _ _ (eqb (r .hold) 0) e (v .hold)
 
 live-atDawn : (today L : ℕ) (r : Row) → Live today today L r → Live today (today + 1) L (atDawn (today + 1) r)
 live-atDawn today L r v = go (holdEnds (today + 1) r) refl

@@ -10,6 +10,7 @@ use lib.Dec.{eqb, leb}
 use borrow.Author.Tests.{leb-true, le-leb, ltb-false, eqb-true, not-false}
 use Rattle.lists.specs.Tests.{_from_to_}
 use Rattle.lists.proofs.TestLaws.{and-left, and-right, and-both, or-left, or-right}
+use Rattle.rules.specs.Limits.{finalDay}
 use Rattle.rules.specs.Rows.{Row, blank}
 use Rattle.rules.specs.Book.{Account, unused, Instruction, Book, account, row, putAccount, putRow}
 use Rattle.rules.specs.Opening.{dayFits}
@@ -23,7 +24,7 @@ module _ (past : ℕ) (b : Book) (s : Near past b) where
 
   pub day-from : leb 1 (b .day) ≡ true
   unfolding dayFits
-  day-from = and-left (leb 1 (b .day)) (leb (b .day) 36_525) (s .day)
+  day-from = and-left (leb 1 (b .day)) (leb (b .day) finalDay) (s .day)
 
   pub day-positive : 1 ≤ b .day
   day-positive = leb-true 1 (b .day) day-from

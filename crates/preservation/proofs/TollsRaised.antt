@@ -5,7 +5,7 @@ use mathlib.Core.Bool.{Bool, true, false, not, cond, _&&_, true≢false}
 use Prim.Native.Nat.{ℕ, zero, suc, _+_, _-_, _≤_, _<_}
 use native.Mathlib.Nat.{add-zero}
 use native.Mathlib.Omega.{arith}
-use mathlib.Core.List.{List, [], _∷_, _++_, map}
+use mathlib.Core.List.{List, _++_, map}
 use lib.ListN.{length, getD}
 use lib.Dec.{eqb, leb, ltb}
 use borrow.Author.Tests.{leb-true, le-leb, ltb-true, lt-ltb, eqb-true, eq-eqb, ne-eqb, not-true}
@@ -14,6 +14,7 @@ use Rattle.lists.specs.Lists.{sumBy, only, count, one, gather}
 use Rattle.lists.proofs.TestLaws.{and-left, and-right, and-both, and-false, cond-zero, cond-both}
 use Rattle.lists.proofs.SumLaws.{sumBy-append, sumBy-map, sumBy-ext, sumBy-at-le}
 use Rattle.lists.proofs.GatherLaws.{gather-none, gather-only, gather-each, grown-each}
+use Rattle.rules.specs.Limits.{highestFee}
 use Rattle.rules.specs.Schedule.{Schedule, stageFee}
 use Rattle.rules.specs.Rows.{Row, Test, Fee, blank, rowNo, newRow, withDue, withMark, withReference, remaining, unsettled, heldToll, feeNaming, sourceOf, debitOf}
 use Rattle.rules.specs.Settlement.{money, used, paid, owed}
@@ -134,9 +135,9 @@ module _ (s : Schedule) (today : ℕ) where
     abbrev newFee : ℕ → Row → Row
     newFee n x = withReference n (newRow Fee (x .account) today (stageFee s (x .mark + 1)))
 
-    late-zero : (g : Row → ℕ) (n : ℕ) (x : Row) → (gets x ≡ true → g (newFee n x) ≡ 0) → sumBy g (feeRow s today n x) ≡ 0
+    fee-zero : (g : Row → ℕ) (n : ℕ) (x : Row) → (gets x ≡ true → g (newFee n x) ≡ 0) → sumBy g (feeRow s today n x) ≡ 0
     unfolding sumBy feeRow
-    late-zero g n x f = go (gets x) f
+    fee-zero g n x f = go (gets x) f
       where
         go : (t : Bool) → (t ≡ true → g (newFee n x) ≡ 0) → sumBy g (one t (newFee n x)) ≡ 0
         go true f = omega (arith, f refl)
@@ -144,7 +145,7 @@ module _ (s : Schedule) (today : ℕ) where
 
     same-later : (g : Row → ℕ) → ((r : Row) → g (raise s today r) ≡ g r) → ((n a m : ℕ) → g (withReference n (newRow Fee a today m)) ≡ 0) → sumBy g (later ++ added) ≡ sumBy g rows
     unfolding feeRow
-    same-later g f z = sum-later g f ∙ rw (gather-none (feeRow s today) g 1 rows blank (λ n k e l. late-zero g n (getD rows k blank) (λ q. z n _ _)), add-zero)
+    same-later g f z = sum-later g f ∙ rw (gather-none (feeRow s today) g 1 rows blank (λ n k e l. fee-zero g n (getD rows k blank) (λ q. z n _ _)), add-zero)
 
     count-later : (t : Test) → ((r : Row) → t (raise s today r) ≡ t r) → ((n a m : ℕ) → t (withReference n (newRow Fee a today m)) ≡ false) → count t (later ++ added) ≡ count t rows
     unfolding count
@@ -163,7 +164,7 @@ module _ (s : Schedule) (today : ℕ) where
         ∙ ap (λ (m : ℕ). sumBy g rows + m) (gather-only (feeRow s today) g (suc k) other 1 rows blank k (omega arith) l ∙ self (rises today (getD rows k blank) && ltb 0 (stageFee s (getD rows k blank .mark + 1))) _)
       where
         other : (m : ℕ) (x : Row) → m ≢ suc k → sumBy (λ r. cond (feeNaming (suc k) r) 1 0) (feeRow s today m x) ≡ 0
-        other m x ne = late-zero (λ r. cond (feeNaming (suc k) r) 1 0) m x (λ q. rw (ne-eqb m (suc k) ne))
+        other m x ne = fee-zero (λ r. cond (feeNaming (suc k) r) 1 0) m x (λ q. rw (ne-eqb m (suc k) ne))
 
         self : (t : Bool) (a : ℕ) → sumBy (λ r. cond (feeNaming (suc k) r) 1 0) (one t (withReference (suc k) (newRow Fee a today (stageFee s (getD rows k blank .mark + 1))))) ≡ cond t 1 0
         self true a = rw (eq-eqb (suc k) (suc k) refl)
@@ -171,29 +172,32 @@ module _ (s : Schedule) (today : ℕ) where
 
     -- ---- a row of before
 
+    -- one fee more has its stage: from stage 2 on
+    room-for-fee : (c m : ℕ) → c ≤ m - 1 → leb (c + cond (ltb 0 (stageFee s (m + 1))) 1 0) (m + 1 - 1) ≡ true
+    unfolding stageFee
+    room-for-fee c zero h = le-leb (c + 0) 0 (omega arith)
+    room-for-fee c (suc m) h = any (ltb 0 (stageFee s (suc m + 1)))
+      where
+        any : (t : Bool) → leb (c + cond t 1 0) (suc m + 1 - 1) ≡ true
+        any true = le-leb (c + 1) (suc m + 1 - 1) (omega arith)
+        any false = le-leb (c + 0) (suc m + 1 - 1) (omega arith)
+
     fees-fit : (k : ℕ) → k < length rows → feesFit rows (suc k) (getD rows k blank) ≡ true → feesFit (later ++ added) (suc k) (raise s today (getD rows k blank)) ≡ true
-    unfolding feesFit raise stageFee
+    unfolding feesFit raise
     fees-fit k l f = rw (fees-later k l) (go (rises today (getD rows k blank)) refl)
       where
         r : Row
         r = getD rows k blank
 
-        go : (t : Bool) → rises today (getD rows k blank) ≡ t
-            → (eqb (cond t (withDue (getD rows k blank .due + s .stage) (withMark (getD rows k blank .mark + 1) (getD rows k blank))) (getD rows k blank) .kind) 1
-            implies leb (count (feeNaming (suc k)) rows + cond (t && ltb 0 (getD (0 ∷ 0 ∷ s .fee2 ∷ s .fee3 ∷ s .fee4 ∷ []) (getD rows k blank .mark + 1) 0)) 1 0)
-            (cond t (withDue (getD rows k blank .due + s .stage) (withMark (getD rows k blank .mark + 1) (getD rows k blank))) (getD rows k blank) .mark - 1)) ≡ true
+        raised : Bool → Row
+        raised t = cond t (withDue (r .due + s .stage) (withMark (r .mark + 1) r)) r
+
+        go : (t : Bool) → rises today r ≡ t
+            → eqb (raised t .kind) 1 implies leb (count (feeNaming (suc k)) rows + cond (t && ltb 0 (stageFee s (r .mark + 1))) 1 0) (raised t .mark - 1) ≡ true
         go true e =
-            let w : Rising today (getD rows k blank) = rising today (getD rows k blank) e in
-            let c : count (feeNaming (suc k)) rows ≤ getD rows k blank .mark - 1 = leb-true _ _ (rw (w .toll) at f) in
-            rw (w .toll) (most-one (getD rows k blank .mark) c)
-          where
-            most-one : (m : ℕ) → count (feeNaming (suc k)) rows ≤ m - 1 → leb (count (feeNaming (suc k)) rows + cond (ltb 0 (getD (0 ∷ 0 ∷ s .fee2 ∷ s .fee3 ∷ s .fee4 ∷ []) (m + 1) 0)) 1 0) (m + 1 - 1) ≡ true
-            most-one zero c = let q : count (feeNaming (suc k)) rows + 0 ≤ 0 + 1 - 1 = omega arith in le-leb _ _ q
-            most-one (suc m) c = any (ltb 0 (getD (0 ∷ 0 ∷ s .fee2 ∷ s .fee3 ∷ s .fee4 ∷ []) (suc m + 1) 0))
-              where
-                any : (t : Bool) → leb (count (feeNaming (suc k)) rows + cond t 1 0) (suc m + 1 - 1) ≡ true
-                any true = let q : count (feeNaming (suc k)) rows + 1 ≤ suc m + 1 - 1 = omega arith in le-leb _ _ q
-                any false = let q : count (feeNaming (suc k)) rows + 0 ≤ suc m + 1 - 1 = omega arith in le-leb _ _ q
+            let w : Rising today r = rising today r e in
+            let c : count (feeNaming (suc k)) rows ≤ r .mark - 1 = leb-true _ _ (rw (w .toll) at f) in
+            rw (w .toll) (room-for-fee (count (feeNaming (suc k)) rows) (r .mark) c)
         go false e = rw add-zero f
 
     mark-raised : (r : Row) → markFits r ≡ true → markFits (raise s today r) ≡ true
@@ -243,7 +247,7 @@ module _ (s : Schedule) (today : ℕ) where
       shape : (n : ℕ) → length rows < n → Shape today xs (later ++ added) n y
       live : Live today today (s .stage) y
 
-    fresh : (xs : List Account) → (leb 1 today ≡ true) → ((j : ℕ) → stageFee s j ≤ 100_000) → (k : ℕ) → k < length rows → Shape today xs rows (suc k) (getD rows k blank) → gets (getD rows k blank) ≡ true
+    fresh : (xs : List Account) → (leb 1 today ≡ true) → ((j : ℕ) → stageFee s j ≤ highestFee) → (k : ℕ) → k < length rows → Shape today xs rows (suc k) (getD rows k blank) → gets (getD rows k blank) ≡ true
         → Fresh xs (newFee (suc k) (getD rows k blank))
     unfolding kindFits amountFits mostOf markFits tollWordsFit noReference rowDayFits accountUsed referenceFits names passageOnce feesFit settledFits dueWithin holdFits
     fresh xs d f k l v e =
@@ -260,7 +264,7 @@ module _ (s : Schedule) (today : ℕ) where
             mark = refl;
             passage = refl;
             fees = refl;
-            amount = and-both (leb 1 amt) _ (and-right (rises today x) _ e) (le-leb amt 100_000 (f (x .mark + 1)));
+            amount = and-both (leb 1 amt) _ (and-right (rises today x) _ e) (le-leb amt highestFee (f (x .mark + 1)));
             day = and-both (leb 1 today) _ d (le-leb today today (omega arith));
             account = v .account;
             reference = rw (lt-ltb (suc k) n (omega arith), kd, ac, eq-eqb (x .account) (x .account) refl);
@@ -268,7 +272,7 @@ module _ (s : Schedule) (today : ℕ) where
           live = record { settled = and-both (leb 0 amt) _ (le-leb 0 amt (omega arith)) refl; due = refl; hold = refl };
         }
 
-    all-fresh : (xs : List Account) → (leb 1 today ≡ true) → ((j : ℕ) → stageFee s j ≤ 100_000) → ((k : ℕ) → k < length rows → Shape today xs rows (suc k) (getD rows k blank))
+    all-fresh : (xs : List Account) → (leb 1 today ≡ true) → ((j : ℕ) → stageFee s j ≤ highestFee) → ((k : ℕ) → k < length rows → Shape today xs rows (suc k) (getD rows k blank))
         → (j : ℕ) → j < length added → Fresh xs (getD added j blank)
     unfolding feeRow
     all-fresh xs d f v = gather-each (feeRow s today) (Fresh xs) 1 rows blank blank
@@ -293,7 +297,7 @@ module _ (s : Schedule) (today : ℕ) where
     }
       where
         none-wanted : owed n rows ≡ 0 → sumBy (only (debitOf n) remaining) added ≡ 0
-        none-wanted z = gather-none (feeRow s today) (only (debitOf n) remaining) 1 rows blank (λ m k e l. late-zero (only (debitOf n) remaining) m (getD rows k blank) (λ q.
+        none-wanted z = gather-none (feeRow s today) (only (debitOf n) remaining) 1 rows blank (λ m k e l. fee-zero (only (debitOf n) remaining) m (getD rows k blank) (λ q.
             let r : Row = getD rows k blank in
             let w : Rising today r = rising today r (and-left (rises today r) _ q) in
             let b : only (debitOf n) remaining r ≤ 0 = omega (arith, sumBy-at-le (only (debitOf n) remaining) rows k blank l) in

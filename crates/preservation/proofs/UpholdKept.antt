@@ -2,7 +2,7 @@
 use mathlib.Core.Path.{_≡_, refl, sym, ap, subst, _∙_}
 use mathlib.Core.Logic.{_≢_}
 use mathlib.Core.Bool.{Bool, true, false, cond, _&&_, false≢true}
-use Prim.Native.Nat.{ℕ, zero, suc, _+_, _-_, _≤_, _<_}
+use Prim.Native.Nat.{ℕ, zero, suc, _+_, _*_, _-_, _≤_, _<_}
 use native.Mathlib.Nat.{add-zero}
 use native.Mathlib.Omega.{arith}
 use native.Mathlib.Decide.{ℕ-discrete}
@@ -149,7 +149,7 @@ module _ (b : Book) (n j m c d x : ℕ) where
         let g : leb (it .mark) 4 ≡ true = rw is-toll at (v .mark) in
         omega (arith, leb-true (count (feeNaming (suc j)) (b .rows)) (it .mark - 1) f, leb-true (it .mark) 4 g)
 
-    fees-le : sumBy (only (feeNaming (suc j)) (λ r. r .amount)) (b .rows) ≤ 300_000
+    fees-le : sumBy (only (feeNaming (suc j)) (λ r. r .amount)) (b .rows) ≤ 3 * highestFee
     unfolding amountFits mostOf
     fees-le =
         let z = sumBy-only-le (feeNaming (suc j)) (λ r. r .amount) highestFee blank (b .rows) (λ i l e.
@@ -248,9 +248,8 @@ module _ (b : Book) (n j m c d x : ℕ) where
         r : Row
         r = getD rows₁ k blank
 
-        go : (t : Bool) → feeNaming (suc j) (getD rows₁ k blank) ≡ t
-            → cond (debitOf n (cond t (settleWhole (getD rows₁ k blank)) (getD rows₁ k blank))) (cond t (settleWhole (getD rows₁ k blank)) (getD rows₁ k blank) .settled) 0
-            ≡ cond (debitOf n (getD rows₁ k blank)) (getD rows₁ k blank .settled) 0 + cond t (remaining (getD rows₁ k blank)) 0
+        go : (t : Bool) → feeNaming (suc j) r ≡ t
+            → cond (debitOf n (cond t (settleWhole r) r)) (cond t (settleWhole r) r .settled) 0 ≡ cond (debitOf n r) (r .settled) 0 + cond t (remaining r) 0
         go true e = let f = fee-facts k l e in rw (f .0, f .1, eq-eqb n n refl) (omega (arith, settled-fits k l))
         go false e = omega arith
 
