@@ -1,12 +1,12 @@
 -- Laws of sums, over any function; a count is a sum, so they are laws of counts too.
 use mathlib.Core.Path.{_≡_, refl}
 use mathlib.Core.Bool.{Bool, true, false, cond}
-use Prim.Native.Nat.{ℕ, zero, suc, _+_, _≤_, _<_}
+use Prim.Native.Nat.{ℕ, zero, suc, _+_, _*_, _≤_, _<_}
 use mathlib.Core.List.{List, [], _∷_, _++_, map}
-use native.Mathlib.Nat.{le-of-suc-le-suc, not-suc-le-zero}
+use native.Mathlib.Nat.{add-mul, one-mul, le-of-suc-le-suc, not-suc-le-zero}
 use native.Mathlib.Omega.{arith}
-use lib.ListN.{length, take, drop, getD, set}
-use Rattle.lists.specs.Lists.{sumBy, count, tabulate}
+use lib.ListN.{length, take, getD, set}
+use Rattle.lists.specs.Lists.{sumBy, only, count, tabulate}
 use Rattle.lists.proofs.ListLaws.{tabulate-more}
 
 module _ {A : Type 0} where
@@ -87,6 +87,34 @@ module _ {A : Type 0} where
   unfolding sumBy
   sumBy-zero f [] e = refl
   sumBy-zero f (x ∷ xs) e = omega (arith, e x, sumBy-zero f xs e)
+
+  pub sumBy-zero-at : (f : A → ℕ) (d : A) (xs : List A) → ((i : ℕ) → i < length xs → f (getD xs i d) ≡ 0) → sumBy f xs ≡ 0
+  unfolding sumBy
+  sumBy-zero-at f d [] e = refl
+  sumBy-zero-at f d (x ∷ xs) e = omega (arith, e 0 (omega arith), sumBy-zero-at f d xs (λ i h. e (suc i) (omega arith)))
+
+  -- the sums of two lists, the second longer, whose elements have the same share, the longer part having none
+  pub sumBy-longer : (f g : A → ℕ) (d : A) (xs ys : List A) → length xs ≤ length ys
+      → ((i : ℕ) → i < length xs → f (getD xs i d) ≡ g (getD ys i d)) → ((i : ℕ) → length xs ≤ i → i < length ys → g (getD ys i d) ≡ 0)
+      → sumBy f xs ≡ sumBy g ys
+  unfolding sumBy
+  sumBy-longer f g d [] [] l e z = refl
+  sumBy-longer f g d [] (y ∷ ys) l e z =
+      omega (arith, z 0 (omega arith) (omega arith), sumBy-longer f g d [] ys (omega arith) (λ i h. absurd (omega arith)) (λ i h q. z (suc i) (omega arith) (omega arith)))
+  sumBy-longer f g d (x ∷ xs) [] l e z = absurd (omega arith)
+  sumBy-longer f g d (x ∷ xs) (y ∷ ys) l e z =
+      omega (arith, e 0 (omega arith), sumBy-longer f g d xs ys (omega arith) (λ i h. e (suc i) (omega arith)) (λ i h q. z (suc i) (omega arith) (omega arith)))
+
+-- a sum over the elements that pass, each of at most so much
+pub sumBy-only-le : {A : Type 0} (t : A → Bool) (f : A → ℕ) (most : ℕ) (d : A) (xs : List A)
+    → ((i : ℕ) → i < length xs → t (getD xs i d) ≡ true → f (getD xs i d) ≤ most) → sumBy (only t f) xs ≤ count t xs * most
+unfolding sumBy only count
+sumBy-only-le t f most d [] h = omega arith
+sumBy-only-le t f most d (x ∷ xs) h = go (t x) (h 0 (omega arith)) (sumBy-only-le t f most d xs (λ i l. h (suc i) (omega arith)))
+  where
+    go : (b : Bool) → (b ≡ true → f x ≤ most) → sumBy (only t f) xs ≤ count t xs * most → cond b (f x) 0 + sumBy (only t f) xs ≤ (cond b 1 0 + count t xs) * most
+    go true g ih = omega (arith, g refl, add-mul 1 (count t xs) most, one-mul most)
+    go false g ih = omega arith
 
 -- no more elements pass than there are
 pub count-le : {A : Type 0} (t : A → Bool) (xs : List A) → count t xs ≤ length xs

@@ -1,6 +1,6 @@
 -- Laws of tests, of conjunctions and of tables of cases.
 use mathlib.Core.Path.{_≡_, refl}
-use mathlib.Core.Bool.{Bool, true, false, not, cond, _&&_, _||_, false≢true}
+use mathlib.Core.Bool.{Bool, true, false, not, cond, _&&_, _||_, false≢true, true≢false}
 use Prim.Native.Nat.{ℕ, zero, suc, _<_}
 use native.Mathlib.Omega.{arith}
 use mathlib.Core.List.{List, [], _∷_}
@@ -19,6 +19,34 @@ and-right false b e = absurd (false≢true e)
 
 pub and-both : (a b : Bool) → a ≡ true → b ≡ true → a && b ≡ true
 and-both a b p q = rw p q
+
+pub and-false : (b : Bool) → b && false ≡ false
+and-false true = refl
+and-false false = refl
+
+-- ---- _||_
+
+pub or-left : (a b : Bool) → a || b ≡ false → a ≡ false
+or-left true b e = e
+or-left false b e = refl
+
+pub or-right : (a b : Bool) → a || b ≡ false → b ≡ false
+or-right true b e = absurd (true≢false e)
+or-right false b e = e
+
+pub or-true : (b : Bool) → b || true ≡ true
+or-true true = refl
+or-true false = refl
+
+-- ---- cond
+
+pub cond-zero : (b : Bool) (n : ℕ) → n ≡ 0 → cond b n 0 ≡ 0
+cond-zero true n e = e
+cond-zero false n e = refl
+
+pub cond-both : (c a b : Bool) → a ≡ true → b ≡ true → cond c a b ≡ true
+cond-both true a b p q = p
+cond-both false a b p q = q
 
 -- ---- _implies_
 

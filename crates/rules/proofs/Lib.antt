@@ -1,6 +1,7 @@
 pub mod AllocationLaws
 pub mod SettlementLaws
 pub mod SettlementStepsLaws
+pub mod SettlementAccountsLaws
 pub mod SoundnessLaws
 pub mod PostingLaws
 pub mod Computing

@@ -1,0 +1,81 @@
+-- Sound stays sound: after every accepted event, every posting and every list of events.
+use mathlib.Core.Path.{_≡_, refl}
+use mathlib.Core.Bool.{Bool, true, false, cond, true≢false}
+use Prim.Native.Nat.{ℕ, zero, suc}
+use mathlib.Core.List.{List, [], _∷_}
+use lib.Dec.{eqb}
+use borrow.Author.Tests.{eqb-true}
+use Rattle.rules.specs.Book.{Instruction, Book}
+use Rattle.rules.specs.Events.{openAccount, postToll, postPayment, returnCheck, holdToll, decide, uphold, reject, topUpResult, payTopUp, declineTopUp, requestClose}
+use Rattle.rules.specs.Soundness.{sound}
+use Rattle.rules.specs.Refusals.{changeOf, after, wellFormed, formOf, answerNumber}
+use Rattle.rules.specs.Posting.{post, bookAfter}
+use Rattle.rules.proofs.PostingLaws.{post-refused, post-accepted}
+use Rattle.rules.proofs.SoundnessLaws.{Near, Sound, sound-facts, facts-sound}
+use Rattle.preservation.proofs.Accepted.{Accepted, accepted}
+use Rattle.preservation.proofs.SettledLaws.{settled-sound}
+use Rattle.preservation.proofs.AccountKept.{openAccount-near, requestClose-near}
+use Rattle.preservation.proofs.TollKept.{postToll-near}
+use Rattle.preservation.proofs.PaymentKept.{postPayment-near, topUpResult-near}
+use Rattle.preservation.proofs.ReturnKept.{returnCheck-near}
+use Rattle.preservation.proofs.DisputeKept.{holdToll-near}
+use Rattle.preservation.proofs.UpholdKept.{decide-near}
+use Rattle.preservation.proofs.TickKept.{tick-near}
+
+-- ---- the nine events by their kind
+
+-- events 1 to 8 leave the day
+module _ (b : Book) (e : Instruction) where
+  day-decide : decide b e .day ≡ b .day
+  unfolding decide uphold reject
+  day-decide = go (eqb (e .b) 1)
+    where
+      go : (t : Bool) → cond t (uphold b e) (reject b e) .day ≡ b .day
+      go true = refl
+      go false = refl
+
+  day-topUpResult : topUpResult b e .day ≡ b .day
+  unfolding topUpResult payTopUp declineTopUp
+  day-topUpResult = go (eqb (e .b) 1)
+    where
+      go : (t : Bool) → cond t (payTopUp b e) (declineTopUp b e) .day ≡ b .day
+      go true = refl
+      go false = refl
+
+change-near : (b : Book) (k n a m c d x : ℕ) → Near (b .day) b → Accepted b (record { kind = k; account = n; a = a; b = m; c = c; d = d; e = x })
+    → Near (changeOf k b (record { kind = k; account = n; a = a; b = m; c = c; d = d; e = x }) .day) (changeOf k b (record { kind = k; account = n; a = a; b = m; c = c; d = d; e = x }))
+unfolding changeOf openAccount postToll postPayment returnCheck holdToll decide topUpResult requestClose wellFormed formOf
+change-near b zero n a m c d x s q = absurd (true≢false (q .formed))
+change-near b (suc zero) n a m c d x s q = openAccount-near b n a m c d x s q
+change-near b (suc (suc zero)) n a m c d x s q = postToll-near b n a m c d x s q
+change-near b (suc (suc (suc zero))) n a m c d x s q = postPayment-near b n a m c d x s q
+change-near b (suc (suc (suc (suc zero)))) n a m c d x s q = returnCheck-near b n a m c d x s q
+change-near b (suc (suc (suc (suc (suc zero))))) n a m c d x s q = holdToll-near b n a m c d x s q
+change-near b (suc (suc (suc (suc (suc (suc zero)))))) n a m c d x s q = rw (day-decide b (record { kind = 6; account = n; a = a; b = m; c = c; d = d; e = x })) (decide-near b n a m c d x s q)
+change-near b (suc (suc (suc (suc (suc (suc (suc zero))))))) n a m c d x s q = rw (day-topUpResult b (record { kind = 7; account = n; a = a; b = m; c = c; d = d; e = x })) (topUpResult-near b n a m c d x s q)
+change-near b (suc (suc (suc (suc (suc (suc (suc (suc zero)))))))) n a m c d x s q = requestClose-near b n a m c d x s q
+change-near b (suc (suc (suc (suc (suc (suc (suc (suc (suc zero))))))))) n a m c d x s q = tick-near b n a m c d x s q
+change-near b (suc (suc (suc (suc (suc (suc (suc (suc (suc (suc k)))))))))) n a m c d x s q = absurd (true≢false (q .formed))
+
+-- ---- after
+
+pub after-sound : (b : Book) (e : Instruction) → Sound b → Accepted b e → Sound (after b e)
+unfolding after
+after-sound b e s q = settled-sound (changeOf (e .kind) b e) (change-near b (e .kind) (e .account) (e .a) (e .b) (e .c) (e .d) (e .e) (s .near) q)
+
+pub after-keeps-sound : (b : Book) (e : Instruction) → sound b ≡ true → answerNumber b e ≡ 0 → sound (after b e) ≡ true
+after-keeps-sound b e s q = facts-sound (after b e) (after-sound b e (sound-facts b s) (accepted b e q))
+
+-- ---- post and bookAfter
+
+pub post-keeps-sound : (b : Book) (e : Instruction) → sound b ≡ true → sound (post b e .book) ≡ true
+post-keeps-sound b e s = go (eqb (answerNumber b e) 0) refl
+  where
+    go : (t : Bool) → eqb (answerNumber b e) 0 ≡ t → sound (post b e .book) ≡ true
+    go true q = rw (post-accepted b e q) (after-keeps-sound b e s (eqb-true (answerNumber b e) 0 q))
+    go false q = rw (post-refused b e q) s
+
+pub bookAfter-keeps-sound : (b : Book) (es : List Instruction) → sound b ≡ true → sound (bookAfter b es) ≡ true
+unfolding bookAfter
+bookAfter-keeps-sound b [] s = s
+bookAfter-keeps-sound b (e ∷ es) s = bookAfter-keeps-sound (post b e .book) es (post-keeps-sound b e s)

@@ -1,0 +1,140 @@
+-- Laws of settlement of several accounts: settling one leaves the sums of another, every count and every field but settled.
+use mathlib.Core.Path.{_≡_, refl, sym, ap, _∙_}
+use mathlib.Core.Logic.{_≢_}
+use mathlib.Core.Bool.{Bool, true, false, not, cond, _&&_}
+use Prim.Native.Nat.{ℕ, zero, suc, _<_}
+use native.Mathlib.Omega.{arith}
+use native.Mathlib.Decide.{ℕ-discrete}
+use mathlib.Core.List.{List, map}
+use lib.ListN.{length, getD}
+use lib.Dec.{eqb}
+use borrow.Author.Tests.{eqb-true, ne-eqb}
+use Rattle.lists.specs.Lists.{sumBy, only, count}
+use Rattle.lists.proofs.SumLaws.{sumBy-ext, sumBy-map}
+use Rattle.rules.specs.Rows.{Row, Test, blank, source, debit, held, rowNo, remaining, sourceOf, debitOf, payable}
+use Rattle.rules.specs.Settlement.{allocate, money, debt, moved, pay, settle, settleAccounts, used, paid, owed}
+use Rattle.rules.proofs.AllocationLaws.{bare, Steady, Apart, other-allocate}
+use Rattle.rules.proofs.SettlementLaws.{payable-pay, settle-spent, settle-same, settle-bare, settle-row, length-settle}
+
+-- ---- another account's sums stay
+
+-- no row is of two accounts
+of-two : (x a b : ℕ) → a ≢ b → (s d : Bool) → (eqb x a && s) && (eqb x b && d) ≡ false
+of-two x a b n s d = go (eqb x a) (eqb x b) s refl refl
+  where
+    go : (p q s : Bool) → eqb x a ≡ p → eqb x b ≡ q → (p && s) && (q && d) ≡ false
+    go true true s e f = absurd (n (sym (eqb-true x a e) ∙ eqb-true x b f))
+    go true false true e f = refl
+    go true false false e f = refl
+    go false q s e f = refl
+
+module _ (a b : ℕ) (ne : a ≢ b) (v : Test) (s : Steady v) where
+  u : Test
+  u r = eqb (r .account) b && v r
+
+  u-steady : Steady u
+  unfolding u
+  u-steady r k = rw (s r k)
+
+  source-u : Apart (sourceOf a) u
+  unfolding u sourceOf
+  source-u r = of-two (r .account) a b ne (source r) (v r)
+
+  payable-u : (rows : List Row) → Apart (payable rows a) u
+  unfolding u payable
+  payable-u rows r = of-two (r .account) a b ne (debit r && not (held rows r)) (v r)
+
+  pub other-pay : (f : Row → ℕ) (n : ℕ) (rows : List Row)
+      → sumBy (only (λ r. eqb (r .account) b && v r) f) (pay a n rows) ≡ sumBy (only (λ r. eqb (r .account) b && v r) f) rows
+  unfolding u pay
+  other-pay f n rows =
+      other-allocate (payable rows a) u f (payable-u rows) u-steady n (allocate (sourceOf a) n rows)
+      ∙ other-allocate (sourceOf a) u f source-u u-steady n rows
+
+module _ (a b : ℕ) (ne : a ≢ b) (rows : List Row) where
+  pub used-other : used b (settle a rows) ≡ used b rows
+  unfolding used sourceOf settle
+  used-other = other-pay a b ne source (λ r k. refl) (λ r. r .settled) (moved a rows) rows
+
+  pub money-other : money b (settle a rows) ≡ money b rows
+  unfolding money sourceOf settle
+  money-other = other-pay a b ne source (λ r k. refl) remaining (moved a rows) rows
+
+  pub paid-other : paid b (settle a rows) ≡ paid b rows
+  unfolding paid debitOf settle
+  paid-other = other-pay a b ne debit (λ r k. refl) (λ r. r .settled) (moved a rows) rows
+
+  pub owed-other : owed b (settle a rows) ≡ owed b rows
+  unfolding owed debitOf settle
+  owed-other = other-pay a b ne debit (λ r k. refl) remaining (moved a rows) rows
+
+  pub debt-other : debt b (settle a rows) ≡ debt b rows
+  unfolding debt settle
+  debt-other = rw (payable-pay a b (moved a rows) rows) debt-kept
+    where
+      debt-kept : sumBy (only (payable rows b) remaining) (pay a (moved a rows) rows) ≡ sumBy (only (payable rows b) remaining) rows
+      debt-kept = unfold payable held in other-pay a b ne (λ r. debit r && not (held rows r)) (λ r k. refl) remaining (moved a rows) rows
+
+  pub moved-other : moved b (settle a rows) ≡ moved b rows
+  unfolding moved
+  moved-other = rw (money-other, debt-other)
+
+-- ---- what does not look at what is settled stays
+
+pub sum-settle : (f : Row → ℕ) → ((r : Row) → f (bare r) ≡ f r) → (a : ℕ) (rows : List Row) → sumBy f (settle a rows) ≡ sumBy f rows
+sum-settle f s a rows =
+    sumBy-ext f (λ r. f (bare r)) (settle a rows) (λ r. sym (s r)) ∙ sym (sumBy-map f bare (settle a rows))
+    ∙ ap (sumBy f) (settle-bare a rows)
+    ∙ sumBy-map f bare rows ∙ sumBy-ext (λ r. f (bare r)) f rows s
+
+pub count-settle : (t : Test) → ((r : Row) → t (bare r) ≡ t r) → (a : ℕ) (rows : List Row) → count t (settle a rows) ≡ count t rows
+unfolding count
+count-settle t s a rows = sum-settle (λ r. cond (t r) 1 0) (λ r. rw (s r)) a rows
+
+pub named-settle : (a : ℕ) (rows : List Row) (j : ℕ) → bare (rowNo (settle a rows) j) ≡ bare (rowNo rows j)
+named-settle a rows zero = refl
+named-settle a rows (suc i) = settle-row a rows i .kept
+
+-- ---- settleAccounts
+
+pub length-settleAccounts : (n : ℕ) (rows : List Row) → length (settleAccounts n rows) ≡ length rows
+unfolding settleAccounts
+length-settleAccounts zero rows = refl
+length-settleAccounts (suc n) rows = length-settle (suc n) (settleAccounts n rows) ∙ length-settleAccounts n rows
+
+pub settleAccounts-bare : (n : ℕ) (rows : List Row) → map bare (settleAccounts n rows) ≡ map bare rows
+unfolding settleAccounts
+settleAccounts-bare zero rows = refl
+settleAccounts-bare (suc n) rows = settle-bare (suc n) (settleAccounts n rows) ∙ settleAccounts-bare n rows
+
+-- of each account one side is spent
+pub settleAccounts-spent : (n : ℕ) (rows : List Row) (k : ℕ) → k < n → moved (suc k) (settleAccounts n rows) ≡ 0
+unfolding settleAccounts
+settleAccounts-spent zero rows k h = absurd (omega arith)
+settleAccounts-spent (suc n) rows k h = go (ℕ-discrete k n) (settleAccounts-spent n rows k)
+  where
+    go : Dec (k ≡ n) → (k < n → moved (suc k) (settleAccounts n rows) ≡ 0) → moved (suc k) (settle (suc n) (settleAccounts n rows)) ≡ 0
+    go (yes q) ih = rw q (settle-spent (suc n) (settleAccounts n rows))
+    go (no q) ih = moved-other (suc n) (suc k) (λ e. q (omega arith)) (settleAccounts n rows) ∙ ih (omega arith)
+
+-- where nothing can move in an account, settlement moves nothing in it and leaves its rows
+pub settleAccounts-none : (a n : ℕ) (rows : List Row) → moved a rows ≡ 0 → moved a (settleAccounts n rows) ≡ 0
+unfolding settleAccounts
+settleAccounts-none a zero rows z = z
+settleAccounts-none a (suc n) rows z = go (ℕ-discrete a (suc n)) (settleAccounts-none a n rows z)
+  where
+    go : Dec (a ≡ suc n) → moved a (settleAccounts n rows) ≡ 0 → moved a (settle (suc n) (settleAccounts n rows)) ≡ 0
+    go (yes q) ih = rw q (settle-spent (suc n) (settleAccounts n rows))
+    go (no q) ih = moved-other (suc n) a (λ e. q (sym e)) (settleAccounts n rows) ∙ ih
+
+pub settleAccounts-still : (a n : ℕ) (rows : List Row) (i : ℕ) → getD rows i blank .account ≡ a → moved a rows ≡ 0
+    → getD (settleAccounts n rows) i blank ≡ getD rows i blank
+unfolding settleAccounts
+settleAccounts-still a zero rows i e z = refl
+settleAccounts-still a (suc n) rows i e z = go (ℕ-discrete a (suc n)) (settleAccounts-still a n rows i e z)
+  where
+    go : Dec (a ≡ suc n) → getD (settleAccounts n rows) i blank ≡ getD rows i blank → getD (settle (suc n) (settleAccounts n rows)) i blank ≡ getD rows i blank
+    go (yes q) ih = let m : moved (suc n) (settleAccounts n rows) ≡ 0 = rw q at (settleAccounts-none a n rows z) in rw (settle-same (suc n) (settleAccounts n rows) m) ih
+    go (no q) ih =
+        let o : getD (settleAccounts n rows) i blank .account ≡ a = ap (λ (r : Row). r .account) ih ∙ e in
+        settle-row (suc n) (settleAccounts n rows) i .others (ne-eqb (getD (settleAccounts n rows) i blank .account) (suc n) (λ w. q (sym o ∙ w))) ∙ ih
