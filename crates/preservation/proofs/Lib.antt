@@ -21,3 +21,4 @@ pub mod SoundKept
 pub mod CallsKept
 pub mod EventFrame
 pub mod PostFrame
+pub mod NamedLaws

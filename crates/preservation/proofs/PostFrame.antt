@@ -64,7 +64,7 @@ module _ (b : Book) (s : Near (b .day) b) (n : ℕ) (rows′ : List Row) (o : Ot
 
 -- ---- settlement moves nothing in another account
 
-spent-moved : (rows : List Row) (n : ℕ) → spent rows n ≡ true → moved n rows ≡ 0
+pub spent-moved : (rows : List Row) (n : ℕ) → spent rows n ≡ true → moved n rows ≡ 0
 unfolding spent moved
 spent-moved rows n e = go (eqb (money n rows) 0) refl e
   where

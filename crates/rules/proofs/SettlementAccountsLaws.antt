@@ -2,7 +2,7 @@
 use mathlib.Core.Path.{_≡_, refl, sym, ap, _∙_}
 use mathlib.Core.Logic.{_≢_}
 use mathlib.Core.Bool.{Bool, true, false, not, cond, _&&_}
-use Prim.Native.Nat.{ℕ, zero, suc, _<_}
+use Prim.Native.Nat.{ℕ, zero, suc, _≤_, _<_}
 use native.Mathlib.Omega.{arith}
 use native.Mathlib.Decide.{ℕ-discrete}
 use mathlib.Core.List.{List, map}
@@ -138,3 +138,24 @@ settleAccounts-still a (suc n) rows i e z = go (ℕ-discrete a (suc n)) (settleA
     go (no q) ih =
         let o : getD (settleAccounts n rows) i blank .account ≡ a = ap (λ (r : Row). r .account) ih ∙ e in
         settle-row (suc n) (settleAccounts n rows) i .others (ne-eqb (getD (settleAccounts n rows) i blank .account) (suc n) (λ w. q (sym o ∙ w))) ∙ ih
+
+-- where no account has something to move, settlement is the identity; where one has, it is that account's
+pub settleAccounts-same : (n : ℕ) (rows : List Row) → ((m : ℕ) → 1 ≤ m → m ≤ n → moved m rows ≡ 0) → settleAccounts n rows ≡ rows
+unfolding settleAccounts
+settleAccounts-same zero rows z = refl
+settleAccounts-same (suc n) rows z =
+    rw (settleAccounts-same n rows (λ m l h. z m l (omega arith))) (settle-same (suc n) rows (z (suc n) (omega arith) (omega arith)))
+
+pub settleAccounts-one : (a n : ℕ) (rows : List Row) → 1 ≤ a → a ≤ n → ((m : ℕ) → 1 ≤ m → m ≤ n → m ≢ a → moved m rows ≡ 0) → settleAccounts n rows ≡ settle a rows
+unfolding settleAccounts
+settleAccounts-one a zero rows l h z = absurd (omega arith)
+settleAccounts-one a (suc n) rows l h z = go (ℕ-discrete (suc n) a) (λ q. settleAccounts-one a n rows l q (λ m i j ne. z m i (omega arith) ne))
+  where
+    go : Dec (suc n ≡ a) → (a ≤ n → settleAccounts n rows ≡ settle a rows) → settle (suc n) (settleAccounts n rows) ≡ settle a rows
+    go (yes e) ih =
+        let s : settleAccounts n rows ≡ rows = settleAccounts-same n rows (λ m i j. z m i (omega arith) (λ w. omega arith)) in
+        rw (s, e)
+    go (no ne) ih =
+        let s : settleAccounts n rows ≡ settle a rows = ih (omega arith) in
+        let q : moved (suc n) (settle a rows) ≡ 0 = moved-other a (suc n) (λ w. ne (sym w)) rows ∙ z (suc n) (omega arith) (omega arith) ne in
+        rw s (settle-same (suc n) (settle a rows) q)
