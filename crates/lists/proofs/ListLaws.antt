@@ -2,13 +2,13 @@
 use mathlib.Core.Path.{_≡_, refl, sym, ap, _∙_}
 use mathlib.Core.Logic.{_≢_}
 use mathlib.Core.Bool.{Bool, true, _&&_}
-use Prim.Native.Nat.{ℕ, zero, suc, _+_, _≤_, _<_}
+use Prim.Native.Nat.{ℕ, zero, suc, _+_, _-_, _≤_, _<_}
 use native.Mathlib.Nat.{le-of-suc-le-suc, not-suc-le-zero}
 use native.Mathlib.Omega.{arith}
 use native.Mathlib.Decide.{ℕ-discrete}
 use native.Mathlib.Numerals.{add-one}
 use mathlib.Core.List.{List, [], _∷_, _++_, map, map-append}
-use lib.ListN.{length, getD, set, take, drop, replicate, length-append, List·getD-append}
+use lib.ListN.{length, getD, set, take, drop, replicate, length-append, List·getD-append, List·getD-eq-default}
 use lib.Seq.{set-append-left, set-at, getD-at, getD-drop, take-suc, drop-cons}
 use Rattle.lists.specs.Lists.{everyFrom, tabulate}
 use Rattle.lists.proofs.TestLaws.{and-left, and-right, and-both}
@@ -70,6 +70,14 @@ module _ {A : Type 0} where
         | yes p ↦ rw (set-at (tabulate g n) (g n) [] a i (length-tabulate g n ∙ sym p), tabulate-same f g n (λ k q. o k (λ w. omega arith)), ← p, e)
         | no q ↦ rw (set-append-left (tabulate g n) (g n ∷ []) i a (rw length-tabulate (omega arith)), ← tabulate-set f g n i a (omega arith) e o, o n (λ w. q (sym w)))
       ]
+
+  -- the values numbered from 1, with another where there is none
+  pub numbered-at : (f : ℕ → A) (n k : ℕ) (d : A) → (k ≡ 0 → ⊥) → k ≤ n → getD (d ∷ tabulate f n) k d ≡ f (k - 1)
+  numbered-at f n zero d q h = absurd (q refl)
+  numbered-at f n (suc k) d q h = let z : suc k - 1 ≡ k = omega arith in rw z (tabulate-at f n k d (omega arith))
+
+  pub numbered-past : (f : ℕ → A) (n k : ℕ) (d : A) → n < k → getD (d ∷ tabulate f n) k d ≡ d
+  numbered-past f n k d h = List·getD-eq-default (d ∷ tabulate f n) d {n = k} (rw length-tabulate h)
 
   -- a list is the table of its own elements
   pub tabulate-getD : (xs : List A) (a n : ℕ) (d : A) → a + n ≤ length xs → tabulate (λ j. getD xs (a + j) d) n ≡ take n (drop a xs)

@@ -6,7 +6,8 @@ use mathlib.Core.List.{List, [], _∷_, _++_, map}
 use native.Mathlib.Nat.{le-of-suc-le-suc, not-suc-le-zero}
 use native.Mathlib.Omega.{arith}
 use lib.ListN.{length, take, drop, getD, set}
-use Rattle.lists.specs.Lists.{sumBy, count}
+use Rattle.lists.specs.Lists.{sumBy, count, tabulate}
+use Rattle.lists.proofs.ListLaws.{tabulate-more}
 
 module _ {A : Type 0} where
   pub sumBy-append : (f : A → ℕ) (xs ys : List A) → sumBy f (xs ++ ys) ≡ sumBy f xs + sumBy f ys
@@ -17,6 +18,10 @@ module _ {A : Type 0} where
   pub sumBy-snoc : (f : A → ℕ) (xs : List A) (x : A) → sumBy f (xs ++ (x ∷ [])) ≡ sumBy f xs + f x
   unfolding sumBy
   sumBy-snoc f xs x = omega (arith, sumBy-append f xs (x ∷ []))
+
+  -- one value more of a tabulated list
+  pub sumBy-more : (f : A → ℕ) (g : ℕ → A) (n : ℕ) → sumBy f (tabulate g (n + 1)) ≡ sumBy f (tabulate g n) + f (g n)
+  sumBy-more f g n = rw (tabulate-more, sumBy-snoc)
 
   -- a store takes the old element's share away and puts the new one's in
   pub sumBy-set : (f : A → ℕ) (xs : List A) (i : ℕ) (v d : A) → i < length xs → sumBy f (set xs i v) + f (getD xs i d) ≡ sumBy f xs + f v

@@ -1,0 +1,6 @@
+// Words, rows and accounts of the lent tables, read and written as values. Negative words and words past every limit are met here
+// and nowhere above. Uses lists, records and rules.
+pub mod layout; // layout.rt: the widths and places of the tables' words
+pub mod words; // words.rt: one word
+pub mod rows; // rows.rt: a row of the journal
+pub mod accounts; // accounts.rt: an account of the accounts' table
