@@ -1,11 +1,11 @@
 -- Laws of tests, of conjunctions and of tables of cases.
-use mathlib.Core.Path.{_≡_, refl}
-use mathlib.Core.Bool.{Bool, true, false, cond, _&&_, false≢true}
+use mathlib.Core.Path.{_≡_, refl, sym, _∙_}
+use mathlib.Core.Bool.{Bool, true, false, not, cond, _&&_, _||_, false≢true, or-false, and-true, and-assoc}
 use Prim.Native.Nat.{ℕ, zero, suc, _<_}
 use native.Mathlib.Omega.{arith}
 use mathlib.Core.List.{List, [], _∷_}
 use lib.ListN.{length, getD}
-use Rattle.lists.specs.Tests.{allOf, Cases, first}
+use Rattle.lists.specs.Tests.{_implies_, allOf, Cases, first}
 
 -- ---- _&&_
 
@@ -20,6 +20,16 @@ and-right false b e = absurd (false≢true e)
 pub and-both : (a b : Bool) → a ≡ true → b ≡ true → a && b ≡ true
 and-both a b p q = rw p q
 
+-- ---- tests without branches
+
+pub or-implies : (a b : Bool) → not a || b ≡ a implies b
+or-implies true b = refl
+or-implies false b = refl
+
+pub or-cond : (t a b : Bool) → t && a || not t && b ≡ cond t a b
+or-cond true a b = or-false a
+or-cond false a b = refl
+
 -- ---- allOf
 
 -- each test of a conjunction that holds
@@ -28,6 +38,16 @@ unfolding allOf
 allOf-at [] e k = refl
 allOf-at (t ∷ ts) e zero = and-left t (allOf ts) e
 allOf-at (t ∷ ts) e (suc k) = allOf-at ts (and-right t (allOf ts) e) k
+
+-- the same from the left, as code joins tests; on a list that is written out it computes
+abbrev pub allLeft : Bool → List Bool → Bool
+allLeft b [] = b
+allLeft b (t ∷ ts) = allLeft (b && t) ts
+
+pub all-left : (b : Bool) (ts : List Bool) → allLeft b ts ≡ allOf (b ∷ ts)
+unfolding allOf
+all-left b [] = sym (and-true b)
+all-left b (t ∷ ts) = all-left (b && t) ts ∙ and-assoc b t (allOf ts)
 
 -- ---- first
 
