@@ -1,7 +1,7 @@
 -- Laws of the numbered walks and of tabulated lists.
 use mathlib.Core.Path.{_≡_, refl, sym, ap, _∙_}
 use mathlib.Core.Logic.{_≢_}
-use mathlib.Core.Bool.{Bool, true}
+use mathlib.Core.Bool.{Bool, true, false, _&&_, false≢true, and-true, and-assoc}
 use Prim.Native.Nat.{ℕ, zero, suc, _+_, _-_, _≤_, _<_}
 use native.Mathlib.Nat.{le-of-suc-le-suc, not-suc-le-zero}
 use native.Mathlib.Omega.{arith}
@@ -34,6 +34,28 @@ module _ {A : Type 0} where
   unfolding everyFrom
   every-replicate t i zero x f = refl
   every-replicate t i (suc n) x f = and-both (t i x) (everyFrom t (i + 1) (replicate n x)) (f i) (every-replicate t (i + 1) n x f)
+
+  pub every-snoc : (t : ℕ → A → Bool) (i : ℕ) (xs : List A) (x : A) → everyFrom t i (xs ++ (x ∷ [])) ≡ everyFrom t i xs && t (i + length xs) x
+  unfolding everyFrom
+  every-snoc t i [] x = let z : i + 0 ≡ i = omega arith in rw (z, and-true)
+  every-snoc t i (y ∷ xs) x = let z : i + 1 + length xs ≡ i + suc (length xs) = omega arith in rw (every-snoc t (i + 1) xs x, z, and-assoc)
+
+  pub every-ext : (t u : ℕ → A → Bool) (i : ℕ) (xs : List A) → ((n : ℕ) (x : A) → t n x ≡ u n x) → everyFrom t i xs ≡ everyFrom u i xs
+  unfolding everyFrom
+  every-ext t u i [] e = refl
+  every-ext t u i (x ∷ xs) e = rw (e i x, every-ext t u (i + 1) xs e)
+
+  -- two tests at once
+  pub every-and : (t u : ℕ → A → Bool) (i : ℕ) (xs : List A) → everyFrom (λ n x. t n x && u n x) i xs ≡ everyFrom t i xs && everyFrom u i xs
+  unfolding everyFrom
+  every-and t u i [] = refl
+  every-and t u i (x ∷ xs) = rw (every-and t u (i + 1) xs) (swap (t i x) (u i x) (everyFrom t (i + 1) xs) (everyFrom u (i + 1) xs))
+    where
+      swap : (a b c d : Bool) → (a && b && (c && d)) ≡ (a && c && (b && d))
+      swap true true c d = refl
+      swap true false true d = refl
+      swap true false false d = refl
+      swap false b c d = refl
 
 -- ---- tabulate
 
@@ -86,6 +108,34 @@ module _ {A : Type 0} where
   tabulate-getD xs a (suc n) d h =
       rw (tabulate-getD xs a n d (omega arith), ← getD-drop a xs n d)
       (sym (take-suc (drop a xs) n d (omega (arith, lib.ListN.length-drop a xs))))
+
+-- ---- every, of a tabulated list: its value k has number k + 1
+
+pub every-ext-tabulate : {A : Type 0} (t u : ℕ → A → Bool) (g : ℕ → A) (n : ℕ) → ((k : ℕ) → k < n → t (k + 1) (g k) ≡ u (k + 1) (g k)) → everyFrom t 1 (tabulate g n) ≡ everyFrom u 1 (tabulate g n)
+unfolding tabulate everyFrom
+every-ext-tabulate t u g zero e = refl
+every-ext-tabulate t u g (suc n) e =
+    let l : 1 + length (tabulate g n) ≡ n + 1 = omega (arith, length-tabulate g n) in
+    rw (every-snoc t 1 (tabulate g n) (g n), every-snoc u 1 (tabulate g n) (g n), l, every-ext-tabulate t u g n (λ k h. e k (omega arith)), e n (omega arith))
+
+module _ {A : Type 0} (t : ℕ → A → Bool) (g : ℕ → A) where
+  pub every-tabulate : (n : ℕ) → ((k : ℕ) → k < n → t (k + 1) (g k) ≡ true) → everyFrom t 1 (tabulate g n) ≡ true
+  every-tabulate n f =
+      every-all t 1 (tabulate g n) (g 0) (λ k m q h.
+      let b : k < n = rw length-tabulate at h in
+      let z : m ≡ k + 1 = omega arith in
+      rw (z, tabulate-at g n k (g 0) b) (f k b))
+
+  pub tabulate-every : (n : ℕ) → everyFrom t 1 (tabulate g n) ≡ true → (k : ℕ) → k < n → t (k + 1) (g k) ≡ true
+  tabulate-every n e k h =
+      rw (tabulate-at g n k (g 0) h) at (every-at t 1 (tabulate g n) (g 0) e k (k + 1) (omega arith) (rw length-tabulate h))
+
+  pub every-fails : (n k : ℕ) → k < n → t (k + 1) (g k) ≡ false → everyFrom t 1 (tabulate g n) ≡ false
+  every-fails n k h e = go (everyFrom t 1 (tabulate g n)) refl
+    where
+      go : (b : Bool) → everyFrom t 1 (tabulate g n) ≡ b → b ≡ false
+      go true q = absurd (false≢true (sym e ∙ tabulate-every n q k h))
+      go false q = refl
 
 module _ {A B : Type 0} where
   pub tabulate-map : (h : A → B) (f : ℕ → B) (g : ℕ → A) (n : ℕ) → ((k : ℕ) → k < n → f k ≡ h (g k)) → tabulate f n ≡ map h (tabulate g n)

@@ -1,10 +1,12 @@
 -- Laws of sums, over any function; a count is a sum, so they are laws of counts too.
-use mathlib.Core.Path.{_≡_, refl}
+use mathlib.Core.Path.{_≡_, refl, sym}
+use mathlib.Core.Logic.{_≢_}
 use mathlib.Core.Bool.{Bool, true, false, cond}
 use Prim.Native.Nat.{ℕ, zero, suc, _+_, _*_, _≤_, _<_}
 use mathlib.Core.List.{List, [], _∷_, _++_, map}
-use native.Mathlib.Nat.{add-mul, one-mul, le-of-suc-le-suc, not-suc-le-zero}
+use native.Mathlib.Nat.{add-mul, one-mul, le-of-suc-le-suc, not-suc-le-zero, suc-mul, zero-mul}
 use native.Mathlib.Omega.{arith}
+use native.Mathlib.Decide.{ℕ-discrete}
 use lib.ListN.{length, take, getD, set}
 use Rattle.lists.specs.Lists.{sumBy, only, count, tabulate}
 use Rattle.lists.proofs.ListLaws.{tabulate-more}
@@ -125,6 +127,57 @@ count-le t (x ∷ xs) = go (t x) (count-le t xs)
     go : (b : Bool) → count t xs ≤ length xs → cond b 1 0 + count t xs ≤ suc (length xs)
     go true h = omega arith
     go false h = omega arith
+
+-- a sum of small values is small
+pub sumBy-small : {A : Type 0} (f : A → ℕ) (g : ℕ → A) (b n : ℕ) → ((k : ℕ) → k < n → f (g k) ≤ b) → sumBy f (tabulate g n) ≤ n * b
+unfolding tabulate sumBy
+sumBy-small f g b zero h = omega (arith, zero-mul b)
+sumBy-small f g b (suc n) h =
+    omega (arith, sumBy-small f g b n (λ k q. h k (omega arith)), h n (omega arith), sumBy-snoc f (tabulate g n) (g n), suc-mul n b)
+
+-- ---- counts of a tabulated list
+
+module _ {A : Type 0} (t : A → Bool) (g : ℕ → A) where
+  count-more : (n : ℕ) → count t (tabulate g (suc n)) ≡ count t (tabulate g n) + cond (t (g n)) 1 0
+  unfolding count tabulate
+  count-more n = sumBy-snoc (λ x. cond (t x) 1 0) (tabulate g n) (g n)
+
+  count-hit : (n : ℕ) → t (g n) ≡ true → count t (tabulate g (suc n)) ≡ count t (tabulate g n) + 1
+  count-hit n e = rw e at (count-more n)
+
+  count-miss : (n : ℕ) → t (g n) ≡ false → count t (tabulate g (suc n)) ≡ count t (tabulate g n)
+  count-miss n e = let q : count t (tabulate g (suc n)) ≡ count t (tabulate g n) + 0 = rw e at (count-more n) in omega arith
+
+  pub count-none : (n : ℕ) → ((k : ℕ) → k < n → t (g k) ≡ false) → count t (tabulate g n) ≡ 0
+  unfolding count tabulate sumBy
+  count-none zero f = refl
+  count-none (suc n) f = omega (arith, count-miss n (f n (omega arith)), count-none n (λ k h. f k (omega arith)))
+
+  -- just one value passes
+  pub count-single : (n j : ℕ) → j < n → t (g j) ≡ true → ((k : ℕ) → k < n → k ≢ j → t (g k) ≡ false) → count t (tabulate g n) ≡ 1
+  count-single zero j h e f = absurd (omega arith)
+  count-single (suc n) j h e f =
+      elim (ℕ-discrete j n) [
+        | yes p ↦ let q : t (g n) ≡ true = rw p at e in omega (arith, count-hit n q, count-none n (λ k b. f k (omega arith) (λ w. omega arith)))
+        | no q ↦ omega (arith, count-miss n (f n (omega arith) (λ w. q (sym w))), count-single n j (omega arith) e (λ k b. f k (omega arith)))
+      ]
+
+  pub count-some : (n j : ℕ) → j < n → t (g j) ≡ true → 1 ≤ count t (tabulate g n)
+  count-some zero j h e = absurd (omega arith)
+  count-some (suc n) j h e =
+      elim (ℕ-discrete j n) [
+        | yes p ↦ let q : t (g n) ≡ true = rw p at e in omega (arith, count-hit n q)
+        | no q ↦ omega (arith, count-more n, count-some n j (omega arith) e)
+      ]
+
+  -- two values pass
+  pub count-pair : (n j k : ℕ) → j < k → k < n → t (g j) ≡ true → t (g k) ≡ true → 2 ≤ count t (tabulate g n)
+  count-pair zero j k h b d e = absurd (omega arith)
+  count-pair (suc n) j k h b d e =
+      elim (ℕ-discrete k n) [
+        | yes p ↦ let q : t (g n) ≡ true = rw p at e in omega (arith, count-hit n q, count-some n j (omega arith) d)
+        | no q ↦ omega (arith, count-more n, count-pair n j k h (omega arith) d e)
+      ]
 
 pub sumBy-map : {A B : Type 0} (f : B → ℕ) (g : A → B) (xs : List A) → sumBy f (map g xs) ≡ sumBy (λ x. f (g x)) xs
 unfolding sumBy

@@ -1,6 +1,6 @@
 -- Laws of tests, of conjunctions and of tables of cases.
-use mathlib.Core.Path.{_≡_, refl}
-use mathlib.Core.Bool.{Bool, true, false, not, cond, _&&_, _||_, false≢true, true≢false}
+use mathlib.Core.Path.{_≡_, refl, sym, _∙_}
+use mathlib.Core.Bool.{Bool, true, false, not, cond, _&&_, _||_, false≢true, true≢false, or-false, and-true, and-assoc}
 use Prim.Native.Nat.{ℕ, zero, suc, _<_}
 use native.Mathlib.Omega.{arith}
 use mathlib.Core.List.{List, [], _∷_}
@@ -48,11 +48,15 @@ pub cond-both : (c a b : Bool) → a ≡ true → b ≡ true → cond c a b ≡ 
 cond-both true a b p q = p
 cond-both false a b p q = q
 
--- ---- _implies_
+-- ---- tests without branches
 
-pub or-implies : (a b : Bool) → not a || b ≡ (a implies b)
+pub or-implies : (a b : Bool) → not a || b ≡ a implies b
 or-implies true b = refl
 or-implies false b = refl
+
+pub or-cond : (t a b : Bool) → t && a || not t && b ≡ cond t a b
+or-cond true a b = or-false a
+or-cond false a b = refl
 
 -- ---- allOf
 
@@ -62,6 +66,16 @@ unfolding allOf
 allOf-at [] e k = refl
 allOf-at (t ∷ ts) e zero = and-left t (allOf ts) e
 allOf-at (t ∷ ts) e (suc k) = allOf-at ts (and-right t (allOf ts) e) k
+
+-- the same from the left, as code joins tests; on a list that is written out it computes
+abbrev pub allLeft : Bool → List Bool → Bool
+allLeft b [] = b
+allLeft b (t ∷ ts) = allLeft (b && t) ts
+
+pub all-left : (b : Bool) (ts : List Bool) → allLeft b ts ≡ allOf (b ∷ ts)
+unfolding allOf
+all-left b [] = sym (and-true b)
+all-left b (t ∷ ts) = all-left (b && t) ts ∙ and-assoc b t (allOf ts)
 
 -- ---- first
 

@@ -31,7 +31,7 @@ used-inside xs n e =
       | no h ↦ omega arith
     ]
 
-mostOf-le : (k : ℕ) → mostOf k ≤ highestRefund
+pub mostOf-le : (k : ℕ) → mostOf k ≤ highestRefund
 unfolding mostOf
 mostOf-le zero = omega arith
 mostOf-le (suc zero) = omega arith

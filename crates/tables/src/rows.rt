@@ -41,6 +41,28 @@ pub fn read_row(journal: &[i64], i: usize) -> Row
     }
 }
 
+// One word of row i, where a pass reads no other.
+pub fn kind_at(journal: &[i64], i: usize) -> u64
+    requires { ⌜ RowIn (now journal) i ⌝ }
+    ensures { λ r. ⌜ r ≡ rowAt (now (journal .entry)) i .kind ⌝ }
+{
+    get(journal, i * ROW_WIDTH + KIND_PLACE)
+}
+
+pub fn mark_at(journal: &[i64], i: usize) -> u64
+    requires { ⌜ RowIn (now journal) i ⌝ }
+    ensures { λ r. ⌜ r ≡ rowAt (now (journal .entry)) i .mark ⌝ }
+{
+    get(journal, i * ROW_WIDTH + MARK_PLACE)
+}
+
+pub fn reference_at(journal: &[i64], i: usize) -> u64
+    requires { ⌜ RowIn (now journal) i ⌝ }
+    ensures { λ r. ⌜ r ≡ rowAt (now (journal .entry)) i .reference ⌝ }
+{
+    get(journal, i * ROW_WIDTH + REFERENCE_PLACE)
+}
+
 // No row: all words 0.
 pub fn blank_row() -> Row
     ensures { λ r. ⌜ r ≡ blank ⌝ }

@@ -1,0 +1,202 @@
+-- The groups of clauses that the code tests are together rules' soundTables.
+use mathlib.Core.Path.{_≡_, refl, sym, ap, _∙_}
+use mathlib.Core.Bool.{Bool, true, false, _&&_, and-assoc, and-true, and-false}
+use Prim.Native.Nat.{ℕ, suc, _+_, _*_, _-_, _/_, _%_, _≤_, _<_, min}
+use native.Mathlib.Omega.{arith}
+use mathlib.Core.List.{List, [], _∷_}
+use lib.IntN.{ℤ}
+use lib.ListN.{length, getD}
+use lib.Dec.{leb, eqb}
+use borrow.Author.Tests.{leb-true, eqb-true, le-leb, not-true}
+use Rattle.lists.specs.Tests.{_is_, _from_to_, _implies_, allOf}
+use Rattle.lists.specs.Lists.{every}
+use Rattle.lists.proofs.TestLaws.{and-left, and-right, allOf-at}
+use Rattle.lists.proofs.ListLaws.{every-ext, every-and, tabulate-every, length-tabulate}
+use Rattle.records.specs.Layout.{headerWidth, dayPlace, usedPlace, headerSchedule, stagePlace, accountWidth, rowWidth}
+use Rattle.records.specs.Encoding.{word, rowAt, rowsOf, accountAt, accountsOf}
+use Rattle.rules.specs.Limits.{finalDay, longestStage, mostAccounts, mostRows, highestRefund}
+use Rattle.rules.specs.Rows.{Row, Refund}
+use Rattle.rules.specs.Schedule.{scheduleFits}
+use Rattle.rules.specs.Book.{Account, Book}
+use Rattle.rules.specs.Opening.{dayFits, sizesFit}
+use Rattle.rules.specs.Soundness.{mostOf, amountFits, settledFits, accountUsed, referenceFits, passageOnce, feesFit, rowSound, returnedFits, even, spent, closedClear, accountSound, sound}
+use Rattle.rules.specs.Tables.{Tables, accountsIn, roomIn, rowsUsed, scheduleFrom, bookOf, wholeRecords, lengthsFit, usedFits, laterRowsZero, soundTables}
+use Rattle.rules.proofs.StorableLaws.{mostOf-le, used-inside, between-le, schedule-storable}
+use Rattle.soundness.specs.Clauses.{rowAlone, rowStands, rowsStand, passagesDiffer, feesFew, restZero, bookStands, tablesOn, Bounds}
+use Rattle.soundness.specs.Accounts.{accountAlone, sumsAgree, accountStands, sumsOf, allAgree, accountsStand}
+use Rattle.soundness.specs.Tallies.{Countable}
+
+-- ---- rows and accounts
+
+rows-parts : (b : Book) → every (rowSound b) (b .rows) ≡ rowsStand (b .accounts) (b .rows) (b .day) (b .schedule .stage) && (passagesDiffer (b .rows) && feesFew (b .rows))
+unfolding rowsStand passagesDiffer feesFew
+rows-parts b =
+    every-ext (rowSound b) (λ n r. rowStands (b .accounts) (b .rows) (b .day) (b .schedule .stage) n r && (passageOnce (b .rows) r && feesFit (b .rows) n r)) 1 (b .rows) (λ n r.
+    unfold rowSound rowStands rowAlone allOf in simp (and-assoc, and-true))
+    ∙ every-and (rowStands (b .accounts) (b .rows) (b .day) (b .schedule .stage)) (λ n r. passageOnce (b .rows) r && feesFit (b .rows) n r) 1 (b .rows)
+    ∙ rw (every-and (λ n r. passageOnce (b .rows) r) (feesFit (b .rows)) 1 (b .rows))
+
+accounts-parts : (b : Book) → every (accountSound b) (b .accounts) ≡ accountsStand (b .day) (b .rows) (b .accounts)
+unfolding accountsStand allAgree
+accounts-parts b =
+    every-ext (accountSound b) (λ n x. accountStands (b .day) (sumsOf (b .rows) n) x) 1 (b .accounts) (λ n x.
+    unfold accountSound accountStands accountAlone sumsAgree sumsOf returnedFits even spent closedClear allOf in simp (and-assoc, and-true))
+
+pub book-parts : (b : Book) → every (rowSound b) (b .rows) && every (accountSound b) (b .accounts) ≡ bookStands (b .accounts) (b .rows) (b .day) (b .schedule .stage)
+unfolding bookStands allOf
+book-parts b = rw (rows-parts b, accounts-parts b, and-assoc, and-assoc, and-true)
+
+-- ---- what the lengths tell
+
+pub record Lengths (header accounts journal : List ℤ) : Type 0 where
+  pub words : length header ≡ headerWidth
+  pub wholeAccounts : length accounts / accountWidth * accountWidth ≡ length accounts
+  pub wholeRows : length journal / rowWidth * rowWidth ≡ length journal
+  pub seats : length accounts / accountWidth ≤ mostAccounts
+  pub room : length journal / rowWidth ≤ mostRows
+
+module _ (h a j : List ℤ) (e : lengthsFit (tablesOn h a j) ≡ true) where
+  abbrev header-part : Bool
+  header-part = length h is headerWidth
+
+  abbrev accounts-part : Bool
+  accounts-part = length a % accountWidth is 0
+
+  abbrev journal-part : Bool
+  journal-part = length j % rowWidth is 0
+
+  abbrev seats-part : Bool
+  seats-part = length a / accountWidth from 1 to mostAccounts
+
+  abbrev room-part : Bool
+  room-part = length j / rowWidth from 1 to mostRows
+
+  pub lengths-known : Lengths h a j
+  unfolding lengthsFit wholeRecords sizesFit
+  lengths-known =
+      let w : header-part && accounts-part && journal-part ≡ true = and-left (header-part && accounts-part && journal-part) (seats-part && room-part) e in
+      let s : seats-part && room-part ≡ true = and-right (header-part && accounts-part && journal-part) (seats-part && room-part) e in
+      let x : length a % accountWidth ≡ 0 = eqb-true _ _ (and-right header-part accounts-part (and-left (header-part && accounts-part) journal-part w)) in
+      let y : length j % rowWidth ≡ 0 = eqb-true _ _ (and-right (header-part && accounts-part) journal-part w) in
+      record {
+        words = eqb-true _ _ (and-left header-part accounts-part (and-left (header-part && accounts-part) journal-part w));
+        wholeAccounts = omega arith;
+        wholeRows = omega arith;
+        seats = between-le 1 mostAccounts (length a / accountWidth) (and-left seats-part room-part s);
+        room = between-le 1 mostRows (length j / rowWidth) (and-right seats-part room-part s);
+      }
+
+-- ---- the tables
+
+module _ (t : Tables) where
+  pub unfit-lengths : lengthsFit t ≡ false → soundTables t ≡ false
+  unfolding soundTables allOf
+  unfit-lengths e = rw e
+
+  pub unfit-used : usedFits t ≡ false → soundTables t ≡ false
+  unfolding soundTables allOf
+  unfit-used e = rw e (and-false (lengthsFit t))
+
+  pub unfit-later : laterRowsZero t ≡ false → soundTables t ≡ false
+  unfolding soundTables allOf
+  unfit-later e = simp (e, and-false)
+
+  pub unfit-day : dayFits (bookOf t .day) ≡ false → soundTables t ≡ false
+  unfolding soundTables sound allOf
+  unfit-day e = simp (e, and-false)
+
+  pub unfit-schedule : scheduleFits (bookOf t .schedule) ≡ false → soundTables t ≡ false
+  unfolding soundTables sound allOf
+  unfit-schedule e = simp (e, and-false)
+
+  pub fit-tables : lengthsFit t ≡ true → usedFits t ≡ true → laterRowsZero t ≡ true → dayFits (bookOf t .day) ≡ true → scheduleFits (bookOf t .schedule) ≡ true
+      → soundTables t ≡ bookStands (bookOf t .accounts) (bookOf t .rows) (bookOf t .day) (bookOf t .schedule .stage)
+  unfolding soundTables sound allOf
+  fit-tables l u z d s =
+      let n : sizesFit (length (bookOf t .accounts)) (bookOf t .room) ≡ true = sizes-again in
+      let f : leb (length (bookOf t .rows)) (bookOf t .room) ≡ true = few-again in
+      rw (l, u, z, d, s, n, f, and-true) (rest (bookOf t))
+    where
+      sizes-again : sizesFit (length (bookOf t .accounts)) (bookOf t .room) ≡ true
+      sizes-again = unfold bookOf lengthsFit in (rw (length-tabulate) (and-right (wholeRecords t) (sizesFit (accountsIn t) (roomIn t)) l))
+
+      few-again : leb (length (bookOf t .rows)) (bookOf t .room) ≡ true
+      few-again = unfold bookOf in (rw (length-tabulate) (le-leb (min (rowsUsed t) (roomIn t)) (roomIn t) (omega arith)))
+
+      rest : (b : Book) → every (rowSound b) (b .rows) && (every (accountSound b) (b .accounts) && true) ≡ bookStands (b .accounts) (b .rows) (b .day) (b .schedule .stage)
+      rest b = rw (and-true (every (accountSound b) (b .accounts))) (book-parts b)
+
+-- ---- what the lengths and the header have shown, on the words that were read
+
+pub record Fit (h a j : List ℤ) (used today stage : ℕ) : Type 0 where
+  pub lengths : lengthsFit (tablesOn h a j) ≡ true
+  pub readDay : today ≡ word h dayPlace
+  pub readUsed : used ≡ word h usedPlace
+  pub readStage : stage ≡ word h (headerSchedule + stagePlace)
+  pub day : dayFits today ≡ true
+  pub schedule : scheduleFits (scheduleFrom h headerSchedule) ≡ true
+  pub fits : used ≤ length j / rowWidth
+  pub later : restZero j used ≡ true
+
+module _ (h a j : List ℤ) (used today stage : ℕ) (f : Fit h a j used today stage) where
+  abbrev tables : Tables
+  tables = tablesOn h a j
+
+  pub fit-sound : bookStands (accountsOf a (length a / accountWidth)) (rowsOf j used) today stage ≡ soundTables tables
+  fit-sound = unfold bookOf scheduleFrom in (rw (f .readDay, f .readStage, least) (sym (fit-tables tables (f .lengths) used-fits later-zero day-fits schedule-fits)))
+    where
+      least : used ≡ min (rowsUsed tables) (roomIn tables)
+      least = omega (arith, f .readUsed, f .fits)
+
+      used-fits : usedFits tables ≡ true
+      used-fits = unfold usedFits in le-leb (rowsUsed tables) (roomIn tables) (omega (arith, f .readUsed, f .fits))
+
+      later-zero : laterRowsZero tables ≡ true
+      later-zero = unfold laterRowsZero restZero in (rw (f .readUsed) at (f .later))
+
+      day-fits : dayFits (bookOf tables .day) ≡ true
+      day-fits = unfold bookOf in (rw (f .readDay) at (f .day))
+
+      schedule-fits : scheduleFits (bookOf tables .schedule) ≡ true
+      schedule-fits = unfold bookOf in (f .schedule)
+
+  pub fit-bounds : Bounds a j (length a / accountWidth) used today stage
+  unfolding dayFits scheduleFrom
+  fit-bounds =
+      let l = lengths-known h a j (f .lengths) in
+      let b = f .fits in
+      record {
+        room = omega arith;
+        few = omega arith;
+        seats = omega arith;
+        fewer = omega arith;
+        day = between-le 1 finalDay today (f .day);
+        length = omega (arith, f .readStage, schedule-storable (scheduleFrom h headerSchedule) (f .schedule) .stage);
+      }
+
+-- ---- rows that stand can be counted
+
+module _ (accounts journal : List ℤ) (count used today stage : ℕ) (b : Bounds accounts journal count used today stage)
+    (e : rowsStand (accountsOf accounts count) (rowsOf journal used) today stage ≡ true) where
+  row-at : (k : ℕ) → k < used → rowStands (accountsOf accounts count) (rowsOf journal used) today stage (k + 1) (rowAt journal k) ≡ true
+  unfolding rowsStand
+  row-at k h = tabulate-every _ (rowAt journal) used e k h
+
+  pub countable : Countable journal used
+  countable = record { room = b .room; few = b .few; account = account-le; amount = amount-le; settled = settled-le }
+    where
+      part : (k : ℕ) → k < used → (i : ℕ) → getD (rowAlone today stage (rowAt journal k) ∷ accountUsed (accountsOf accounts count) (rowAt journal k) ∷ referenceFits (rowsOf journal used) (k + 1) (rowAt journal k) ∷ []) i true ≡ true
+      part k h = unfold rowStands in allOf-at _ (row-at k h)
+
+      account-le : (k : ℕ) → k < used → rowAt journal k .account ≤ mostAccounts
+      account-le k h = unfold accountUsed in
+          (let n = used-inside (accountsOf accounts count) (rowAt journal k .account) (not-true _ (part k h 1)) in
+          omega (arith, b .fewer, length-tabulate (accountAt accounts) count))
+
+      amount-le : (k : ℕ) → k < used → rowAt journal k .amount ≤ highestRefund
+      amount-le k h = unfold rowAlone amountFits in
+          omega (arith, between-le 1 (mostOf (rowAt journal k .kind)) (rowAt journal k .amount) (allOf-at _ (part k h 0) 1), mostOf-le (rowAt journal k .kind))
+
+      settled-le : (k : ℕ) → k < used → rowAt journal k .settled ≤ rowAt journal k .amount
+      settled-le k h = unfold rowAlone settledFits in
+          leb-true _ _ (and-left (leb (rowAt journal k .settled) (rowAt journal k .amount)) (rowAt journal k .kind is Refund implies rowAt journal k .settled is rowAt journal k .amount) (allOf-at _ (part k h 0) 2))

@@ -1,0 +1,10 @@
+use Rattle.rules.specs.Soundness.{declineFits}
+use Rattle.soundness.proofs.accounts.decline_fits.Statement.{statement}
+use Rattle.soundness.proofs.accounts.decline_fits.Tie as tie
+
+returns : tie.Need-returns
+unfolding declineFits
+returns c = cc
+
+pub decline-fits-spec : {M : Type 1} → statement M
+decline-fits-spec = tie.close (tie.spec returns)

@@ -1,0 +1,10 @@
+use Rattle.rules.specs.Soundness.{stateFits}
+use Rattle.soundness.proofs.accounts.state_fits.Statement.{statement}
+use Rattle.soundness.proofs.accounts.state_fits.Tie as tie
+
+returns : tie.Need-returns
+unfolding stateFits
+returns c = cc
+
+pub state-fits-spec : {M : Type 1} → statement M
+state-fits-spec = tie.close (tie.spec returns)

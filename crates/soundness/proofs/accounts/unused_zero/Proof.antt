@@ -1,0 +1,14 @@
+use Rattle.rules.specs.Soundness.{unusedZero}
+use borrow.Author.Needs.{needs}
+use Rattle.soundness.proofs.accounts.unused_zero.Statement.{statement}
+use Rattle.soundness.proofs.accounts.unused_zero.Tie as tie
+
+implies-requires : tie.Need-implies-requires
+implies-requires c κs = search needs
+
+returns : tie.Need-returns
+unfolding unusedZero
+returns c = cc
+
+pub unused-zero-spec : {M : Type 1} → statement M
+unused-zero-spec = tie.close (tie.spec implies-requires returns)

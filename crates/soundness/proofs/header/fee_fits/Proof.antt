@@ -1,0 +1,12 @@
+use borrow.Author.Needs.{needs}
+use Rattle.soundness.proofs.header.fee_fits.Statement.{statement}
+use Rattle.soundness.proofs.header.fee_fits.Tie as tie
+
+get-requires : tie.Need-get-requires
+get-requires c κs = search needs
+
+returns : tie.Need-returns
+returns c = cc
+
+pub fee-fits-spec : {M : Type 1} → statement M
+fee-fits-spec = tie.close (tie.spec get-requires returns)

@@ -1,0 +1,14 @@
+use Rattle.rules.specs.Soundness.{accountUsed}
+use borrow.Author.Needs.{needs}
+use Rattle.soundness.proofs.journal.account_used.Statement.{statement}
+use Rattle.soundness.proofs.journal.account_used.Tie as tie
+
+account-numbered-requires : tie.Need-account-numbered-requires
+account-numbered-requires c κs = search needs
+
+returns : tie.Need-returns
+unfolding accountUsed
+returns c = cc
+
+pub account-used-spec : {M : Type 1} → statement M
+account-used-spec = tie.close (tie.spec account-numbered-requires returns)

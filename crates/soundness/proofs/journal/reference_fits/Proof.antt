@@ -1,0 +1,38 @@
+use Rattle.rules.specs.Soundness.{names, referenceFits}
+use borrow.Author.Needs.{needs}
+use Rattle.soundness.proofs.journal.reference_fits.Statement.{statement}
+use Rattle.soundness.proofs.journal.reference_fits.Tie as tie
+
+row-numbered-requires : tie.Need-row-numbered-requires
+row-numbered-requires c κs = search needs
+
+names-row-requires : tie.Need-names-row-requires
+names-row-requires c κs = search needs
+
+names-row-requires-2 : tie.Need-names-row-requires-2
+names-row-requires-2 c κs = search needs
+
+implies-requires : tie.Need-implies-requires
+implies-requires c κs = search needs
+
+implies-requires-2 : tie.Need-implies-requires-2
+implies-requires-2 c κs = search needs
+
+implies-requires-3 : tie.Need-implies-requires-3
+implies-requires-3 c κs = search needs
+
+returns : tie.Need-returns
+unfolding names referenceFits
+returns c = cc
+
+pub reference-fits-spec : {M : Type 1} → statement M
+reference-fits-spec =
+    tie.close
+    (tie.spec
+    row-numbered-requires
+    names-row-requires
+    names-row-requires-2
+    implies-requires
+    implies-requires-2
+    implies-requires-3
+    returns)

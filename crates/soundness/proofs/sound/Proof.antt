@@ -1,0 +1,122 @@
+use Rattle.soundness.proofs.SoundParts.{Lengths, lengths-known, unfit-lengths, unfit-used, unfit-later, unfit-day, unfit-schedule, Fit, fit-sound, fit-bounds}
+use Rattle.soundness.specs.Clauses.{tablesOn, restZero}
+use Rattle.rules.specs.Tables.{bookOf, usedFits, laterRowsZero, rowsUsed, roomIn}
+use Rattle.rules.specs.Opening.{dayFits}
+use Rattle.records.specs.Encoding.{word}
+use borrow.Author.Tests.{not-true, not-false, lt-leb}
+use mathlib.Core.Bool.{true, false}
+use mathlib.Core.Path.{_≡_, sym, ap, _∙_}
+use native.Mathlib.Omega.{arith}
+use Prim.Native.Nat.{_≤_, _<_}
+use borrow.Author.Needs.{needs}
+use Rattle.soundness.proofs.sound.Statement.{statement}
+use Rattle.soundness.proofs.sound.Tie as tie
+
+-- what the passed tests have shown
+lengths : (e : tie.Else1) → Lengths (e .before .before .args .header .now) (e .before .before .args .accounts .now) (e .before .before .args .journal .now)
+lengths e = lengths-known _ _ _ (sym (e .before .lengths-fit .ensures) ∙ not-false _ (e .if1 .left))
+
+fit : (g : tie.After-get3) → Fit (g .before .before .before .before .before .before .before .before .before .before .before .before .args .header .now) (g .before .before .before .before .before .before .before .before .before .before .before .before .args .accounts .now) (g .before .before .before .before .before .before .before .before .before .before .before .before .args .journal .now) (g .before .before .before .before .get2 .result) (g .before .before .before .before .before .before .before .before .before .get .result) (g .get3 .result)
+fit g =
+    let z = g .before in
+    let u = z .before .before in
+    let s = u .before .before in
+    let d = s .before .before in
+    let e = d .before .before .before in
+    record {
+      lengths = sym (e .before .lengths-fit .ensures) ∙ not-false _ (e .if1 .left);
+      readDay = d .before .before .get .ensures;
+      readUsed = u .before .get2 .ensures;
+      readStage = g .get3 .ensures;
+      day = sym (d .before .day-fits .ensures) ∙ not-false _ (d .if2 .left);
+      schedule = sym (s .before .schedule-fits .ensures) ∙ not-false _ (s .if3 .left);
+      fits = u .if4 .left;
+      later = sym (z .before .later-rows-zero .ensures) ∙ not-false _ (z .if5 .left);
+    }
+
+lengths-fit-requires : tie.Need-lengths-fit-requires
+lengths-fit-requires c κs = search needs
+
+returns : tie.Need-returns
+returns c = sym (unfit-lengths _ (sym (c .before .lengths-fit .ensures) ∙ not-true _ (c .if1 .taken)))
+
+get-requires : tie.Need-get-requires
+get-requires c κs = omega (arith, lengths c .words)
+
+day-fits-requires : tie.Need-day-fits-requires
+day-fits-requires c κs = search needs
+
+returns-2 : tie.Need-returns-2
+unfolding bookOf
+returns-2 c =
+    let d = c .before in
+    let s = d .before .before .before .before in
+    sym (unfit-day (tablesOn (s .args .header .now) (s .args .accounts .now) (s .args .journal .now)) (ap dayFits (sym (d .before .get .ensures)) ∙ sym (d .day-fits .ensures) ∙ not-true _ (c .if2 .taken)))
+
+schedule-fits-requires : tie.Need-schedule-fits-requires
+schedule-fits-requires c κs = omega (arith, lengths (c .before .before .before) .words)
+
+returns-3 : tie.Need-returns-3
+unfolding bookOf
+returns-3 c =
+    let s = c .before .before .before .before .before .before .before in
+    sym (unfit-schedule (tablesOn (s .args .header .now) (s .args .accounts .now) (s .args .journal .now)) (sym (c .before .schedule-fits .ensures) ∙ not-true _ (c .if3 .taken)))
+
+get-requires-2 : tie.Need-get-requires-2
+get-requires-2 c κs = omega (arith, lengths (c .before .before .before .before .before) .words)
+
+returns-4 : tie.Need-returns-4
+unfolding usedFits
+returns-4 c =
+    let s = c .before .before .before .before .before .before .before .before .before in
+    let t = tablesOn (s .args .header .now) (s .args .accounts .now) (s .args .journal .now) in
+    sym (unfit-used t (lt-leb (rowsUsed t) (roomIn t) (omega (arith, c .before .get2 .ensures))))
+
+later-rows-zero-requires : tie.Need-later-rows-zero-requires
+later-rows-zero-requires c κs =
+    let l = lengths (c .before .before .before .before .before .before .before) in
+    (sym (l .wholeRows), c .if4 .left)
+
+returns-5 : tie.Need-returns-5
+unfolding laterRowsZero
+returns-5 c =
+    let s = c .before .before .before .before .before .before .before .before .before .before .before in
+    let n = c .before in
+    let u = n .before .before in
+    sym (unfit-later (tablesOn (s .args .header .now) (s .args .accounts .now) (s .args .journal .now)) (unfold restZero in (rw (u .get2 .ensures) at (sym (n .later-rows-zero .ensures) ∙ not-true _ (c .if5 .taken)))))
+
+add-get : tie.Need-add-get
+add-get c = search needs
+
+get-requires-3 : tie.Need-get-requires-3
+get-requires-3 c κs = omega (arith, lengths (c .before .before .before .before .before .before .before .before .before) .words)
+
+book-stands-requires : tie.Need-book-stands-requires
+book-stands-requires c κs =
+    let s = c .before .before .before .before .before .before .before .before .before .before .before .before in
+    fit-bounds (s .args .header .now) (s .args .accounts .now) (s .args .journal .now) _ _ _ (fit c)
+
+returns-6 : tie.Need-returns-6
+returns-6 c =
+    let s = c .before .before .before .before .before .before .before .before .before .before .before .before .before in
+    c .book-stands .ensures ∙ fit-sound (s .args .header .now) (s .args .accounts .now) (s .args .journal .now) _ _ _ (fit (c .before))
+
+pub sound-spec : {M : Type 1} → statement M
+sound-spec =
+    tie.close
+    (tie.spec
+    lengths-fit-requires
+    returns
+    get-requires
+    day-fits-requires
+    returns-2
+    schedule-fits-requires
+    returns-3
+    get-requires-2
+    returns-4
+    later-rows-zero-requires
+    returns-5
+    add-get
+    get-requires-3
+    book-stands-requires
+    returns-6)

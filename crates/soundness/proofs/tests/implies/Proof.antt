@@ -1,0 +1,9 @@
+use Rattle.lists.proofs.TestLaws.{or-implies}
+use Rattle.soundness.proofs.tests.implies.Statement.{statement}
+use Rattle.soundness.proofs.tests.implies.Tie as tie
+
+returns : tie.Need-returns
+returns c = or-implies (c .args .first) (c .args .second)
+
+pub implies-spec : {M : Type 1} → statement M
+implies-spec = tie.close (tie.spec returns)

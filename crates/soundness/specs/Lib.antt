@@ -1,0 +1,4 @@
+pub mod Clauses
+pub mod Trees
+pub mod Tallies
+pub mod Accounts

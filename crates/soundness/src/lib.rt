@@ -1,0 +1,91 @@
+// The check of a whole book: whether three lent tables of any lengths and contents are sound, in time that grows with the rows and
+// accounts. Each clause of rules' Soundness is a function with that clause as its contract. Uses lists, records, rules and tables.
+mod tests; // tests.rt: conjunctions and cases without branches
+pub mod header; // header.rt: the lengths and the header
+mod row; // row.rt: a row by itself
+mod journal; // journal.rt: the rows' own clauses, and the words past the used rows
+mod passages; // passages.rt: passage numbers differ
+mod fees; // fees.rt: the fees of each toll
+mod sums; // sums.rt: the sums of each account
+mod accounts; // accounts.rt: the accounts
+
+use accounts::accounts_stand;
+use fees::fees_few;
+use header::day_fits;
+use header::lengths_fit;
+use header::schedule_fits;
+use journal::later_rows_zero;
+use journal::rows_stand;
+use passages::passages_differ;
+use tables::layout::ACCOUNT_WIDTH;
+use tables::layout::DAY_PLACE;
+use tables::layout::HEADER_SCHEDULE;
+use tables::layout::ROW_WIDTH;
+use tables::layout::STAGE_PLACE;
+use tables::layout::USED_PLACE;
+use tables::words::get;
+ghost use mathlib.Core.Path.{_≡_};
+ghost use Prim.Native.Nat.{_*_, _≤_};
+ghost use lib.ListN.{length};
+ghost use Rattle.records.specs.Layout.{rowWidth};
+ghost use Rattle.records.specs.Encoding.{rowsOf, accountsOf};
+ghost use Rattle.rules.specs.Tables.{soundTables};
+ghost use Rattle.soundness.specs.Clauses.{tablesOn, Bounds, bookStands};
+
+// The used rows and the accounts, once the lengths and the header are found fit. Each pass starts only where the ones before it found
+// nothing, so the sums are of amounts that are known to be small.
+fn book_stands(
+    accounts: &[i64],
+    count: usize,
+    journal: &[i64],
+    used: usize,
+    today: u64,
+    stage: u64,
+) -> bool
+    requires { ⌜ Bounds (now accounts) (now journal) count used today stage ⌝ }
+    ensures { λ b. ⌜ b ≡ bookStands (accountsOf (now (accounts .entry)) count) (rowsOf (now (journal .entry)) used) today stage ⌝ }
+{
+    if !rows_stand(accounts, count, journal, used, today, stage) {
+        return false;
+    }
+    if !passages_differ(journal, used) {
+        return false;
+    }
+    if !fees_few(journal, used) {
+        return false;
+    }
+    accounts_stand(accounts, count, journal, used, today)
+}
+
+// Whether the tables are sound. It takes 93 KiB of the stack in all: 64 for passage numbers, 16 for fees, 12 for sums.
+pub fn sound(header: &[i64], accounts: &[i64], journal: &[i64]) -> bool
+    ensures { λ b. ⌜ b ≡ soundTables (tablesOn (now (header .entry)) (now (accounts .entry)) (now (journal .entry))) ⌝ }
+{
+    if !lengths_fit(header, accounts, journal) {
+        return false;
+    }
+    let today = get(header, DAY_PLACE);
+    if !day_fits(today) {
+        return false;
+    }
+    if !schedule_fits(header, HEADER_SCHEDULE) {
+        return false;
+    }
+    let used = get(header, USED_PLACE);
+    let room = journal.len() / ROW_WIDTH;
+    if used > room as u64 {
+        return false;
+    }
+    if !later_rows_zero(journal, used as usize, room) {
+        return false;
+    }
+    let stage = get(header, HEADER_SCHEDULE + STAGE_PLACE);
+    book_stands(
+        accounts,
+        accounts.len() / ACCOUNT_WIDTH,
+        journal,
+        used as usize,
+        today,
+        stage,
+    )
+}

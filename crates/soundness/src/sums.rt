@@ -1,0 +1,116 @@
+// What the rows come to for each account, in one pass: returned checks, used sources, unused money, settled debits, debts that
+// settlement may pay, and all that is unsettled.
+use records::Row;
+use tables::codes::CHECK_RETURNED;
+use tables::codes::CREDIT;
+use tables::codes::FEE;
+use tables::codes::HELD;
+use tables::codes::PAYMENT;
+use tables::codes::REFUND;
+use tables::codes::REVERSAL;
+use tables::codes::TOLL;
+use tables::limits::MOST_ACCOUNTS;
+use tables::rows::read_row;
+use tables::rows::row_numbered;
+ghost use mathlib.Core.Path.{_≡_};
+ghost use mathlib.Core.Bool.{cond};
+ghost use Prim.Native.Nat.{_+_, _*_, _^_, _≤_, _<_};
+ghost use lib.ListN.{length, getD, set};
+ghost use Rattle.records.specs.Layout.{rowWidth};
+ghost use Rattle.records.specs.Encoding.{rowsOf};
+ghost use Rattle.rules.specs.Rows.{held};
+ghost use Rattle.soundness.specs.Tallies.{Countable, SourceTallies, DebitTallies};
+
+// A sum for each account number, from 0 on.
+pub const SEATS: usize = MOST_ACCOUNTS + 1;
+
+fn part(test: bool, v: u64) -> u64
+    ensures { λ r. ⌜ r ≡ cond test v 0 ⌝ }
+{
+    if test { v } else { 0 }
+}
+
+fn add(sums: &mut [u64; SEATS], account: usize, v: u64)
+    requires { ⌜ (account < 257) × (getD (now sums) account 0 + v < 2 ^ 64) ⌝ }
+    ensures { λ _. ⌜ now (sums .exit) ≡ set (now (sums .entry)) account (getD (now (sums .entry)) account 0 + v) ⌝ }
+{
+    let old = sums[account];
+    sums[account] = old + v;
+}
+
+// A toll in dispute, or a fee whose toll is.
+fn is_held(journal: &[i64], used: usize, r: Row) -> bool
+    requires { ⌜ used * rowWidth ≤ length (now journal) ⌝ }
+    ensures { λ b. ⌜ b ≡ held (rowsOf (now (journal .entry)) used) r ⌝ }
+{
+    let named = row_numbered(journal, used, r.reference);
+    let own = (r.kind == TOLL) & (r.dispute == HELD);
+    own | ((r.kind == FEE) & ((named.kind == TOLL) & (named.dispute == HELD)))
+}
+
+// Row i as a source.
+fn add_source(
+    journal: &[i64],
+    used: usize,
+    i: usize,
+    returned: &mut [u64; SEATS],
+    drawn: &mut [u64; SEATS],
+    money: &mut [u64; SEATS],
+)
+    requires { ⌜ Countable (now journal) used × (i < used) × SourceTallies (now journal) (now returned) (now drawn) (now money) i ⌝ }
+    ensures { λ _. ⌜ SourceTallies (now (journal .entry)) (now (returned .exit)) (now (drawn .exit)) (now (money .exit)) (i + 1) ⌝ }
+{
+    let r = read_row(journal, i);
+    let a = r.account as usize;
+    let source = (r.kind == PAYMENT) | (r.kind == CREDIT);
+    add(
+        returned,
+        a,
+        part((r.kind == PAYMENT) & (r.mark == CHECK_RETURNED), 1),
+    );
+    add(drawn, a, part(source, r.settled));
+    add(money, a, part(source, r.amount - r.settled));
+}
+
+// Row i as a debit.
+fn add_debit(
+    journal: &[i64],
+    used: usize,
+    i: usize,
+    paid: &mut [u64; SEATS],
+    debt: &mut [u64; SEATS],
+    owed: &mut [u64; SEATS],
+)
+    requires { ⌜ Countable (now journal) used × (i < used) × DebitTallies (now journal) used (now paid) (now debt) (now owed) i ⌝ }
+    ensures { λ _. ⌜ DebitTallies (now (journal .entry)) used (now (paid .exit)) (now (debt .exit)) (now (owed .exit)) (i + 1) ⌝ }
+{
+    let r = read_row(journal, i);
+    let a = r.account as usize;
+    let debit = (r.kind == TOLL) | (r.kind == FEE) | (r.kind == REVERSAL) | (r.kind == REFUND);
+    let left = r.amount - r.settled;
+    add(paid, a, part(debit, r.settled));
+    add(debt, a, part(debit & !is_held(journal, used, r), left));
+    add(owed, a, part(debit, left));
+}
+
+// The used rows, each to its account's sums.
+pub fn add_rows(
+    journal: &[i64],
+    used: usize,
+    returned: &mut [u64; SEATS],
+    drawn: &mut [u64; SEATS],
+    money: &mut [u64; SEATS],
+    paid: &mut [u64; SEATS],
+    debt: &mut [u64; SEATS],
+    owed: &mut [u64; SEATS],
+)
+    requires { ⌜ Countable (now journal) used × SourceTallies (now journal) (now returned) (now drawn) (now money) 0 × DebitTallies (now journal) used (now paid) (now debt) (now owed) 0 ⌝ }
+    ensures { λ _. ⌜ SourceTallies (now (journal .entry)) (now (returned .exit)) (now (drawn .exit)) (now (money .exit)) used × DebitTallies (now (journal .entry)) used (now (paid .exit)) (now (debt .exit)) (now (owed .exit)) used ⌝ }
+{
+    let mut i = 0;
+    while i < used {
+        add_source(journal, used, i, returned, drawn, money);
+        add_debit(journal, used, i, paid, debt, owed);
+        i += 1;
+    }
+}
