@@ -1,3 +1,4 @@
 pub mod TestLaws
 pub mod SumLaws
 pub mod ListLaws
+pub mod PairLaws

@@ -1,1 +1,3 @@
+pub mod Relation
+pub mod Settling
 pub mod ReplayExample

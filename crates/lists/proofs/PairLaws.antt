@@ -1,0 +1,68 @@
+-- Two lists of one length, related element by element, and how the relation passes through appends, stores, maps and gathers.
+use mathlib.Core.Path.{_≡_, refl, ap, ap₂}
+use Prim.Native.Nat.{ℕ, zero, suc, _+_, _<_}
+use native.Mathlib.Omega.{arith}
+use mathlib.Core.List.{List, [], _∷_, _++_, map}
+use lib.ListN.{length, getD, set}
+use Rattle.lists.specs.Lists.{sumBy, gatherFrom}
+
+pub data Pairs {A B : Type 0} (R : A → B → Type 0) : List A → List B → Type 0 where
+  none : Pairs R [] []
+  more : {x : A} {y : B} {xs : List A} {ys : List B} → R x y → Pairs R xs ys → Pairs R (x ∷ xs) (y ∷ ys)
+
+module _ {A B : Type 0} {R : A → B → Type 0} where
+  pub pairs-length : {xs : List A} {ys : List B} → Pairs R xs ys → length xs ≡ length ys
+  pairs-length none = refl
+  pairs-length (more r p) = ap suc (pairs-length p)
+
+  -- at each place; d and e stand past the end
+  pub pairs-at : {xs : List A} {ys : List B} (d : A) (e : B) → R d e → Pairs R xs ys → (k : ℕ) → R (getD xs k d) (getD ys k e)
+  pairs-at d e q none k = q
+  pairs-at d e q (more r p) zero = r
+  pairs-at d e q (more r p) (suc k) = pairs-at d e q p k
+
+  pub pairs-each : (d : A) (e : B) (xs : List A) (ys : List B) → length xs ≡ length ys → ((k : ℕ) → k < length xs → R (getD xs k d) (getD ys k e)) → Pairs R xs ys
+  pairs-each d e [] [] l f = none
+  pairs-each d e [] (y ∷ ys) l f = absurd (omega arith)
+  pairs-each d e (x ∷ xs) [] l f = absurd (omega arith)
+  pairs-each d e (x ∷ xs) (y ∷ ys) l f = more (f 0 (omega arith)) (pairs-each d e xs ys (omega arith) (λ k h. f (suc k) (omega arith)))
+
+  pub pairs-append : {xs us : List A} {ys vs : List B} → Pairs R xs ys → Pairs R us vs → Pairs R (xs ++ us) (ys ++ vs)
+  pairs-append none q = q
+  pairs-append (more r p) q = more r (pairs-append p q)
+
+  pub pairs-set : {xs : List A} {ys : List B} (i : ℕ) (x : A) (y : B) → R x y → Pairs R xs ys → Pairs R (set xs i x) (set ys i y)
+  pairs-set i x y q none = none
+  pairs-set zero x y q (more r p) = more q p
+  pairs-set (suc i) x y q (more r p) = more r (pairs-set i x y q p)
+
+module _ {A B C D : Type 0} {R : A → B → Type 0} {S : C → D → Type 0} where
+  pub pairs-map : (f : A → C) (g : B → D) → ((x : A) (y : B) → R x y → S (f x) (g y)) → {xs : List A} {ys : List B} → Pairs R xs ys → Pairs S (map f xs) (map g ys)
+  pairs-map f g h none = none
+  pairs-map f g h (more {x} {y} r p) = more (h x y r) (pairs-map f g h p)
+
+module _ {A B : Type 0} {R S : A → B → Type 0} where
+  pub pairs-to : ((x : A) (y : B) → R x y → S x y) → {xs : List A} {ys : List B} → Pairs R xs ys → Pairs S xs ys
+  pairs-to h none = none
+  pairs-to h (more {x} {y} r p) = more (h x y r) (pairs-to h p)
+
+module _ {A B C D : Type 0} {S : C → D → Type 0} where
+  -- what each element adds
+  pub pairs-gather : (f : ℕ → A → List C) (g : ℕ → B → List D) (d : A) (e : B) (i : ℕ) (xs : List A) (ys : List B) → length xs ≡ length ys
+      → ((k n : ℕ) → n ≡ i + k → k < length xs → Pairs S (f n (getD xs k d)) (g n (getD ys k e))) → Pairs S (gatherFrom f i xs) (gatherFrom g i ys)
+  unfolding gatherFrom
+  pairs-gather f g d e i [] [] l h = none
+  pairs-gather f g d e i [] (y ∷ ys) l h = absurd (omega arith)
+  pairs-gather f g d e i (x ∷ xs) [] l h = absurd (omega arith)
+  pairs-gather f g d e i (x ∷ xs) (y ∷ ys) l h =
+      pairs-append (h 0 i (omega arith) (omega arith)) (pairs-gather f g d e (i + 1) xs ys (omega arith) (λ k n q b. h (suc k) n (omega arith) (omega arith)))
+
+module _ {A B : Type 0} where
+  pub pairs-same : {C : Type 0} {f : A → C} {g : B → C} {xs : List A} {ys : List B} → Pairs (λ x y. f x ≡ g y) xs ys → map f xs ≡ map g ys
+  pairs-same none = refl
+  pairs-same {C = C} (more r p) = ap₂ {C = List C} _∷_ r (pairs-same p)
+
+  pub pairs-sum : {f : A → ℕ} {g : B → ℕ} {xs : List A} {ys : List B} → Pairs (λ x y. f x ≡ g y) xs ys → sumBy f xs ≡ sumBy g ys
+  unfolding sumBy
+  pairs-sum none = refl
+  pairs-sum (more r p) = omega (arith, r, pairs-sum p)
