@@ -21,6 +21,11 @@ module _ {A B : Type 0} {R : A → B → Type 0} where
   pairs-at d e q (more r p) zero = r
   pairs-at d e q (more r p) (suc k) = pairs-at d e q p k
 
+  pub pairs-in : {xs : List A} {ys : List B} (d : A) (e : B) → Pairs R xs ys → (k : ℕ) → k < length xs → R (getD xs k d) (getD ys k e)
+  pairs-in d e none k h = absurd (omega arith)
+  pairs-in d e (more r p) zero h = r
+  pairs-in d e (more r p) (suc k) h = pairs-in d e p k (omega arith)
+
   pub pairs-each : (d : A) (e : B) (xs : List A) (ys : List B) → length xs ≡ length ys → ((k : ℕ) → k < length xs → R (getD xs k d) (getD ys k e)) → Pairs R xs ys
   pairs-each d e [] [] l f = none
   pairs-each d e [] (y ∷ ys) l f = absurd (omega arith)
@@ -36,6 +41,12 @@ module _ {A B : Type 0} {R : A → B → Type 0} where
   pairs-set zero x y q (more r p) = more q p
   pairs-set (suc i) x y q (more r p) = more r (pairs-set i x y q p)
 
+  -- a store on one side
+  pub pairs-set-left : {xs : List A} {ys : List B} (i : ℕ) (x : A) (e : B) → R x (getD ys i e) → Pairs R xs ys → Pairs R (set xs i x) ys
+  pairs-set-left i x e q none = none
+  pairs-set-left zero x e q (more r p) = more q p
+  pairs-set-left (suc i) x e q (more r p) = more r (pairs-set-left i x e q p)
+
 module _ {A B C D : Type 0} {R : A → B → Type 0} {S : C → D → Type 0} where
   pub pairs-map : (f : A → C) (g : B → D) → ((x : A) (y : B) → R x y → S (f x) (g y)) → {xs : List A} {ys : List B} → Pairs R xs ys → Pairs S (map f xs) (map g ys)
   pairs-map f g h none = none
@@ -45,6 +56,24 @@ module _ {A B : Type 0} {R S : A → B → Type 0} where
   pub pairs-to : ((x : A) (y : B) → R x y → S x y) → {xs : List A} {ys : List B} → Pairs R xs ys → Pairs S xs ys
   pairs-to h none = none
   pairs-to h (more {x} {y} r p) = more (h x y r) (pairs-to h p)
+
+-- ---- a list and what it becomes
+
+module _ {A : Type 0} {R : A → A → Type 0} where
+  pub pairs-self : ((x : A) → R x x) → (xs : List A) → Pairs R xs xs
+  pairs-self f [] = none
+  pairs-self f (x ∷ xs) = more (f x) (pairs-self f xs)
+
+  pub pairs-map-self : (f : A → A) → ((x : A) → R x (f x)) → (xs : List A) → Pairs R xs (map f xs)
+  pairs-map-self f h [] = none
+  pairs-map-self f h (x ∷ xs) = more (h x) (pairs-map-self f h xs)
+
+  pub pairs-set-self : ((x : A) → R x x) → (xs : List A) (i : ℕ) (y d : A) → R (getD xs i d) y → Pairs R xs (set xs i y)
+  pairs-set-self f [] i y d q = none
+  pairs-set-self f (x ∷ xs) zero y d q = more q (pairs-self f xs)
+  pairs-set-self f (x ∷ xs) (suc i) y d q = more (f x) (pairs-set-self f xs i y d q)
+
+-- ---- gather, map and sumBy
 
 module _ {A B C D : Type 0} {S : C → D → Type 0} where
   -- what each element adds

@@ -1,3 +1,6 @@
 pub mod Relation
 pub mod Settling
+pub mod SoundRows
+pub mod Growing
+pub mod PlainEvents
 pub mod ReplayExample

@@ -1,0 +1,140 @@
+-- What soundness says of a row, in numbers.
+use mathlib.Core.Path.{_≡_, refl, sym, ap, _∙_}
+use mathlib.Core.Bool.{Bool, true, false, not, cond, _&&_, _||_, true≢false, false≢true}
+use Prim.Native.Nat.{ℕ, zero, suc, _+_, _≤_, _<_}
+use native.Mathlib.Omega.{arith}
+use mathlib.Core.List.{List}
+use native.Mathlib.Decide.{decLt}
+use lib.ListN.{length, getD, List·getD-eq-default}
+use lib.Dec.{eqb, leb, ltb}
+use borrow.Author.Tests.{leb-true, ltb-true, lt-ltb, eqb-true, not-true, not-false}
+use Rattle.lists.specs.Tests.{_is_, _from_to_, _implies_}
+use Rattle.lists.proofs.TestLaws.{and-left, and-right}
+use Rattle.rules.specs.Limits.{longestStage, highestFee}
+use Rattle.rules.specs.Schedule.{Schedule, scheduleFits, ratesFit}
+use Rattle.rules.specs.Rows.{Row, Toll, Fee, Payment, LastStage, Held, blank, rowNo, toll, heldToll, unsettled}
+use Rattle.rules.specs.Book.{Account, unused, Unused, Book, accountNo}
+use Rattle.rules.specs.Soundness.{settledFits, markFits, dueWithin, holdFits, accountUsed, names, referenceFits}
+use Rattle.rules.proofs.SoundnessLaws.{Near}
+
+pub and3 : (a b c : Bool) → a && b && c ≡ true → (a ≡ true) × (b ≡ true) × (c ≡ true)
+and3 a b c e = let d = and-left (a && b) c e in (and-left a b d, and-right a b d, and-right (a && b) c e)
+
+-- ---- a toll
+
+pub record Holding (today L : ℕ) (r : Row) : Type 0 where
+  pub start : 1 ≤ r .hold
+  pub recent : today ≤ r .hold + 29
+  pub past : r .hold ≤ today
+  pub open-still : unsettled r ≡ true
+  pub due-by : r .due ≤ r .hold + L
+  pub due-after : r .mark < LastStage → r .hold < r .due
+
+holding : (today L : ℕ) (r : Row) → holdFits today L r ≡ true → heldToll r ≡ true → Holding today L r
+unfolding holdFits
+holding today L r f h =
+    let k : toll r ≡ true = and-left (toll r) (r .dispute is Held) h in
+    let d : r .dispute is Held ≡ true = and-right (toll r) (r .dispute is Held) h in
+    let a : Bool = leb 1 (r .hold) && leb today (r .hold + 29) && leb (r .hold) today in
+    let c : Bool = leb (r .due) (r .hold + L) in
+    let z : Bool = ltb (r .mark) LastStage implies ltb (r .hold) (r .due) in
+    let e : a && unsettled r && c && z ≡ true = rw (k, d) at f in
+    let p = and3 (a && unsettled r) c z e in
+    let q = and3 (leb 1 (r .hold)) (leb today (r .hold + 29)) (leb (r .hold) today) (and-left a (unsettled r) (p .0)) in
+    record {
+      start = leb-true _ _ (q .0);
+      recent = leb-true _ _ (q .1);
+      past = leb-true _ _ (q .2);
+      open-still = and-right a (unsettled r) (p .0);
+      due-by = leb-true _ _ (p .1);
+      due-after = λ m. ltb-true (r .hold) (r .due) (rw (lt-ltb (r .mark) LastStage m) at (p .2));
+    }
+
+due-after : (past last : ℕ) (r : Row) → dueWithin past last r ≡ true → toll r ≡ true → unsettled r ≡ true → heldToll r ≡ false → r .mark < LastStage → past < r .due
+unfolding dueWithin
+due-after past last r f k u h m =
+    let e : leb (r .due) last && ltb past (r .due) ≡ true = rw (k, u, rw k at h, lt-ltb (r .mark) LastStage m) at f in
+    ltb-true past (r .due) (and-right (leb (r .due) last) (ltb past (r .due)) e)
+
+due-by : (past last : ℕ) (r : Row) → dueWithin past last r ≡ true → toll r ≡ true → r .due ≤ last
+unfolding dueWithin
+due-by past last r f k = leb-true (r .due) last (and-left (leb (r .due) last) _ (rw k at f))
+
+stage-by : (r : Row) → markFits r ≡ true → toll r ≡ true → r .mark ≤ LastStage
+unfolding markFits
+stage-by r f k = leb-true (r .mark) LastStage (rw k at f)
+
+settled-by : (r : Row) → settledFits r ≡ true → r .settled ≤ r .amount
+unfolding settledFits
+settled-by r f = leb-true (r .settled) (r .amount) (and-left (leb (r .settled) (r .amount)) _ f)
+
+-- ---- the row that a fee names, and a row's account
+
+pub record Refers (rows : List Row) (n : ℕ) (r : Row) : Type 0 where
+  pub earlier : r .reference < n
+  pub same : rowNo rows (r .reference) .account ≡ r .account
+
+named-row : (rows : List Row) (n : ℕ) (r : Row) (kind : ℕ) → names rows n r kind ≡ true → Refers rows n r
+unfolding names
+named-row rows n r kind f =
+    let p = and3 (ltb (r .reference) n) (rowNo rows (r .reference) .kind is kind) (rowNo rows (r .reference) .account is r .account) f in
+    record { earlier = ltb-true _ _ (p .0); same = eqb-true _ _ (p .2) }
+
+refers : (rows : List Row) (n : ℕ) (r : Row) → referenceFits rows n r ≡ true → r .kind is Fee ≡ true → Refers rows n r
+unfolding referenceFits
+refers rows n r f k =
+    let a : Bool = names rows n r Toll || names rows n r Payment in
+    either (names rows n r Toll) refl (and3 (r .kind is Fee implies a) _ _ f .0)
+  where
+    either : (v : Bool) → names rows n r Toll ≡ v → (r .kind is Fee implies v || names rows n r Payment) ≡ true → Refers rows n r
+    either true e g = named-row rows n r Toll e
+    either false e g = named-row rows n r Payment (rw k at g)
+
+pub record Within (n : ℕ) (a : ℕ) : Type 0 where
+  pub low : 1 ≤ a
+  pub high : a ≤ n
+
+account-in : (xs : List Account) (a : ℕ) → not (accountNo xs a .state is Unused) ≡ true → Within (length xs) a
+account-in xs zero e = absurd (false≢true e)
+account-in xs (suc a) e = elim (decLt a (length xs)) [
+    | yes h ↦ record { low = omega arith; high = omega arith }
+    | no h ↦ absurd (false≢true (rw (List·getD-eq-default xs unused {n = a} (omega arith)) at e))
+  ]
+
+-- ---- a row of a sound book
+
+pub record SoundRow (today L : ℕ) (accounts : ℕ) (rows : List Row) (n : ℕ) (r : Row) : Type 0 where
+  pub fits : r .settled ≤ r .amount
+  pub stage : toll r ≡ true → r .mark ≤ LastStage
+  pub holding : heldToll r ≡ true → Holding today L r
+  pub due-by : toll r ≡ true → r .due ≤ today + L
+  pub due-after : toll r ≡ true → unsettled r ≡ true → heldToll r ≡ false → r .mark < LastStage → today < r .due
+  pub refers : r .kind is Fee ≡ true → Refers rows n r
+  pub account : Within accounts (r .account)
+
+module _ (b : Book) (near : Near (b .day) b) where
+  pub sound-row : (k : ℕ) → k < length (b .rows) → SoundRow (b .day) (b .schedule .stage) (length (b .accounts)) (b .rows) (suc k) (getD (b .rows) k blank)
+  unfolding accountUsed
+  sound-row k h =
+      let r : Row = getD (b .rows) k blank in
+      let v = near .shape k h in
+      let w = near .live k h in
+      record {
+        fits = settled-by r (w .settled);
+        stage = stage-by r (v .mark);
+        holding = holding (b .day) (b .schedule .stage) r (w .hold);
+        due-by = due-by (b .day) (b .day + b .schedule .stage) r (w .due);
+        due-after = due-after (b .day) (b .day + b .schedule .stage) r (w .due);
+        refers = refers (b .rows) (suc k) r (v .reference);
+        account = account-in (b .accounts) (r .account) (v .account);
+      }
+
+  pub stage-length : 1 ≤ b .schedule .stage
+  unfolding scheduleFits
+  stage-length =
+      let s : Schedule = b .schedule in
+      let l : Bool = s .stage from 1 to longestStage in
+      let c : Bool = leb (s .fee2) highestFee in
+      let p : l && c && leb (s .fee3) highestFee && leb (s .fee4) highestFee && ratesFit (s .rates) ≡ true = near .schedule in
+      let q = and3 (l && c) (leb (s .fee3) highestFee) (leb (s .fee4) highestFee) (and-left (l && c && leb (s .fee3) highestFee && leb (s .fee4) highestFee) (ratesFit (s .rates)) p) in
+      leb-true 1 (s .stage) (and-left (leb 1 (s .stage)) (leb (s .stage) longestStage) (and-left l c (q .0)))
