@@ -57,6 +57,12 @@ module _ {A B : Type 0} {R S : A → B → Type 0} where
   pairs-to h none = none
   pairs-to h (more {x} {y} r p) = more (h x y r) (pairs-to h p)
 
+module _ {A B : Type 0} {R S : A → B → Type 0} where
+  -- a map on one side
+  pub pairs-map-right : (g : B → B) → ((x : A) (y : B) → R x y → S x (g y)) → {xs : List A} {ys : List B} → Pairs R xs ys → Pairs S xs (map g ys)
+  pairs-map-right g h none = none
+  pairs-map-right g h (more {x} {y} r p) = more (h x y r) (pairs-map-right g h p)
+
 -- ---- a list and what it becomes
 
 module _ {A : Type 0} {R : A → A → Type 0} where

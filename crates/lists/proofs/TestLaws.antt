@@ -20,6 +20,13 @@ and-right false b e = absurd (false≢true e)
 pub and-both : (a b : Bool) → a ≡ true → b ≡ true → a && b ≡ true
 and-both a b p q = rw p q
 
+-- ---- cond
+
+-- what holds of both holds of either
+pub cond-both : {A : Type 0} (P : A → Type 0) (v : Bool) (x y : A) → P x → P y → P (cond v x y)
+cond-both P true x y p q = p
+cond-both P false x y p q = q
+
 -- ---- allOf
 
 -- each test of a conjunction that holds

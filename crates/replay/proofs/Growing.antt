@@ -2,21 +2,22 @@
 -- name stay, since a fee names an earlier row. And the settlement that ends an event.
 use mathlib.Core.Path.{_≡_, refl, sym, ap, _∙_}
 use mathlib.Core.Bool.{Bool, true, false, cond, _&&_}
-use Prim.Native.Nat.{ℕ, zero, suc, _+_, _≤_, _<_}
+use Prim.Native.Nat.{ℕ, zero, suc, _+_, _-_, _≤_, _<_}
 use native.Mathlib.Omega.{arith}
-use mathlib.Core.List.{List, [], _∷_, _++_}
-use lib.ListN.{length, getD, List·getD-append}
+use native.Mathlib.Decide.{decLt}
+use mathlib.Core.List.{List, [], _∷_, _++_, append-nil}
+use lib.ListN.{length, getD, List·getD-append, List·getD-eq-default}
 use lib.Dec.{ltb}
 use borrow.Author.Tests.{ltb-true, lt-ltb}
 use Rattle.lists.specs.Tests.{_is_}
-use Rattle.lists.proofs.PairLaws.{Pairs, pairs-length, pairs-in, pairs-each, pairs-append, pairs-self}
+use Rattle.lists.proofs.PairLaws.{Pairs, none, more, pairs-length, pairs-at, pairs-in, pairs-each, pairs-append, pairs-self}
 use Rattle.rules.specs.Rows.{Row, Toll, Fee, blank, rowNo, settleMore}
 use Rattle.rules.specs.Book.{Book, settled}
 use Rattle.rules.proofs.SoundnessLaws.{Near}
-use Rattle.replay.specs.Entries.{Entry, noEntry, withCovered}
+use Rattle.replay.specs.Entries.{Entry, noEntry, entryNo, withCovered}
 use Rattle.replay.specs.Replay.{Replay, settledReplay}
 use Rattle.replay.specs.Demand3.{tollNamed}
-use Rattle.replay.proofs.Relation.{Face, Match, Named, Rows, Alike}
+use Rattle.replay.proofs.Relation.{Face, Match, Named, Rows, Alike, match-blank}
 use Rattle.replay.proofs.Settling.{settleAll-pairs}
 use Rattle.replay.proofs.SoundRows.{sound-row}
 
@@ -37,7 +38,7 @@ pub record Kept (r s : Row) : Type 0 where
 pub kept-self : (r : Row) → Kept r r
 kept-self r = record { kind = refl; reference = refl }
 
-kind-kept : (rows olds news : List Row) → Pairs Kept rows olds → (n : ℕ) → n ≤ length rows → rowNo (olds ++ news) n .kind ≡ rowNo rows n .kind
+pub kind-kept : (rows olds news : List Row) → Pairs Kept rows olds → (n : ℕ) → n ≤ length rows → rowNo (olds ++ news) n .kind ≡ rowNo rows n .kind
 kind-kept rows olds news p zero h = refl
 kind-kept rows olds news p (suc n) h =
     let l = pairs-length p in
@@ -72,6 +73,37 @@ grow rows xs f p olds olds′ q u s news news′ n =
       is = pairs-in blank noEntry s k h;
       toll = named-kept rows olds news f q k (omega arith) ∙ pairs-in blank noEntry p k (omega arith) .toll ∙ pairs-in noEntry noEntry u k (omega arith);
     })) n
+
+-- none is added
+pub regrow : {R S : Row → Entry → Type 0} (rows : List Row) (xs : List Entry) → Referring rows → Rows R rows xs
+    → (olds : List Row) (olds′ : List Entry) → Pairs Kept rows olds → Pairs SameToll xs olds′ → Pairs S olds olds′ → Rows S olds olds′
+regrow rows xs f p olds olds′ q u s = rw (append-nil olds, append-nil olds′) at (grow rows xs f p olds olds′ q u s [] [] none)
+
+-- ---- the row and the entry of a number
+
+-- the place of a row that there is
+pub record Place (rows : List Row) (n : ℕ) : Type 0 where
+  pub low : 1 ≤ n
+  pub high : n - 1 < length rows
+
+pub row-place : (rows : List Row) (n k : ℕ) → rowNo rows n .kind ≡ suc k → Place rows n
+row-place rows zero k e = absurd (omega arith)
+row-place rows (suc n) k e = go (decLt n (length rows))
+  where
+    go : Dec (n < length rows) → Place rows (suc n)
+    go (yes h) = record { low = omega arith; high = omega arith }
+    go (no h) = let z : 0 ≡ suc k = rw (List·getD-eq-default rows blank {n = n} (omega arith)) at e in absurd (omega arith)
+
+pub number-at : {A : Type 0} (xs : List A) (n : ℕ) (d : A) → 1 ≤ n → getD xs (n - 1) d ≡ getD (d ∷ xs) n d
+number-at xs zero d h = absurd (omega arith)
+number-at xs (suc n) d h = let z : suc n - 1 ≡ n = omega arith in rw z
+
+pub rows-no : {today L : ℕ} {rows : List Row} {xs : List Entry} → Rows (Match today L) rows xs → (n : ℕ) → Named (Match today L) rows (rowNo rows n) (entryNo xs n)
+unfolding tollNamed
+rows-no {today} {L} {rows} p n = pairs-at blank noEntry q (more q p) n
+  where
+    q : Named (Match today L) rows blank noEntry
+    q = record { is = match-blank today L; toll = refl }
 
 -- ---- settlement
 

@@ -62,15 +62,15 @@ pub record Alike (b : Book) (p : Replay) : Type 0 where
 pub face-blank : Face blank noEntry
 face-blank = record { kind = refl; account = refl; day = refl; amount = refl; settled = refl; hold = refl }
 
--- a row and an entry of which neither is a toll
-pub track-other : (today L : ℕ) (r : Row) (x : Entry) → toll r ≡ false → x .ticks ≡ 0 → Track today L r x
+-- a row that is no toll
+pub track-other : (today L : ℕ) (r : Row) (x : Entry) → toll r ≡ false → (r .dispute ≡ 0 → x .ticks ≡ 0) → Track today L r x
 track-other today L r x k e = record {
   ticks = λ h. absurd (false≢true (rw k at h));
-  fresh = λ h. e;
+  fresh = e;
   clock = λ h. absurd (false≢true (rw k at h));
   low = λ h. absurd (false≢true (rw k at h));
   high = λ h. absurd (false≢true (rw k at h));
 }
 
 pub match-blank : (today L : ℕ) → Match today L blank noEntry
-match-blank today L = record { face = face-blank; track = track-other today L blank noEntry refl refl }
+match-blank today L = record { face = face-blank; track = track-other today L blank noEntry refl (λ h. refl) }
