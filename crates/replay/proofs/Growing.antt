@@ -86,13 +86,16 @@ pub record Place (rows : List Row) (n : ℕ) : Type 0 where
   pub low : 1 ≤ n
   pub high : n - 1 < length rows
 
-pub row-place : (rows : List Row) (n k : ℕ) → rowNo rows n .kind ≡ suc k → Place rows n
-row-place rows zero k e = absurd (omega arith)
-row-place rows (suc n) k e = go (decLt n (length rows))
+pub row-there : (rows : List Row) (n : ℕ) → (rowNo rows n .kind ≡ 0 → ⊥) → Place rows n
+row-there rows zero e = absurd (e refl)
+row-there rows (suc n) e = go (decLt n (length rows))
   where
     go : Dec (n < length rows) → Place rows (suc n)
     go (yes h) = record { low = omega arith; high = omega arith }
-    go (no h) = let z : 0 ≡ suc k = rw (List·getD-eq-default rows blank {n = n} (omega arith)) at e in absurd (omega arith)
+    go (no h) = absurd (e (rw (List·getD-eq-default rows blank {n = n} (omega arith))))
+
+pub row-place : (rows : List Row) (n k : ℕ) → rowNo rows n .kind ≡ suc k → Place rows n
+row-place rows n k e = row-there rows n (λ z. omega arith)
 
 pub number-at : {A : Type 0} (xs : List A) (n : ℕ) (d : A) → 1 ≤ n → getD xs (n - 1) d ≡ getD (d ∷ xs) n d
 number-at xs zero d h = absurd (omega arith)

@@ -4,4 +4,6 @@ pub mod SoundRows
 pub mod Growing
 pub mod PlainEvents
 pub mod RowEvents
+pub mod Balances
+pub mod Idle
 pub mod ReplayExample
