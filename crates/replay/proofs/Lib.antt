@@ -6,4 +6,5 @@ pub mod PlainEvents
 pub mod RowEvents
 pub mod Balances
 pub mod Idle
+pub mod SettledAccounts
 pub mod ReplayExample
