@@ -52,6 +52,11 @@ module _ {A B C D : Type 0} {R : A → B → Type 0} {S : C → D → Type 0} wh
   pairs-map f g h none = none
   pairs-map f g h (more {x} {y} r p) = more (h x y r) (pairs-map f g h p)
 
+  pub pairs-map-in : (f : A → C) (g : B → D) (d : A) (e : B) {xs : List A} {ys : List B} → Pairs R xs ys
+      → ((k : ℕ) → k < length xs → R (getD xs k d) (getD ys k e) → S (f (getD xs k d)) (g (getD ys k e))) → Pairs S (map f xs) (map g ys)
+  pairs-map-in f g d e none h = none
+  pairs-map-in f g d e (more r p) h = more (h 0 (omega arith) r) (pairs-map-in f g d e p (λ k l. h (suc k) (omega arith)))
+
 module _ {A B : Type 0} {R S : A → B → Type 0} where
   pub pairs-to : ((x : A) (y : B) → R x y → S x y) → {xs : List A} {ys : List B} → Pairs R xs ys → Pairs S xs ys
   pairs-to h none = none

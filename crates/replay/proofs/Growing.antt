@@ -101,17 +101,17 @@ pub number-at : {A : Type 0} (xs : List A) (n : ℕ) (d : A) → 1 ≤ n → get
 number-at xs zero d h = absurd (omega arith)
 number-at xs (suc n) d h = let z : suc n - 1 ≡ n = omega arith in rw z
 
-pub rows-no : {today L : ℕ} {rows : List Row} {xs : List Entry} → Rows (Match today L) rows xs → (n : ℕ) → Named (Match today L) rows (rowNo rows n) (entryNo xs n)
+pub rows-no : {late today L : ℕ} {rows : List Row} {xs : List Entry} → Rows (Match late today L) rows xs → (n : ℕ) → Named (Match late today L) rows (rowNo rows n) (entryNo xs n)
 unfolding tollNamed
-rows-no {today} {L} {rows} p n = pairs-at blank noEntry q (more q p) n
+rows-no {late} {today} {L} {rows} p n = pairs-at blank noEntry q (more q p) n
   where
-    q : Named (Match today L) rows blank noEntry
-    q = record { is = match-blank today L; toll = refl }
+    q : Named (Match late today L) rows blank noEntry
+    q = record { is = match-blank late today L; toll = refl }
 
 -- ---- settlement
 
-match-keep : (today L : ℕ) (r : Row) (x : Entry) (n : ℕ) → Match today L r x → Match today L (settleMore r n) (withCovered (x .covered + n) x)
-match-keep today L r x n m =
+pub match-keep : (late today L : ℕ) (r : Row) (x : Entry) (n : ℕ) → Match late today L r x → Match late today L (settleMore r n) (withCovered (x .covered + n) x)
+match-keep late today L r x n m =
     let f = m .face in
     let t = m .track in
     let s : r .settled ≡ x .covered = f .settled in
@@ -132,6 +132,6 @@ settled-alike b p a = record {
   day = a .day;
   schedule = a .schedule;
   rows = rw (← (pairs-length (a .notes)))
-      (settleAll-pairs (Match (b .day) (b .schedule .stage)) (λ r x m. m .face) (match-keep (b .day) (b .schedule .stage)) (length (b .accounts)) (a .rows));
+      (settleAll-pairs (Match 0 (b .day) (b .schedule .stage)) (λ r x m. m .face) (match-keep 0 (b .day) (b .schedule .stage)) (length (b .accounts)) (a .rows));
   notes = a .notes;
 }

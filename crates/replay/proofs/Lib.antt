@@ -7,4 +7,5 @@ pub mod RowEvents
 pub mod Balances
 pub mod Idle
 pub mod SettledAccounts
+pub mod Dawn
 pub mod ReplayExample

@@ -62,7 +62,7 @@ unused-request b near (suc n) e = elim (decLt n (length (b .accounts))) [
 
 -- ---- a row and its entry are added
 
-pub add-alike : (b : Book) (p : Replay) → Referring (b .rows) → Alike b p → (r : Row) (x : Entry) → Match (b .day) (b .schedule .stage) r x
+pub add-alike : (b : Book) (p : Replay) → Referring (b .rows) → Alike b p → (r : Row) (x : Entry) → Match 0 (b .day) (b .schedule .stage) r x
     → tollNamed (b .rows ++ (r ∷ [])) r ≡ x .toll → Alike (addRow r b) (addEntry x p)
 add-alike b p f a r x m t = record {
   day = a .day;
@@ -110,7 +110,7 @@ postToll-alike b p e near a =
 payment-alike : (b : Book) (p : Replay) → Referring (b .rows) → Alike b p → (r : Row) (x : Entry) → Face r x → r .kind ≡ Payment → x .ticks ≡ 0 → x .toll ≡ 0 → Alike (addRow r b) (addEntry x p)
 unfolding tollNamed
 payment-alike b p g a r x f q t n =
-    add-alike b p g a r x (record { face = f; track = track-other (b .day) (b .schedule .stage) r x (rw q) (λ h. t) }) (rw q (sym n))
+    add-alike b p g a r x (record { face = f; track = track-other 0 (b .day) (b .schedule .stage) r x (rw q) (λ h. t) }) (rw q (sym n))
 
 pub postPayment-alike : (b : Book) (p : Replay) (e : Instruction) → Near (b .day) b → Alike b p → Alike (postPayment b e) (addPayment p e)
 unfolding postPayment addPayment

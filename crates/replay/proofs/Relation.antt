@@ -26,17 +26,18 @@ pub record Face (r : Row) (x : Entry) : Type 0 where
 abbrev pub clockOf : ℕ → Row → ℕ
 clockOf today r = cond (heldToll r) (r .hold) today
 
--- what the replay counts of a toll: ticks since the hold began, and open days, of which L make a stage and the rest lies before the due day
-pub record Track (today L : ℕ) (r : Row) (x : Entry) : Type 0 where
+-- what the replay counts of a toll: ticks since the hold began, and open days, of which L make a stage and the rest lies before the due
+-- day; late is 0, and 1 in the midst of a tick, when a stage's last open day is counted and the stage not yet reached
+pub record Track (late today L : ℕ) (r : Row) (x : Entry) : Type 0 where
   pub ticks : heldToll r ≡ true → x .ticks + r .hold ≡ today
   pub fresh : r .dispute ≡ 0 → x .ticks ≡ 0
   pub clock : toll r ≡ true → unsettled r ≡ true → r .mark < LastStage → x .open-days + r .due ≡ r .mark * L + L + clockOf today r
   pub low : toll r ≡ true → r .mark * L ≤ x .open-days
-  pub high : toll r ≡ true → r .mark < LastStage → x .open-days < r .mark * L + L
+  pub high : toll r ≡ true → r .mark < LastStage → x .open-days < r .mark * L + L + late
 
-pub record Match (today L : ℕ) (r : Row) (x : Entry) : Type 0 where
+pub record Match (late today L : ℕ) (r : Row) (x : Entry) : Type 0 where
   pub face : Face r x
-  pub track : Track today L r x
+  pub track : Track late today L r x
 
 -- R, and the toll that the row names is the entry's
 pub record Named (R : Row → Entry → Type 0) (rows : List Row) (r : Row) (x : Entry) : Type 0 where
@@ -54,7 +55,7 @@ pub record Noted (x : Account) (n : Note) : Type 0 where
 pub record Alike (b : Book) (p : Replay) : Type 0 where
   pub day : b .day ≡ p .day
   pub schedule : b .schedule ≡ p .schedule
-  pub rows : Rows (Match (b .day) (b .schedule .stage)) (b .rows) (p .entries)
+  pub rows : Rows (Match 0 (b .day) (b .schedule .stage)) (b .rows) (p .entries)
   pub notes : Pairs Noted (b .accounts) (p .notes)
 
 -- ---- where there is no row and no entry
@@ -63,8 +64,8 @@ pub face-blank : Face blank noEntry
 face-blank = record { kind = refl; account = refl; day = refl; amount = refl; settled = refl; hold = refl }
 
 -- a row that is no toll
-pub track-other : (today L : ℕ) (r : Row) (x : Entry) → toll r ≡ false → (r .dispute ≡ 0 → x .ticks ≡ 0) → Track today L r x
-track-other today L r x k e = record {
+pub track-other : (late today L : ℕ) (r : Row) (x : Entry) → toll r ≡ false → (r .dispute ≡ 0 → x .ticks ≡ 0) → Track late today L r x
+track-other late today L r x k e = record {
   ticks = λ h. absurd (false≢true (rw k at h));
   fresh = e;
   clock = λ h. absurd (false≢true (rw k at h));
@@ -72,5 +73,5 @@ track-other today L r x k e = record {
   high = λ h. absurd (false≢true (rw k at h));
 }
 
-pub match-blank : (today L : ℕ) → Match today L blank noEntry
-match-blank today L = record { face = face-blank; track = track-other today L blank noEntry refl (λ h. refl) }
+pub match-blank : (late today L : ℕ) → Match late today L blank noEntry
+match-blank late today L = record { face = face-blank; track = track-other late today L blank noEntry refl (λ h. refl) }

@@ -32,7 +32,7 @@ use Rattle.replay.proofs.PlainEvents.{noted-no, account-alike}
 -- ---- a row and its entry change
 
 change-alike : (b : Book) (p : Replay) → Referring (b .rows) → Alike b p → (n : ℕ) → 1 ≤ n → (r : Row) (x : Entry) → Kept (row b n) r → SameToll (entryNo (p .entries) n) x
-    → Match (b .day) (b .schedule .stage) r x → Alike (putRow n r b) (changeEntry n x p)
+    → Match 0 (b .day) (b .schedule .stage) r x → Alike (putRow n r b) (changeEntry n x p)
 change-alike b p f a n h r x k t m = record {
   day = a .day;
   schedule = a .schedule;
@@ -69,9 +69,9 @@ holdToll-alike b p e near a k d =
 -- ---- 6, verdict 0
 
 -- a row whose hold ends
-pub release-match : (today L : ℕ) (r : Row) (x : Entry) → heldToll r ≡ true → r .hold ≤ today → Match today L r x → Match today L (release today r) (withHold false x)
+pub release-match : (late today L : ℕ) (r : Row) (x : Entry) → heldToll r ≡ true → r .hold ≤ today → Match late today L r x → Match late today L (release today r) (withHold false x)
 unfolding release
-release-match today L r x h l m =
+release-match late today L r x h l m =
     let f = m .face in
     let t = m .track in
     let none : toll r && false ≡ false = and-false (toll r) in
@@ -97,13 +97,13 @@ reject-alike b p e near a h k =
     let n = row-place (b .rows) (e .a) 0 k in
     let past : row b (e .a) .hold ≤ b .day = rw (number-at (b .rows) (e .a) blank (n .low)) at (sound-row b near (e .a - 1) (n .high) .holding (rw (number-at (b .rows) (e .a) blank (n .low)) h) .past) in
     change-alike b p (referring b near) a (e .a) (n .low) _ _ (unfold release in (record { kind = refl; reference = refl })) refl
-    (release-match (b .day) (b .schedule .stage) (row b (e .a)) _ h past (rows-no (a .rows) (e .a) .is))
+    (release-match 0 (b .day) (b .schedule .stage) (row b (e .a)) _ h past (rows-no (a .rows) (e .a) .is))
 
 -- ---- 6, verdict 1
 
 -- a row settled whole
-pub whole-match : (today L : ℕ) (r : Row) (x : Entry) → Match today L r x → Match today L (settleWhole r) (coverWhole x)
-whole-match today L r x m =
+pub whole-match : (late today L : ℕ) (r : Row) (x : Entry) → Match late today L r x → Match late today L (settleWhole r) (coverWhole x)
+whole-match late today L r x m =
     let f = m .face in
     let t = m .track in
     record {
@@ -164,13 +164,13 @@ module _ (b : Book) (p : Replay) (e : Instruction) (near : Near (b .day) b) (a :
   fees-same f g same keep =
       let q : f (row b n) ≡ g x = same (row b n) x (rows-no (a .rows) n .is .face) in
       let u : sumBy (only (feeNaming n) f) (b .rows) ≡ sumBy (only (feeOf n) g) (p .entries) =
-      pairs-sum (pairs-to {R = Named (Match (b .day) (b .schedule .stage)) (b .rows)} (λ r y m. unfold only in (rw (fee-same (b .rows) n k r y (m .is .face) (m .toll), same r y (m .is .face)))) (a .rows)) in
+      pairs-sum (pairs-to {R = Named (Match 0 (b .day) (b .schedule .stage)) (b .rows)} (λ r y m. unfold only in (rw (fee-same (b .rows) n k r y (m .is .face) (m .toll), same r y (m .is .face)))) (a .rows)) in
       let w : sumBy (only (feeOf n) g) freed ≡ sumBy (only (feeOf n) g) (p .entries) =
       sumBy-set-same (only (feeOf n) g) (p .entries) i (withHold false x) noEntry (unfold only feeOf in (rw (number-at (p .entries) n noEntry (place .low), keep x))) in
       rw (freed-at, keep x) (omega arith)
 
   -- the toll, settled whole
-  upheld-match : Match (b .day) (b .schedule .stage) (settleWhole (Rows.withHold 0 (withDispute Upheld (row b n)))) (coverWhole (withHold false x))
+  upheld-match : Match 0 (b .day) (b .schedule .stage) (settleWhole (Rows.withHold 0 (withDispute Upheld (row b n)))) (coverWhole (withHold false x))
   upheld-match =
       let m = rows-no (a .rows) n .is in
       let f = m .face in
@@ -201,7 +201,7 @@ module _ (b : Book) (p : Replay) (e : Instruction) (near : Near (b .day) b) (a :
             (pairs-map-right fee-settled (λ s t q. kept-fee s t q) (pairs-set-self kept-self (b .rows) i r blank (rw (number-at (b .rows) n blank low) (record { kind = refl; reference = refl }))))
             (pairs-map-right fee-covered (λ s t q. toll-fee s t q) (pairs-set-self (λ z. refl) (p .entries) i y noEntry (rw (number-at (p .entries) n noEntry low))))
             (pairs-map fee-settled fee-covered fee-match (pairs-set i r y (record { is = upheld-match; toll = rows-no (a .rows) n .toll }) (a .rows)))
-            (_ ∷ []) (_ ∷ []) (more (record { is = record { face = credit-face; track = track-other (b .day) (b .schedule .stage) _ _ refl (λ q. refl) }; toll = refl }) none);
+            (_ ∷ []) (_ ∷ []) (more (record { is = record { face = credit-face; track = track-other 0 (b .day) (b .schedule .stage) _ _ refl (λ q. refl) }; toll = refl }) none);
       })
     where
       fee-settled : Row → Row
@@ -216,11 +216,11 @@ module _ (b : Book) (p : Replay) (e : Instruction) (near : Near (b .day) b) (a :
       toll-fee : (s t : Entry) → SameToll s t → SameToll s (fee-covered t)
       toll-fee s t q = cond-both (λ (u : Entry). SameToll s u) (feeOf n t) (coverWhole t) t q q
 
-      fee-match : (r : Row) (y : Entry) → Named (Match (b .day) (b .schedule .stage)) (b .rows) r y → Match (b .day) (b .schedule .stage) (fee-settled r) (fee-covered y)
+      fee-match : (r : Row) (y : Entry) → Named (Match 0 (b .day) (b .schedule .stage)) (b .rows) r y → Match 0 (b .day) (b .schedule .stage) (fee-settled r) (fee-covered y)
       fee-match r y m = rw (fee-same (b .rows) n k r y (m .is .face) (m .toll)) (go (feeOf n y))
         where
-          go : (v : Bool) → Match (b .day) (b .schedule .stage) (cond v (settleWhole r) r) (cond v (coverWhole y) y)
-          go true = whole-match (b .day) (b .schedule .stage) r y (m .is)
+          go : (v : Bool) → Match 0 (b .day) (b .schedule .stage) (cond v (settleWhole r) r) (cond v (coverWhole y) y)
+          go true = whole-match 0 (b .day) (b .schedule .stage) r y (m .is)
           go false = m .is
 
       credit-face : Face
@@ -270,10 +270,10 @@ returnCheck-alike b p e near a h k =
     let kept : Kept old r = rw (number-at (b .rows) n blank (place .low)) (record { kind = refl; reference = refl }) in
     let olds : List Row = set (b .rows) (n - 1) r in
     let keeps : Pairs Kept (b .rows) olds = pairs-set-self kept-self (b .rows) (n - 1) r blank kept in
-    let new : Match (b .day) (b .schedule .stage) r (getD (p .entries) (n - 1) noEntry) =
+    let new : Match 0 (b .day) (b .schedule .stage) r (getD (p .entries) (n - 1) noEntry) =
     rw (number-at (p .entries) n noEntry (place .low)) (record {
       face = record { kind = f .kind; account = f .account; day = f .day; amount = f .amount; settled = f .settled; hold = f .hold };
-      track = track-other (b .day) (b .schedule .stage) r _ (rw k) (m .track .fresh);
+      track = track-other 0 (b .day) (b .schedule .stage) r _ (rw k) (m .track .fresh);
     }) in
     rw (append-assoc olds, append-assoc (p .entries)) (record {
       day = a .day;
@@ -282,7 +282,7 @@ returnCheck-alike b p e near a h k =
       rows = grow (b .rows) (p .entries) (referring b near) (a .rows) olds (p .entries) keeps (pairs-self (λ y. refl) (p .entries))
           (pairs-set-left (n - 1) r noEntry new (pairs-to (λ s y q. q .is) (a .rows)))
           (_ ∷ _ ∷ []) (_ ∷ _ ∷ [])
-          (more (record { is = record { face = record { kind = refl; account = refl; day = a .day; amount = f .amount; settled = refl; hold = refl }; track = track-other (b .day) (b .schedule .stage) _ _ refl (λ q. refl) }; toll = refl })
-          (more (record { is = record { face = record { kind = refl; account = refl; day = a .day; amount = refl; settled = refl; hold = refl }; track = track-other (b .day) (b .schedule .stage) _ _ refl (λ q. refl) };
+          (more (record { is = record { face = record { kind = refl; account = refl; day = a .day; amount = f .amount; settled = refl; hold = refl }; track = track-other 0 (b .day) (b .schedule .stage) _ _ refl (λ q. refl) }; toll = refl })
+          (more (record { is = record { face = record { kind = refl; account = refl; day = a .day; amount = refl; settled = refl; hold = refl }; track = track-other 0 (b .day) (b .schedule .stage) _ _ refl (λ q. refl) };
               toll = rw (kind-kept (b .rows) olds _ keeps n (omega (arith, place .low, place .high)), k) }) none));
     })
