@@ -8,7 +8,7 @@ use native.Mathlib.Omega.{arith}
 use native.Mathlib.Decide.{ℕ-discrete}
 use native.Mathlib.Numerals.{add-one}
 use mathlib.Core.List.{List, [], _∷_, _++_, map, map-append}
-use lib.ListN.{length, getD, set, take, drop, replicate, length-append, List·getD-append}
+use lib.ListN.{length, getD, set, take, drop, replicate, length-append, List·getD-append, List·getD-map}
 use lib.Seq.{set-append-left, set-at, getD-at, getD-drop, take-suc, drop-cons}
 use Rattle.lists.specs.Lists.{everyFrom, tabulate}
 use Rattle.lists.proofs.TestLaws.{and-left, and-right, and-both}
@@ -84,3 +84,9 @@ module _ {A B : Type 0} where
   unfolding tabulate
   tabulate-map h f g zero e = refl
   tabulate-map h f g (suc n) e = rw (tabulate-map h f g n (λ k q. e k (omega arith)), e n (omega arith), map-append)
+
+-- ---- map
+
+-- an element of a map that leaves what stands past the end
+pub map-at : {A : Type 0} (f : A → A) (xs : List A) (k : ℕ) (d : A) → f d ≡ d → getD (map f xs) k d ≡ f (getD xs k d)
+map-at {A} f xs k d e = ap (λ (z : A). getD (map f xs) k z) (sym e) ∙ List·getD-map f xs k d

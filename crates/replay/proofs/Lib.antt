@@ -8,4 +8,6 @@ pub mod Balances
 pub mod Idle
 pub mod SettledAccounts
 pub mod Dawn
+pub mod EntryLaws
+pub mod Raising
 pub mod ReplayExample
