@@ -10,4 +10,5 @@ pub mod SettledAccounts
 pub mod Dawn
 pub mod EntryLaws
 pub mod Raising
+pub mod RaisedFees
 pub mod ReplayExample

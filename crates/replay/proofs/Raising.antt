@@ -83,6 +83,9 @@ module _ (b : Book) (p : Replay) (sound : Sound b) (a : Alike b p) where
   unfolding beforeRaising settled endHolds nextDay dawn
   dusk-is = refl
 
+  pub dusk-length : length dusk ≡ length (b .rows)
+  dusk-length = rw dusk-is (length-all (length (b .accounts)) dawned ∙ length-map (b .rows) (dawn today))
+
   dawn-at : (k : ℕ) → getD dawned k blank ≡ dawn today (getD (b .rows) k blank)
   unfolding dawn holdEnds
   dawn-at k = map-at (dawn today) (b .rows) k blank refl
@@ -107,14 +110,11 @@ module _ (b : Book) (p : Replay) (sound : Sound b) (a : Alike b p) where
     abbrev y : Entry
     y = getD duskEntries k noEntry
 
-    old : Match 0 (b .day) L r x
+    pub old : Match 0 (b .day) L r x
     old = pairs-in blank noEntry (a .rows) k h .is
 
-    new : Match 1 today L s y
-    new = pairs-in blank noEntry (dusk-rows b p (sound .near) a) k (rw (dusk-is, length-all (length (b .accounts)) dawned, length-map (b .rows) (dawn today)) h) .is
-
-    row-sound : SoundRow (b .day) L (length (b .accounts)) (b .rows) (suc k) r
-    row-sound = sound-row b (sound .near) k h
+    pub new : Match 1 today L s y
+    new = pairs-in blank noEntry (dusk-rows b p (sound .near) a) k (rw dusk-length h) .is
 
     -- an open toll has no money beside it, so settlement leaves it
     pub open-stays : gains x ≡ true → s ≡ r
@@ -126,7 +126,7 @@ module _ (b : Book) (p : Replay) (sound : Sound b) (a : Alike b p) where
         let d : getD dawned k blank ≡ r = dawn-at k ∙ dawn-free today r f in
         rw dusk-is (all-stay (length (b .accounts)) dawned (r .account) (dawn-money (r .account) ∙ none) k (rw d (eq-eqb (r .account) (r .account) refl)) ∙ d)
 
-    kept : bare s ≡ bare (dawn today r)
+    pub kept : bare s ≡ bare (dawn today r)
     kept = rw dusk-is (all-row (length (b .accounts)) dawned k .kept ∙ ap (λ (q : Row). bare q) (dawn-at k))
 
     pub mark-same : s .mark ≡ r .mark
