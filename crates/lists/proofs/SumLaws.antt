@@ -5,8 +5,9 @@ use Prim.Native.Nat.{ℕ, zero, suc, _+_, _≤_, _<_}
 use mathlib.Core.List.{List, [], _∷_, _++_, map}
 use native.Mathlib.Nat.{le-of-suc-le-suc, not-suc-le-zero}
 use native.Mathlib.Omega.{arith}
+use native.Mathlib.Decide.{decLt}
 use lib.ListN.{length, take, drop, getD, set}
-use Rattle.lists.specs.Lists.{sumBy, count}
+use Rattle.lists.specs.Lists.{sumBy, count, gatherFrom}
 
 module _ {A : Type 0} where
   pub sumBy-append : (f : A → ℕ) (xs ys : List A) → sumBy f (xs ++ ys) ≡ sumBy f xs + sumBy f ys
@@ -70,6 +71,16 @@ module _ {A : Type 0} where
   sumBy-zero f [] e = refl
   sumBy-zero f (x ∷ xs) e = omega (arith, e x, sumBy-zero f xs e)
 
+  -- a sum is above 0 where another is: each element's share is
+  pub sumBy-some : (f g : A → ℕ) (d : A) (xs : List A) → ((k : ℕ) → k < length xs → 0 < f (getD xs k d) → 0 < g (getD xs k d)) → 0 < sumBy f xs → 0 < sumBy g xs
+  unfolding sumBy
+  sumBy-some f g d [] e h = h
+  sumBy-some f g d (x ∷ xs) e h = go (decLt 0 (f x)) (λ q. sumBy-some f g d xs (λ k l. e (suc k) (omega arith)) q)
+    where
+      go : Dec (0 < f x) → (0 < sumBy f xs → 0 < sumBy g xs) → 0 < g x + sumBy g xs
+      go (yes q) i = omega (arith, e 0 (omega arith) q)
+      go (no q) i = let r : 0 < sumBy g xs = i (omega arith) in omega arith
+
 -- no more elements pass than there are
 pub count-le : {A : Type 0} (t : A → Bool) (xs : List A) → count t xs ≤ length xs
 unfolding count sumBy
@@ -84,3 +95,23 @@ pub sumBy-map : {A B : Type 0} (f : B → ℕ) (g : A → B) (xs : List A) → s
 unfolding sumBy
 sumBy-map f g [] = refl
 sumBy-map f g (x ∷ xs) = omega (arith, sumBy-map f g xs)
+
+module _ {A B : Type 0} (h : ℕ → A → List B) where
+  -- sums of what each element adds
+  pub sumBy-gather : (f g : B → ℕ) (d : A) (i : ℕ) (xs : List A) → ((k n : ℕ) → n ≡ i + k → k < length xs → sumBy f (h n (getD xs k d)) ≡ sumBy g (h n (getD xs k d)))
+      → sumBy f (gatherFrom h i xs) ≡ sumBy g (gatherFrom h i xs)
+  unfolding gatherFrom sumBy
+  sumBy-gather f g d i [] e = refl
+  sumBy-gather f g d i (x ∷ xs) e =
+      omega (
+        arith,
+        sumBy-append f (h i x) (gatherFrom h (i + 1) xs),
+        sumBy-append g (h i x) (gatherFrom h (i + 1) xs),
+        e 0 i (omega arith) (omega arith),
+        sumBy-gather f g d (i + 1) xs (λ k n q l. e (suc k) n (omega arith) (omega arith)),
+      )
+
+  pub sumBy-gather-none : (f : B → ℕ) (d : A) (i : ℕ) (xs : List A) → ((k n : ℕ) → n ≡ i + k → k < length xs → sumBy f (h n (getD xs k d)) ≡ 0) → sumBy f (gatherFrom h i xs) ≡ 0
+  sumBy-gather-none f d i xs e =
+      omega (arith, sumBy-zero (λ (y : B). 0) (gatherFrom h i xs) (λ y. refl),
+        sumBy-gather f (λ y. 0) d i xs (λ k n q l. omega (arith, e k n q l, sumBy-zero (λ (y : B). 0) (h n (getD xs k d)) (λ y. refl))))

@@ -11,4 +11,5 @@ pub mod Dawn
 pub mod EntryLaws
 pub mod Raising
 pub mod RaisedFees
+pub mod Evening
 pub mod ReplayExample

@@ -27,7 +27,7 @@ use Rattle.replay.proofs.Relation.{Face, Match, Named, Rows, Alike, tra
 use Rattle.replay.proofs.SoundRows.{stage-length, and3}
 use Rattle.replay.proofs.Growing.{Referring, referring, Kept, kind-kept, grow}
 use Rattle.replay.proofs.Dawn.{dawn-keeps, gains-same, dusk-rows}
-use Rattle.replay.proofs.Raising.{Rising, rising, old, new, kept, dusk-length, duskEntries, Reached, rises-reached, reached-rises, raise-match, mark-same, toll-same}
+use Rattle.replay.proofs.Raising.{raise-keeps, rising, old, new, kept, dusk-length, duskEntries, Reached, rises-reached, reached-rises, raise-match, mark-same, toll-same}
 
 -- ---- the open days of stage k, and of the stage after m
 
@@ -143,12 +143,8 @@ module _ (b : Book) (p : Replay) (sound : Sound b) (a : Alike b p) where
   abbrev fees : List Row
   fees = gather (feeRow (b .schedule) now) evening
 
-  raise-keeps : {B : Type 0} (g : Row → B) → ((r : Row) (v w : ℕ) → g (withDue v (withMark w r)) ≡ g r) → (r : Row) → g (raise (b .schedule) now r) ≡ g r
-  unfolding raise
-  raise-keeps g f r = cond-both (λ (q : Row). g q ≡ g r) (rises now r) _ r (f r _ _) refl
-
   raised-kept : Pairs Kept evening raised
-  raised-kept = pairs-map-self (raise (b .schedule) now) (λ r. record { kind = raise-keeps (λ q. q .kind) (λ q v w. refl) r; reference = raise-keeps (λ q. q .reference) (λ q v w. refl) r }) evening
+  raised-kept = pairs-map-self (raise (b .schedule) now) (λ r. record { kind = raise-keeps (λ q. q .kind) (λ q v w. refl) (b .schedule) now r; reference = raise-keeps (λ q. q .reference) (λ q v w. refl) (b .schedule) now r }) evening
 
   raise-at : (k : ℕ) → getD raised k blank ≡ raise (b .schedule) now (getD evening k blank)
   unfolding raise rises

@@ -11,7 +11,7 @@ use lib.Dec.{eqb, ltb}
 use borrow.Author.Tests.{eqb-true, eq-eqb, ne-eqb, ltb-true, lt-ltb, not-true, not-false}
 use Rattle.lists.specs.Tests.{_is_}
 use Rattle.lists.specs.Lists.{sumBy, only}
-use Rattle.lists.proofs.TestLaws.{and-left, and-right}
+use Rattle.lists.proofs.TestLaws.{cond-both}
 use Rattle.lists.proofs.ListLaws.{map-at}
 use Rattle.lists.proofs.SumLaws.{sumBy-map, sumBy-ext}
 use Rattle.lists.proofs.PairLaws.{Pairs, pairs-in, pairs-length}
@@ -53,13 +53,18 @@ risen : (today : ℕ) (r : Row) → Rising today r → rises today r ≡ true
 unfolding rises
 risen today r q = rw (q .free, q .toll, q .open-still, lt-ltb (r .mark) LastStage (q .under), eq-eqb (r .due) today (q .due))
 
+-- what a raising does not touch
+pub raise-keeps : {B : Type 0} (g : Row → B) → ((r : Row) (v w : ℕ) → g (withDue v (withMark w r)) ≡ g r) → (s : Schedule) (today : ℕ) (r : Row) → g (raise s today r) ≡ g r
+unfolding raise
+raise-keeps g f s today r = cond-both (λ (q : Row). g q ≡ g r) (rises today r) _ r (f r _ _) refl
+
 -- ---- a row, before the tick and before the raising
 
-free-toll : (rows : List Row) (r : Row) → r .kind ≡ Toll → heldToll r ≡ false → held rows r ≡ false
+pub free-toll : (rows : List Row) (r : Row) → r .kind ≡ Toll → heldToll r ≡ false → held rows r ≡ false
 unfolding held
 free-toll rows r t f = rw (f, t)
 
-dawn-free : (today : ℕ) (r : Row) → heldToll r ≡ false → dawn today r ≡ r
+pub dawn-free : (today : ℕ) (r : Row) → heldToll r ≡ false → dawn today r ≡ r
 unfolding dawn holdEnds
 dawn-free today r f = rw f
 
@@ -76,17 +81,17 @@ module _ (b : Book) (p : Replay) (sound : Sound b) (a : Alike b p) where
   abbrev pub duskEntries : List Entry
   duskEntries = settleAllEntries (length (p .notes)) (map countDay (p .entries))
 
-  abbrev dawned : List Row
+  abbrev pub dawned : List Row
   dawned = map (dawn today) (b .rows)
 
-  dusk-is : dusk ≡ settleAccounts (length (b .accounts)) dawned
+  pub dusk-is : dusk ≡ settleAccounts (length (b .accounts)) dawned
   unfolding beforeRaising settled endHolds nextDay dawn
   dusk-is = refl
 
   pub dusk-length : length dusk ≡ length (b .rows)
   dusk-length = rw dusk-is (length-all (length (b .accounts)) dawned ∙ length-map (b .rows) (dawn today))
 
-  dawn-at : (k : ℕ) → getD dawned k blank ≡ dawn today (getD (b .rows) k blank)
+  pub dawn-at : (k : ℕ) → getD dawned k blank ≡ dawn today (getD (b .rows) k blank)
   unfolding dawn holdEnds
   dawn-at k = map-at (dawn today) (b .rows) k blank refl
 
