@@ -1,10 +1,11 @@
 -- Two lists of one length, related element by element, and how the relation passes through appends, stores, maps and gathers.
 use mathlib.Core.Path.{_≡_, refl, ap, ap₂}
+use mathlib.Core.Bool.{Bool, true, false}
 use Prim.Native.Nat.{ℕ, zero, suc, _+_, _<_}
 use native.Mathlib.Omega.{arith}
 use mathlib.Core.List.{List, [], _∷_, _++_, map}
 use lib.ListN.{length, getD, set}
-use Rattle.lists.specs.Lists.{sumBy, gatherFrom}
+use Rattle.lists.specs.Lists.{sumBy, one, changeFrom, gatherFrom}
 
 pub data Pairs {A B : Type 0} (R : A → B → Type 0) : List A → List B → Type 0 where
   none : Pairs R [] []
@@ -84,7 +85,17 @@ module _ {A : Type 0} {R : A → A → Type 0} where
   pairs-set-self f (x ∷ xs) zero y d q = more q (pairs-self f xs)
   pairs-set-self f (x ∷ xs) (suc i) y d q = more (f x) (pairs-set-self f xs i y d q)
 
--- ---- gather, map and sumBy
+-- ---- one, change, gather, map and sumBy
+
+module _ {A B : Type 0} {R : A → B → Type 0} where
+  pub pairs-one : (v : Bool) (x : A) (y : B) → (v ≡ true → R x y) → Pairs R (one v x) (one v y)
+  pairs-one true x y q = more (q refl) none
+  pairs-one false x y q = none
+
+  pub pairs-change-left : (f : ℕ → A → A) → ((n : ℕ) (x : A) (y : B) → R x y → R (f n x) y) → (i : ℕ) {xs : List A} {ys : List B} → Pairs R xs ys → Pairs R (changeFrom f i xs) ys
+  unfolding changeFrom
+  pairs-change-left f h i none = none
+  pairs-change-left f h i (more {x} {y} r p) = more (h i x y r) (pairs-change-left f h (i + 1) p)
 
 module _ {A B C D : Type 0} {S : C → D → Type 0} where
   -- what each element adds

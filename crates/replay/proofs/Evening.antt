@@ -178,7 +178,7 @@ module _ (b : Book) (p : Replay) (sound : Sound b) (a : Alike b p) where
 
   -- ---- the rows of the evening
 
-  evening-fits : (k : ℕ) → k < length evening → getD evening k blank .settled ≤ getD evening k blank .amount
+  pub evening-fits : (k : ℕ) → k < length evening → getD evening k blank .settled ≤ getD evening k blank .amount
   evening-fits k h =
       let l : k < length (b .rows) = rw (dusk-length b p sound a) at h in
       let r : Row = getD (b .rows) k blank in

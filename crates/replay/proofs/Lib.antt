@@ -12,4 +12,5 @@ pub mod EntryLaws
 pub mod Raising
 pub mod RaisedFees
 pub mod Evening
+pub mod Closing
 pub mod ReplayExample

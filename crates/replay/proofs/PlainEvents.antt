@@ -44,7 +44,7 @@ account-alike b p a (suc n) h x q =
     record { day = a .day; schedule = a .schedule; rows = a .rows; notes = rw z (pairs-set-left n x noNote q (a .notes)) }
 
 -- an unused account has no request day
-zero-request : (x : Account) → x .state ≡ Unused → unusedZero x ≡ true → x .request ≡ 0
+pub zero-request : (x : Account) → x .state ≡ Unused → unusedZero x ≡ true → x .request ≡ 0
 unfolding unusedZero
 zero-request x e f =
     let a : Bool = x .request is 0 && x .returned is 0 && x .threshold is 0 && x .topup is 0 && x .declines is 0 in

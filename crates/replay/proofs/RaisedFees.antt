@@ -137,23 +137,23 @@ module _ (b : Book) (p : Replay) (sound : Sound b) (a : Alike b p) where
 
   -- ---- the rows after the raising
 
-  abbrev raised : List Row
+  abbrev pub raised : List Row
   raised = map (raise (b .schedule) now) evening
 
-  abbrev fees : List Row
+  abbrev pub fees : List Row
   fees = gather (feeRow (b .schedule) now) evening
 
-  raised-kept : Pairs Kept evening raised
+  pub raised-kept : Pairs Kept evening raised
   raised-kept = pairs-map-self (raise (b .schedule) now) (λ r. record { kind = raise-keeps (λ q. q .kind) (λ q v w. refl) (b .schedule) now r; reference = raise-keeps (λ q. q .reference) (λ q v w. refl) (b .schedule) now r }) evening
 
-  raise-at : (k : ℕ) → getD raised k blank ≡ raise (b .schedule) now (getD evening k blank)
+  pub raise-at : (k : ℕ) → getD raised k blank ≡ raise (b .schedule) now (getD evening k blank)
   unfolding raise rises
   raise-at k = map-at (raise (b .schedule) now) evening k blank refl
 
   evening-account : (k : ℕ) → k < length (b .rows) → getD evening k blank .account ≡ getD (b .rows) k blank .account
   evening-account k h = ap (λ (q : Row). q .account) (kept b p sound a k h) ∙ dawn-keeps (λ q. q .account) (λ q t. unfold release in refl) now _
 
-  evening-referring : Referring evening
+  pub evening-referring : Referring evening
   evening-referring k h f =
       let l : k < length (b .rows) = rw (dusk-length b p sound a) at h in
       let e = kept b p sound a k l in
