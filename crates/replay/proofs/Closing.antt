@@ -90,31 +90,31 @@ judged u v o m h e f g = go (decLt 0 h) (decLt m o)
 -- ---- the accounts that close
 
 module _ (b : Book) (p : Replay) (sound : Sound b) (a : Alike b p) where
-  abbrev now : ℕ
+  abbrev pub now : ℕ
   now = b .day + 1
 
-  abbrev L : ℕ
+  abbrev pub L : ℕ
   L = b .schedule .stage
 
-  abbrev evening : Book
+  abbrev pub evening : Book
   evening = raiseTolls (beforeRaising b)
 
-  abbrev nightEntries : List Entry
+  abbrev pub nightEntries : List Entry
   nightEntries = duskEntries b p sound a ++ gather (addFees (p .schedule) (p .day + 1)) (p .entries)
 
-  rows : Rows (Match 0 now L) (night b p sound a) nightEntries
+  pub rows : Rows (Match 0 now L) (night b p sound a) nightEntries
   rows = raise-rows b p sound a
 
   faces : Pairs Face (night b p sound a) nightEntries
   faces = pairs-to (λ r x m. m .is .face) rows
 
-  abbrev noteOf : ℕ → Note
+  abbrev pub noteOf : ℕ → Note
   noteOf c = noteNo (p .notes) c
 
-  abbrev closesNow : ℕ → Bool
+  abbrev pub closesNow : ℕ → Bool
   closesNow c = closes evening c (account b c)
 
-  abbrev closingNow : ℕ → Bool
+  abbrev pub closingNow : ℕ → Bool
   closingNow c = closing now nightEntries c (noteOf c)
 
   -- the book and the replay judge alike, or the account is closed and has nothing

@@ -26,7 +26,7 @@ use Rattle.replay.proofs.Growing.{Place, row-there, number-at, rows-no}
 
 -- ---- a row's share of its account's money and debt
 
-money-least : (rows : List Row) (a k : ℕ) → k < length rows → getD rows k blank .account ≡ a → source (getD rows k blank) ≡ true → remaining (getD rows k blank) ≤ money a rows
+pub money-least : (rows : List Row) (a k : ℕ) → k < length rows → getD rows k blank .account ≡ a → source (getD rows k blank) ≡ true → remaining (getD rows k blank) ≤ money a rows
 unfolding money
 money-least rows a k h e s =
     let q : only (sourceOf a) remaining (getD rows k blank) ≡ remaining (getD rows k blank) = unfold only sourceOf in (rw (eq-eqb _ _ e, s)) in

@@ -13,4 +13,5 @@ pub mod Raising
 pub mod RaisedFees
 pub mod Evening
 pub mod Closing
+pub mod Ticking
 pub mod ReplayExample
