@@ -2,3 +2,4 @@ pub mod TestLaws
 pub mod SumLaws
 pub mod ListLaws
 pub mod PairLaws
+pub mod GatherLaws

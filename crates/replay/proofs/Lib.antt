@@ -14,4 +14,5 @@ pub mod RaisedFees
 pub mod Evening
 pub mod Closing
 pub mod Ticking
+pub mod StageFees
 pub mod ReplayExample
