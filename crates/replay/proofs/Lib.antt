@@ -15,4 +15,5 @@ pub mod Evening
 pub mod Closing
 pub mod Ticking
 pub mod StageFees
+pub mod ReplaySteps
 pub mod ReplayExample
