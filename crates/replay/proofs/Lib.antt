@@ -16,4 +16,5 @@ pub mod Closing
 pub mod Ticking
 pub mod StageFees
 pub mod ReplaySteps
+pub mod TickFees
 pub mod ReplayExample

@@ -45,7 +45,7 @@ pub record Still (x y : Entry) : Type 0 where
 pub still-self : (x : Entry) → Still x x
 still-self x = record { kind = refl; toll = refl; amount = refl; day = refl; opened = refl }
 
-share-same : (n : ℕ) (x y : Entry) → y .kind ≡ x .kind → y .toll ≡ x .toll → y .amount ≡ x .amount → y .day ≡ x .day → feeShare n x ≡ feeShare n y
+pub share-same : (n : ℕ) (x y : Entry) → y .kind ≡ x .kind → y .toll ≡ x .toll → y .amount ≡ x .amount → y .day ≡ x .day → feeShare n x ≡ feeShare n y
 unfolding feeOf
 share-same n x y k t a d = rw (k, t, a, d)
 
