@@ -17,4 +17,5 @@ pub mod Ticking
 pub mod StageFees
 pub mod ReplaySteps
 pub mod TickFees
+pub mod FeesAlong
 pub mod ReplayExample

@@ -47,6 +47,10 @@ feesAt-same s v d e f =
     go k fee true q = rw (f k q)
     go k fee false q = refl
 
+pub feesAt-none : (s : Schedule) (d : ℕ → ℕ) → feesAt s (λ k. false) d ≡ []
+unfolding feesAt
+feesAt-none s d = refl
+
 -- ---- one more open day
 
 module _ (s : Schedule) (L n today : ℕ) (d : ℕ → ℕ) (l : 1 ≤ L) where
