@@ -18,4 +18,5 @@ pub mod StageFees
 pub mod ReplaySteps
 pub mod TickFees
 pub mod FeesAlong
+pub mod AnyEvent
 pub mod ReplayExample
