@@ -103,7 +103,7 @@ fees-advance p q days l a f n h =
     go false =
         let z : m ≡ m + 0 = omega arith in
         ap {B = List (ℕ × ℕ)} (λ (xs : List (ℕ × ℕ)). feesAt s (attained p n) (days n) ++ xs) (feesAt-none s (λ k. q .day)) ∙ append-nil (feesAt s (attained p n) (days n))
-        ∙ feesAt-same s (attained p n) (days n) (later p q days n) (λ k v. rw v) ∙ ap {B = List (ℕ × ℕ)} (λ (o : ℕ). feesAt s (λ k. leb (k * L) o) (later p q days n)) z
+        ∙ feesAt-same s (attained p n) (days n) (later p q days n) (λ k h v. rw v) ∙ ap {B = List (ℕ × ℕ)} (λ (o : ℕ). feesAt s (λ k. leb (k * L) o) (later p q days n)) z
 
 -- ---- a list of reports
 
@@ -114,13 +114,13 @@ Ends p days hs = (n : ℕ) → 1 ≤ n → collect (feeShare n) (replay p hs .en
 
 pub ends-none : (p : Replay) (days : ℕ → ℕ → ℕ) → FeesOf p days → Ends p days []
 unfolding replay dayReached
-ends-none p days f n h = f n h ∙ feesAt-same (p .schedule) (attained p n) (days n) _ (λ k v. rw v)
+ends-none p days f n h = f n h ∙ feesAt-same (p .schedule) (attained p n) (days n) _ (λ k h v. rw v)
 
 pub ends-more : (p : Replay) (days : ℕ → ℕ → ℕ) (h : Report) (hs : List Report) → Advanced p (replayOne p h) → Ends (replayOne p h) (later p (replayOne p h) days) hs → Ends p days (h ∷ hs)
 unfolding replay dayReached
 ends-more p days h hs a f n l =
     f n l ∙ ap {B = List (ℕ × ℕ)} (λ (t : Schedule). feesAt t (λ k. leb (k * t .stage) (opened (replay q hs) n)) (λ k. cond (attained q n k) (later p q days n k) (dayReached n k q hs))) (a .schedule)
-    ∙ feesAt-same (p .schedule) _ _ _ (λ k v. go k (attained p n k) (attained q n k) refl refl)
+    ∙ feesAt-same (p .schedule) _ _ _ (λ k b v. go k (attained p n k) (attained q n k) refl refl)
   where
     q : Replay
     q = replayOne p h

@@ -19,4 +19,5 @@ pub mod ReplaySteps
 pub mod TickFees
 pub mod FeesAlong
 pub mod AnyEvent
+pub mod AnyCalls
 pub mod ReplayExample

@@ -38,14 +38,14 @@ unfolding stageFees gatherFrom feesAt
 stageFees-at s L n d l = rw (stage-test L 2 n l (omega arith), stage-test L 3 n l (omega arith), stage-test L 4 n l (omega arith)) (simp (append-nil, append-assoc))
 
 -- days that agree where the test passes
-pub feesAt-same : (s : Schedule) (v : ℕ → Bool) (d e : ℕ → ℕ) → ((k : ℕ) → v k ≡ true → d k ≡ e k) → feesAt s v d ≡ feesAt s v e
+pub feesAt-same : (s : Schedule) (v : ℕ → Bool) (d e : ℕ → ℕ) → ((k : ℕ) → 2 ≤ k → v k ≡ true → d k ≡ e k) → feesAt s v d ≡ feesAt s v e
 unfolding feesAt
 feesAt-same s v d e f =
-    ap₂ {C = List (ℕ × ℕ)} _++_ (ap₂ {C = List (ℕ × ℕ)} _++_ (go 2 (s .fee2) (v 2) refl) (go 3 (s .fee3) (v 3) refl)) (go 4 (s .fee4) (v 4) refl)
+    ap₂ {C = List (ℕ × ℕ)} _++_ (ap₂ {C = List (ℕ × ℕ)} _++_ (go 2 (s .fee2) (v 2) (omega arith) refl) (go 3 (s .fee3) (v 3) (omega arith) refl)) (go 4 (s .fee4) (v 4) (omega arith) refl)
   where
-    go : (k fee : ℕ) (w : Bool) → v k ≡ w → feeIf w fee (d k) ≡ feeIf w fee (e k)
-    go k fee true q = rw (f k q)
-    go k fee false q = refl
+    go : (k fee : ℕ) (w : Bool) → 2 ≤ k → v k ≡ w → feeIf w fee (d k) ≡ feeIf w fee (e k)
+    go k fee true h q = rw (f k h q)
+    go k fee false h q = refl
 
 pub feesAt-none : (s : Schedule) (d : ℕ → ℕ) → feesAt s (λ k. false) d ≡ []
 unfolding feesAt
