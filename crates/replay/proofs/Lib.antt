@@ -20,4 +20,5 @@ pub mod TickFees
 pub mod FeesAlong
 pub mod AnyEvent
 pub mod AnyCalls
+pub mod Claim
 pub mod ReplayExample
