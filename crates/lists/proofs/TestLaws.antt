@@ -20,6 +20,14 @@ and-right false b e = absurd (false≢true e)
 pub and-both : (a b : Bool) → a ≡ true → b ≡ true → a && b ≡ true
 and-both a b p q = rw p q
 
+pub and-true : (v : Bool) → v && true ≡ v
+and-true true = refl
+and-true false = refl
+
+pub and-false : (v : Bool) → v && false ≡ false
+and-false true = refl
+and-false false = refl
+
 -- ---- tests that fail
 
 pub and-then : (a b : Bool) → a ≡ true → a && b ≡ false → b ≡ false

@@ -28,7 +28,7 @@ use Rattle.replay.proofs.AnyEvent.{accepted-proper, event-alike}
 use Rattle.replay.proofs.FeesAlong.{FeesOf, later, Advanced, report-advanced, fees-advance, Ends, ends-none, ends-more}
 
 -- where a list of calls stands: a sound book, a replay like it, and the days on which stages were reached
-pub record Standing (b : Book) (p : Replay) (days : ℕ → ℕ → ℕ) : Type 0 where
+pub record Underway (b : Book) (p : Replay) (days : ℕ → ℕ → ℕ) : Type 0 where
   pub is-sound : sound b ≡ true
   pub alike : Alike b p
   pub fees : FeesOf p days
@@ -57,9 +57,9 @@ advanced : (b : Book) (p : Replay) (e : Instruction) → Advanced p (replayOne p
 advanced b p e = report-advanced p (reportOf b e) (λ z. accepted-proper b e (eqb-true _ _ z))
 
 module _ (keeps : (b : Book) (e : Instruction) → sound b ≡ true → sound (post b e .book) ≡ true) where
-  event-standing : (b : Book) (p : Replay) (days : ℕ → ℕ → ℕ) (e : Instruction) → Standing b p days
-      → Standing (post b e .book) (replayOne p (reportOf b e)) (later p (replayOne p (reportOf b e)) days)
-  event-standing b p days e s = record {
+  event-underway : (b : Book) (p : Replay) (days : ℕ → ℕ → ℕ) (e : Instruction) → Underway b p days
+      → Underway (post b e .book) (replayOne p (reportOf b e)) (later p (replayOne p (reportOf b e)) days)
+  event-underway b p days e s = record {
     is-sound = keeps b e (s .is-sound);
     alike = report-alike b p e (s .is-sound) (s .alike);
     fees = fees-advance p (replayOne p (reportOf b e)) days
@@ -68,13 +68,13 @@ module _ (keeps : (b : Book) (e : Instruction) → sound b ≡ true → sound (p
 
   -- ---- events in order, and then the reports hs
 
-  events-ended : (end : Book) (hs : List Report) (es : List Instruction) (b : Book) (p : Replay) (days : ℕ → ℕ → ℕ) → Standing b p days
-      → ((q : Replay) (then : ℕ → ℕ → ℕ) → Standing (bookAfter b es) q then → Ended end q then hs) → Ended end p days (reportsOf b es ++ hs)
+  events-ended : (end : Book) (hs : List Report) (es : List Instruction) (b : Book) (p : Replay) (days : ℕ → ℕ → ℕ) → Underway b p days
+      → ((q : Replay) (then : ℕ → ℕ → ℕ) → Underway (bookAfter b es) q then → Ended end q then hs) → Ended end p days (reportsOf b es ++ hs)
   unfolding bookAfter reportsOf replay
   events-ended end hs [] b p days s f = f p days s
   events-ended end hs (e ∷ es) b p days s f =
       let q : Replay = replayOne p (reportOf b e) in
-      let r : Ended end q (later p q days) (reportsOf (post b e .book) es ++ hs) = events-ended end hs es (post b e .book) q (later p q days) (event-standing b p days e s) f in
+      let r : Ended end q (later p q days) (reportsOf (post b e .book) es ++ hs) = events-ended end hs es (post b e .book) q (later p q days) (event-underway b p days e s) f in
       record {
         is-sound = r .is-sound;
         alike = r .alike;
@@ -135,7 +135,7 @@ module _ (keeps : (b : Book) (e : Instruction) → sound b ≡ true → sound (p
 
   -- ---- any list of calls
 
-  pub calls-ended : (cs : List Call) (t : Tables) (p : Replay) (days : ℕ → ℕ → ℕ) → soundTables t ≡ true → Standing (bookOf t) p days
+  pub calls-ended : (cs : List Call) (t : Tables) (p : Replay) (days : ℕ → ℕ → ℕ) → soundTables t ≡ true → Underway (bookOf t) p days
       → Ended (bookOf (tablesAfter t cs)) p days (reports t cs)
   unfolding tablesAfter reports replay
   calls-ended [] t p days s g = record { is-sound = g .is-sound; alike = g .alike; schedule = refl; fees = ends-none p days (g .fees) }

@@ -9,6 +9,7 @@ use lib.IntN.{ℤ, pos, negℤ, _+ℤ_, _-ℤ_, +ℤ-assoc, negℤ-+ℤ, pos-+�
 use borrow.Author.Tests.{eqb-true}
 use Rattle.lists.specs.Tests.{_is_}
 use Rattle.lists.specs.Lists.{sumBy, only}
+use Rattle.lists.proofs.TestLaws.{and-false}
 use Rattle.lists.proofs.SumLaws.{sumBy-add}
 use Rattle.lists.proofs.PairLaws.{Pairs, pairs-to, pairs-sum}
 use Rattle.rules.specs.Rows.{Row, Toll, Fee, Reversal, Payment, Credit, Refund, sourceOf, debitOf}
@@ -43,11 +44,7 @@ apart f k n e = go (k is n) refl
   where
     go : (v : Bool) → k is n ≡ v → f k && v ≡ false
     go true q = rw (eqb-true k n q, e)
-    go false q = none (f k)
-      where
-        none : (v : Bool) → v && false ≡ false
-        none true = refl
-        none false = refl
+    go false q = and-false (f k)
 
 source-share : (a : ℕ) (r : Row) (x : Entry) → Face r x → only (sourceOf a) (λ s. s .amount) r ≡ ofKind Payment a x + ofKind Credit a x
 unfolding only sourceOf

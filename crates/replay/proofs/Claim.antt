@@ -38,7 +38,7 @@ use Rattle.replay.proofs.Idle.{idle-none}
 use Rattle.replay.proofs.StageFees.{feesAt, stageFees-at, feesAt-same}
 use Rattle.replay.proofs.ReplaySteps.{feeShare}
 use Rattle.replay.proofs.FeesAlong.{FeesOf, opened, attained, Ends}
-use Rattle.replay.proofs.AnyCalls.{Standing, Ended, calls-ended}
+use Rattle.replay.proofs.AnyCalls.{Underway, Ended, calls-ended}
 
 -- ---- stages
 
@@ -152,9 +152,9 @@ module _ (t : Tables) (w : List ℤ) (z : openCall t w .number ≡ 0) where
   unfolding replayStart begin collect feesAt
   start-fees n h = rw (start-none n 2 (omega arith), start-none n 3 (omega arith), start-none n 4 (omega arith))
 
-  start-standing : Standing (openedBook t w) (replayStart t w) (λ n k. 0)
+  start-underway : Underway (openedBook t w) (replayStart t w) (λ n k. 0)
   unfolding replayStart begin openedBook opening
-  start-standing = record {
+  start-underway = record {
     is-sound = openedBook-sound t w z;
     alike = record { day = refl; schedule = refl; rows = none; notes = notes-noted (accountsIn t) };
     fees = start-fees;
@@ -166,5 +166,5 @@ module _ (keeps : (b : Book) (e : Instruction) → sound b ≡ true → sound (p
   pub claim3 : Claim3
   claim3 t w z cs =
       demand3 (bookOf (tablesAfter (openCall t w .tables) cs)) (replayStart t w) (λ n k. 0) (reports (openCall t w .tables) cs)
-      (calls-ended keeps cs (openCall t w .tables) (replayStart t w) (λ n k. 0) (openCall-sound t w z) (rw (bookOf-openCall t w z) (start-standing t w z)))
+      (calls-ended keeps cs (openCall t w .tables) (replayStart t w) (λ n k. 0) (openCall-sound t w z) (rw (bookOf-openCall t w z) (start-underway t w z)))
       (start-none t w z)

@@ -8,7 +8,7 @@ use lib.ListN.{length, getD}
 use lib.Dec.{eqb, ltb}
 use borrow.Author.Tests.{eqb-true, eqb-false, eq-eqb, ne-eqb, ltb-true, not-true, not-false}
 use Rattle.lists.specs.Tests.{_is_}
-use Rattle.lists.proofs.TestLaws.{and-left, and-right, cond-both}
+use Rattle.lists.proofs.TestLaws.{and-false, cond-both}
 use Rattle.lists.proofs.PairLaws.{Pairs, pairs-map-in, pairs-map-self, pairs-length}
 use Rattle.rules.specs.Limits.{holdDays}
 use Rattle.rules.specs.Rows.{Row, Toll, Held, LastStage, blank, toll, heldToll, unsettled}
@@ -22,15 +22,12 @@ use Rattle.replay.proofs.Relation.{Face, Track, Match, Rows, Alike}
 use Rattle.replay.proofs.SoundRows.{Holding, SoundRow, sound-row}
 use Rattle.replay.proofs.Settling.{settleAll-pairs}
 use Rattle.replay.proofs.Growing.{referring, Kept, SameToll, regrow, match-keep}
+use Rattle.replay.proofs.RowEvents.{release-match}
 
 -- ---- a row and its entry at dawn
 
 unfoldable pub dawn : ℕ → Row → Row
 dawn today r = cond (holdEnds today r) (release today r) r
-
-and-false : (v : Bool) → v && false ≡ false
-and-false true = refl
-and-false false = refl
 
 -- "neither covered whole nor held"
 pub gains-same : (r : Row) (x : Entry) → Face r x → gains x ≡ (toll r && unsettled r && not (heldToll r))
@@ -50,7 +47,7 @@ module _ (today L : ℕ) (r : Row) (x : Entry) (m : Match 0 today L r x) where
 
   -- a held toll: its ticks are counted, and its hold ends by the thirtieth
   held-dawn : heldToll r ≡ true → r .hold ≤ today → Match 1 (today + 1) L (dawn (today + 1) r) (countDay x)
-  unfolding dawn holdEnds release countDay countTick f t
+  unfolding dawn holdEnds countDay countTick f t
   held-dawn h l =
       let held : x .hold ≡ true = sym (f .hold) ∙ h in
       let g : gains x ≡ false = gains-same r x f ∙ rw h (and-false (toll r && unsettled r)) in
@@ -60,21 +57,9 @@ module _ (today L : ℕ) (r : Row) (x : Entry) (m : Match 0 today L r x) where
       disputed : r .dispute ≡ 0 → ⊥
       disputed z = false≢true (sym (and-false (toll r)) ∙ rw z at h)
 
-      go : (v w : Bool) → eqb (r .hold + holdDays) (today + 1) ≡ v → eqb (x .ticks + 1) holdDays ≡ w
-          → Match 1 (today + 1) L (cond v (release (today + 1) r) r) (withHold (not w) (withTicks (x .ticks + 1) x))
-      go true false p q = let z : r .hold + 30 ≡ today + 1 = eqb-true _ _ p in absurd (eqb-false (x .ticks + 1) 30 q (omega (arith, t .ticks h)))
-      go false true p q = let z : x .ticks + 1 ≡ 30 = eqb-true _ _ q in absurd (eqb-false (r .hold + 30) (today + 1) p (omega (arith, t .ticks h)))
-      go true true p q = record {
-        face = record { kind = f .kind; account = f .account; day = f .day; amount = f .amount; settled = f .settled; hold = and-false (toll r) };
-        track = record {
-          ticks = λ i. absurd (false≢true (sym (and-false (toll r)) ∙ i));
-          fresh = λ i. absurd (omega arith);
-          clock = λ i u n. rw (and-false (toll r)) (let c : x .open-days + r .due ≡ r .mark * L + L + r .hold = rw h at (t .clock i u n) in omega arith);
-          low = t .low;
-          high = λ i n. omega (arith, t .high i n);
-        };
-      }
-      go false false p q = record {
+      -- one more tick
+      counted : Match 1 (today + 1) L r (withHold true (withTicks (x .ticks + 1) x))
+      counted = record {
         face = record { kind = f .kind; account = f .account; day = f .day; amount = f .amount; settled = f .settled; hold = h };
         track = record {
           ticks = λ i. omega (arith, t .ticks h);
@@ -84,6 +69,13 @@ module _ (today L : ℕ) (r : Row) (x : Entry) (m : Match 0 today L r x) where
           high = λ i n. omega (arith, t .high i n);
         };
       }
+
+      go : (v w : Bool) → eqb (r .hold + holdDays) (today + 1) ≡ v → eqb (x .ticks + 1) holdDays ≡ w
+          → Match 1 (today + 1) L (cond v (release (today + 1) r) r) (withHold (not w) (withTicks (x .ticks + 1) x))
+      go true false p q = let z : r .hold + 30 ≡ today + 1 = eqb-true _ _ p in absurd (eqb-false (x .ticks + 1) 30 q (omega (arith, t .ticks h)))
+      go false true p q = let z : x .ticks + 1 ≡ 30 = eqb-true _ _ q in absurd (eqb-false (r .hold + 30) (today + 1) p (omega (arith, t .ticks h)))
+      go true true p q = release-match 1 (today + 1) L r (withHold true (withTicks (x .ticks + 1) x)) h (omega arith) counted
+      go false false p q = counted
 
   -- one that is not held
   free-dawn : heldToll r ≡ false → Match 1 (today + 1) L (dawn (today + 1) r) (countDay x)
@@ -116,7 +108,7 @@ module _ (today L : ℕ) (r : Row) (x : Entry) (m : Match 0 today L r x) where
         };
       }
 
-pub dawn-match : (today L accounts : ℕ) (rows : List Row) (n : ℕ) (r : Row) (x : Entry) → SoundRow today L accounts rows n r → Match 0 today L r x
+pub dawn-match : (today L accounts : ℕ) (rows : List Row) (n : ℕ) (r : Row) (x : Entry) → SoundRow today accounts rows n r → Match 0 today L r x
     → Match 1 (today + 1) L (dawn (today + 1) r) (countDay x)
 dawn-match today L accounts rows n r x s m = go (heldToll r) refl
   where

@@ -11,7 +11,7 @@ use lib.Dec.{eqb, leb, ltb}
 use borrow.Author.Tests.{eqb-true, eq-eqb, ne-eqb, ltb-true, lt-ltb, le-ltb, not-true}
 use Rattle.lists.specs.Tests.{_is_}
 use Rattle.lists.specs.Lists.{sumBy, only, count, one, gather}
-use Rattle.lists.proofs.TestLaws.{and-left, and-right}
+use Rattle.lists.proofs.TestLaws.{and-left, and-right, and-true, and-false}
 use Rattle.lists.proofs.SumLaws.{sumBy-append, sumBy-map, sumBy-ext, sumBy-ext-at, sumBy-add, sumBy-le, sumBy-at-le, sumBy-some, sumBy-gather, sumBy-gather-none}
 use Rattle.rules.specs.Schedule.{stageFee}
 use Rattle.rules.specs.Rows.{Row, Test, Toll, Fee, Held, blank, newRow, withReference, withDue, withMark, rowNo, debit, source, toll, heldToll, held, unsettled, sourceOf, debitOf, payable, remaining}
@@ -42,8 +42,7 @@ one-same f g true r e = omega (arith, e)
 one-same f g false r e = refl
 
 and-none : (v : Bool) (n : ℕ) → cond (v && false) n 0 ≡ 0
-and-none true n = refl
-and-none false n = refl
+and-none v n = rw (and-false v)
 
 zero-either : (v : Bool) → _≡_ {A = ℕ} (cond v 0 0) 0
 zero-either true = refl
@@ -101,11 +100,7 @@ unfolding only debitOf payable
 payable-all rows c r f = go (r .account is c) refl
   where
     go : (v : Bool) → r .account is c ≡ v → cond (v && debit r) (remaining r) 0 ≡ cond (v && (debit r && not (held rows r))) (remaining r) 0
-    go true e = rw (f e) (every (debit r))
-      where
-        every : (d : Bool) → cond d (remaining r) 0 ≡ cond (d && true) (remaining r) 0
-        every true = refl
-        every false = refl
+    go true e = rw (f e, and-true (debit r))
     go false e = refl
 
 payable-some : (rows : List Row) (c : ℕ) (r : Row) → only (payable rows c) remaining r ≤ only (debitOf c) remaining r
@@ -124,11 +119,7 @@ unfolding dawn release
 dawn-held today r = go (holdEnds today r)
   where
     go : (v : Bool) → heldToll (cond v (release today r) r) ≡ true → cond v (release today r) r ≡ r
-    go true e = absurd (ended (toll r) e)
-      where
-        ended : (t : Bool) → t && false ≡ true → ⊥
-        ended true q = false≢true q
-        ended false q = false≢true q
+    go true e = absurd (false≢true (sym (and-false (toll r)) ∙ e))
     go false e = refl
 
 module _ (b : Book) (p : Replay) (sound : Sound b) (a : Alike b p) where

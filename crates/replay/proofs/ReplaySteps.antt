@@ -12,7 +12,7 @@ use Rattle.records.specs.Codes.{Yes}
 use Rattle.records.specs.declared.Instruction.{Instruction}
 use Rattle.lists.specs.Tests.{_is_}
 use Rattle.lists.specs.Lists.{one}
-use Rattle.lists.proofs.TestLaws.{cond-both}
+use Rattle.lists.proofs.TestLaws.{and-false, cond-both}
 use Rattle.lists.proofs.PairLaws.{Pairs, none, more, pairs-at, pairs-to, pairs-self, pairs-map-self, pairs-set-self}
 use Rattle.lists.proofs.GatherLaws.{collect, collect-append, collect-pairs, collect-none}
 use Rattle.replay.specs.Entries.{Entry, Fee, noEntry, entryNo, newEntry, withCovered, withHold, coverWhole, uncovered, feeOf, unusedOf, wantedBy, cover, settleEntries, settleAllEntries}
@@ -63,11 +63,7 @@ pub record New (x : Entry) : Type 0 where
 
 new-share : (n : ℕ) (x : Entry) → 1 ≤ n → x .toll ≡ 0 → feeShare n x ≡ []
 unfolding feeOf
-new-share n x h e = rw (ne-eqb (x .toll) n (λ z. omega arith)) (go (x .kind is Fee))
-  where
-    go : (v : Bool) → one {A = ℕ × ℕ} (v && false) (x .amount, x .day) ≡ []
-    go true = refl
-    go false = refl
+new-share n x h e = rw (ne-eqb (x .toll) n (λ z. omega arith), and-false (x .kind is Fee))
 
 pub opened-append : (xs ys : List Entry) → ((k : ℕ) → getD ys k noEntry .open-days ≡ 0) → (n : ℕ) → entryNo (xs ++ ys) n .open-days ≡ entryNo xs n .open-days
 opened-append xs ys e zero = refl

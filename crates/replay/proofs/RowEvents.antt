@@ -12,7 +12,7 @@ use Rattle.records.specs.Updates.{withReturned, withState}
 use Rattle.records.specs.AccountOperations.{checkReturned}
 use Rattle.lists.specs.Tests.{_is_}
 use Rattle.lists.specs.Lists.{sumBy, only}
-use Rattle.lists.proofs.TestLaws.{and-left, cond-both}
+use Rattle.lists.proofs.TestLaws.{and-left, and-false, cond-both}
 use Rattle.lists.proofs.SumLaws.{sumBy-set-same}
 use Rattle.lists.proofs.PairLaws.{Pairs, none, more, pairs-to, pairs-set, pairs-set-left, pairs-map, pairs-map-right, pairs-self, pairs-set-self, pairs-sum, pairs-length}
 use Rattle.rules.specs.Limits.{returnFee}
@@ -85,10 +85,6 @@ release-match late today L r x h l m =
         high = t .high;
       };
     }
-  where
-    and-false : (v : Bool) → v && false ≡ false
-    and-false true = refl
-    and-false false = refl
 
 reject-alike : (b : Book) (p : Replay) (e : Instruction) → Near (b .day) b → Alike b p → heldToll (row b (e .a)) ≡ true → row b (e .a) .kind ≡ Toll
     → Alike (reject b e) (setHold false p e)

@@ -11,7 +11,7 @@ use lib.Dec.{eqb}
 use borrow.Author.Tests.{eqb-true, ne-eqb}
 use Rattle.lists.specs.Tests.{_is_}
 use Rattle.lists.specs.Lists.{sumBy, only}
-use Rattle.lists.proofs.TestLaws.{and-left}
+use Rattle.lists.proofs.TestLaws.{and-left, and-false}
 use Rattle.lists.proofs.PairLaws.{pairs-each, pairs-sum}
 use Rattle.rules.specs.Rows.{Row, Toll, Held, blank, debit, heldToll, held, sourceOf, debitOf, payable, remaining, settleMore}
 use Rattle.rules.specs.Settlement.{money, debt, moved, settle, settleAccounts, used, paid, owed}
@@ -39,20 +39,15 @@ all-row (suc n) rows k =
     record { kept = q .kept ∙ p .kept; grows = omega (arith, p .grows, q .grows); fits = λ h. q .fits (p .fits h) }
 
 -- what is held is not paid
-and-none : (v d : Bool) (n : ℕ) → (cond (v && false) n 0 ≡ 0) × (cond (v && (d && false)) n 0 ≡ 0)
-and-none true true n = (refl, refl)
-and-none true false n = (refl, refl)
-and-none false d n = (refl, refl)
-
 held-source : (a : ℕ) (r : Row) → heldToll r ≡ true → only (sourceOf a) remaining r ≡ 0
 unfolding only sourceOf
 held-source a r h =
     let t : r .kind ≡ Toll = eqb-true _ _ (and-left (r .kind is Toll) (r .dispute is Held) h) in
-    rw t (and-none (r .account is a) true (remaining r) .0)
+    rw (t, and-false (r .account is a))
 
 held-payable : (rows : List Row) (a : ℕ) (r : Row) → heldToll r ≡ true → only (payable rows a) remaining r ≡ 0
 unfolding only payable held
-held-payable rows a r h = rw h (and-none (r .account is a) (debit r) (remaining r) .1)
+held-payable rows a r h = rw (h, and-false (debit r), and-false (r .account is a))
 
 settle-held : (a : ℕ) (rows : List Row) (k : ℕ) → heldToll (getD rows k blank) ≡ true → getD (settle a rows) k blank ≡ getD rows k blank
 settle-held a rows k h =

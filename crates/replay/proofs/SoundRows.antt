@@ -22,43 +22,21 @@ and3 a b c e = let d = and-left (a && b) c e in (and-left a b d, and-right a b d
 
 -- ---- a toll
 
-pub record Holding (today L : ℕ) (r : Row) : Type 0 where
-  pub start : 1 ≤ r .hold
-  pub recent : today ≤ r .hold + 29
+pub record Holding (today : ℕ) (r : Row) : Type 0 where
   pub past : r .hold ≤ today
   pub open-still : unsettled r ≡ true
-  pub due-by : r .due ≤ r .hold + L
-  pub due-after : r .mark < LastStage → r .hold < r .due
 
-holding : (today L : ℕ) (r : Row) → holdFits today L r ≡ true → heldToll r ≡ true → Holding today L r
+holding : (today L : ℕ) (r : Row) → holdFits today L r ≡ true → heldToll r ≡ true → Holding today r
 unfolding holdFits
 holding today L r f h =
     let k : toll r ≡ true = and-left (toll r) (r .dispute is Held) h in
     let d : r .dispute is Held ≡ true = and-right (toll r) (r .dispute is Held) h in
-    let a : Bool = leb 1 (r .hold) && leb today (r .hold + 29) && leb (r .hold) today in
+    let a : Bool = leb 1 (r .hold) && leb today (r .hold + 29) in
     let c : Bool = leb (r .due) (r .hold + L) in
     let z : Bool = ltb (r .mark) LastStage implies ltb (r .hold) (r .due) in
-    let e : a && unsettled r && c && z ≡ true = rw (k, d) at f in
-    let p = and3 (a && unsettled r) c z e in
-    let q = and3 (leb 1 (r .hold)) (leb today (r .hold + 29)) (leb (r .hold) today) (and-left a (unsettled r) (p .0)) in
-    record {
-      start = leb-true _ _ (q .0);
-      recent = leb-true _ _ (q .1);
-      past = leb-true _ _ (q .2);
-      open-still = and-right a (unsettled r) (p .0);
-      due-by = leb-true _ _ (p .1);
-      due-after = λ m. ltb-true (r .hold) (r .due) (rw (lt-ltb (r .mark) LastStage m) at (p .2));
-    }
-
-due-after : (past last : ℕ) (r : Row) → dueWithin past last r ≡ true → toll r ≡ true → unsettled r ≡ true → heldToll r ≡ false → r .mark < LastStage → past < r .due
-unfolding dueWithin
-due-after past last r f k u h m =
-    let e : leb (r .due) last && ltb past (r .due) ≡ true = rw (k, u, rw k at h, lt-ltb (r .mark) LastStage m) at f in
-    ltb-true past (r .due) (and-right (leb (r .due) last) (ltb past (r .due)) e)
-
-due-by : (past last : ℕ) (r : Row) → dueWithin past last r ≡ true → toll r ≡ true → r .due ≤ last
-unfolding dueWithin
-due-by past last r f k = leb-true (r .due) last (and-left (leb (r .due) last) _ (rw k at f))
+    let e : a && leb (r .hold) today && unsettled r && c && z ≡ true = rw (k, d) at f in
+    let p = and3 a (leb (r .hold) today) (unsettled r) (and-left (a && leb (r .hold) today && unsettled r) c (and-left (a && leb (r .hold) today && unsettled r && c) z e)) in
+    record { past = leb-true _ _ (p .1); open-still = p .2 }
 
 stage-by : (r : Row) → markFits r ≡ true → toll r ≡ true → r .mark ≤ LastStage
 unfolding markFits
@@ -103,17 +81,15 @@ account-in xs (suc a) e = elim (decLt a (length xs)) [
 
 -- ---- a row of a sound book
 
-pub record SoundRow (today L : ℕ) (accounts : ℕ) (rows : List Row) (n : ℕ) (r : Row) : Type 0 where
+pub record SoundRow (today accounts : ℕ) (rows : List Row) (n : ℕ) (r : Row) : Type 0 where
   pub fits : r .settled ≤ r .amount
   pub stage : toll r ≡ true → r .mark ≤ LastStage
-  pub holding : heldToll r ≡ true → Holding today L r
-  pub due-by : toll r ≡ true → r .due ≤ today + L
-  pub due-after : toll r ≡ true → unsettled r ≡ true → heldToll r ≡ false → r .mark < LastStage → today < r .due
+  pub holding : heldToll r ≡ true → Holding today r
   pub refers : r .kind is Fee ≡ true → Refers rows n r
   pub account : Within accounts (r .account)
 
 module _ (b : Book) (near : Near (b .day) b) where
-  pub sound-row : (k : ℕ) → k < length (b .rows) → SoundRow (b .day) (b .schedule .stage) (length (b .accounts)) (b .rows) (suc k) (getD (b .rows) k blank)
+  pub sound-row : (k : ℕ) → k < length (b .rows) → SoundRow (b .day) (length (b .accounts)) (b .rows) (suc k) (getD (b .rows) k blank)
   unfolding accountUsed
   sound-row k h =
       let r : Row = getD (b .rows) k blank in
@@ -123,8 +99,6 @@ module _ (b : Book) (near : Near (b .day) b) where
         fits = settled-by r (w .settled);
         stage = stage-by r (v .mark);
         holding = holding (b .day) (b .schedule .stage) r (w .hold);
-        due-by = due-by (b .day) (b .day + b .schedule .stage) r (w .due);
-        due-after = due-after (b .day) (b .day + b .schedule .stage) r (w .due);
         refers = refers (b .rows) (suc k) r (v .reference);
         account = account-in (b .accounts) (r .account) (v .account);
       }

@@ -11,7 +11,7 @@ use borrow.Author.Tests.{eq-eqb, ne-eqb}
 use Rattle.records.specs.declared.Instruction.{Instruction}
 use Rattle.lists.specs.Tests.{_is_}
 use Rattle.lists.specs.Lists.{one, gather}
-use Rattle.lists.proofs.TestLaws.{cond-both}
+use Rattle.lists.proofs.TestLaws.{and-true, and-false, cond-both}
 use Rattle.lists.proofs.ListLaws.{map-at}
 use Rattle.lists.proofs.PairLaws.{Pairs, none, more, pairs-at, pairs-map-self, pairs-gather, pairs-append, pairs-one}
 use Rattle.lists.proofs.GatherLaws.{collect, collect-append, collect-pairs, collect-only}
@@ -52,18 +52,10 @@ module _ (s : Schedule) (today n : ℕ) (x : Entry) where
 
   pub own-fees : collect (feeShare n) (addFees s today n x) ≡ feesAt s (λ k. reaches (s .stage) k x) (λ k. today)
   unfolding feesAt stageFee
-  own-fees = fees-share n ∙ rw (eq-eqb n n refl) (ap₂ {C = List (ℕ × ℕ)} _++_ (ap₂ {C = List (ℕ × ℕ)} _++_ (whole (due 2) (s .fee2)) (whole (due 3) (s .fee3))) (whole (due 4) (s .fee4)))
-    where
-      whole : (v : Bool) (m : ℕ) → one {A = ℕ × ℕ} (v && true) (m, today) ≡ one v (m, today)
-      whole true m = refl
-      whole false m = refl
+  own-fees = fees-share n ∙ rw (eq-eqb n n refl, and-true (due 2), and-true (due 3), and-true (due 4))
 
   pub other-fees : (m : ℕ) → n ≢ m → collect (feeShare m) (addFees s today n x) ≡ []
-  other-fees m q = fees-share m ∙ rw (ne-eqb n m q, nothing (due 2) 2, nothing (due 3) 3, nothing (due 4) 4)
-    where
-      nothing : (v : Bool) (k : ℕ) → one {A = ℕ × ℕ} (v && false) (stageFee s k, today) ≡ []
-      nothing true k = refl
-      nothing false k = refl
+  other-fees m q = fees-share m ∙ rw (ne-eqb n m q, and-false (due 2), and-false (due 3), and-false (due 4))
 
 -- an entry that does not gain
 pub no-fees : (s : Schedule) (today n : ℕ) (x : Entry) → gains x ≡ false → collect (feeShare n) (addFees s today n x) ≡ []

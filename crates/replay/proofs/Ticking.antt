@@ -11,7 +11,7 @@ use borrow.Author.Tests.{eqb-true, le-ltb, lt-ltb}
 use Rattle.records.specs.AccountOperations.{closed}
 use Rattle.lists.specs.Tests.{_is_}
 use Rattle.lists.specs.Lists.{one, gather}
-use Rattle.lists.proofs.TestLaws.{cond-both}
+use Rattle.lists.proofs.TestLaws.{and-false, cond-both}
 use Rattle.lists.proofs.ListLaws.{append-at}
 use Rattle.lists.proofs.PairLaws.{Pairs, none, pairs-in, pairs-length, pairs-map-in, pairs-map-self, pairs-gather, pairs-one, pairs-change-left}
 use Rattle.rules.specs.Rows.{Row, Fee, Refund, blank, newRow, source, settleWhole, remaining}
@@ -73,11 +73,7 @@ module _ (S : Row → Entry → Type 0) (f : ℕ → Row) (g : ℕ → Entry) wh
           test z (no d) = rw (le-ltb o i (omega arith), le-ltb 0 m (omega arith))
 
   refund-idle : (v w : Bool) (m i o : ℕ) → v ≡ false → i ≡ o → Pairs S (one (v && ltb 0 m) (f m)) (one (w && ltb o i) (g (i - o)))
-  refund-idle v w m i o e q = rw (e, le-ltb o i (omega arith)) (go w)
-    where
-      go : (u : Bool) → Pairs S [] (one (u && false) (g (i - o)))
-      go true = none
-      go false = none
+  refund-idle v w m i o e q = rw (e, le-ltb o i (omega arith), and-false w) none
 
 -- ---- the tick
 
