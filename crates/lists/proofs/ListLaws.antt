@@ -1,7 +1,7 @@
 -- Laws of the numbered walks and of tabulated lists.
 use mathlib.Core.Path.{_≡_, refl, sym, ap, _∙_}
 use mathlib.Core.Logic.{_≢_}
-use mathlib.Core.Bool.{Bool, true, _&&_}
+use mathlib.Core.Bool.{Bool, true}
 use Prim.Native.Nat.{ℕ, zero, suc, _+_, _≤_, _<_}
 use native.Mathlib.Nat.{le-of-suc-le-suc, not-suc-le-zero}
 use native.Mathlib.Omega.{arith}
@@ -9,7 +9,7 @@ use native.Mathlib.Decide.{ℕ-discrete}
 use native.Mathlib.Numerals.{add-one}
 use mathlib.Core.List.{List, [], _∷_, _++_, map, map-append}
 use lib.ListN.{length, getD, set, take, drop, replicate, length-append, List·getD-append, List·getD-map}
-use lib.Seq.{set-append-left, set-at, getD-at, getD-drop, take-suc, drop-cons}
+use lib.Seq.{set-append-left, set-at, getD-at, getD-drop, take-suc}
 use Rattle.lists.specs.Lists.{everyFrom, tabulate}
 use Rattle.lists.proofs.TestLaws.{and-left, and-right, and-both}
 

@@ -6,7 +6,7 @@ use mathlib.Core.List.{List, [], _∷_, _++_, map}
 use native.Mathlib.Nat.{le-of-suc-le-suc, not-suc-le-zero}
 use native.Mathlib.Omega.{arith}
 use native.Mathlib.Decide.{decLt}
-use lib.ListN.{length, take, drop, getD, set}
+use lib.ListN.{length, take, getD, set}
 use Rattle.lists.specs.Lists.{sumBy, count, gatherFrom}
 
 module _ {A : Type 0} where
@@ -113,5 +113,8 @@ module _ {A B : Type 0} (h : ℕ → A → List B) where
 
   pub sumBy-gather-none : (f : B → ℕ) (d : A) (i : ℕ) (xs : List A) → ((k n : ℕ) → n ≡ i + k → k < length xs → sumBy f (h n (getD xs k d)) ≡ 0) → sumBy f (gatherFrom h i xs) ≡ 0
   sumBy-gather-none f d i xs e =
-      omega (arith, sumBy-zero (λ (y : B). 0) (gatherFrom h i xs) (λ y. refl),
-        sumBy-gather f (λ y. 0) d i xs (λ k n q l. omega (arith, e k n q l, sumBy-zero (λ (y : B). 0) (h n (getD xs k d)) (λ y. refl))))
+      omega (
+        arith,
+        sumBy-zero (λ (y : B). 0) (gatherFrom h i xs) (λ y. refl),
+        sumBy-gather f (λ y. 0) d i xs (λ k n q l. omega (arith, e k n q l, sumBy-zero (λ (y : B). 0) (h n (getD xs k d)) (λ y. refl))),
+      )

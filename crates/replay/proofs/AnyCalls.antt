@@ -1,17 +1,13 @@
 -- Any list of calls keeps book and replay alike, given that an event keeps a sound book sound.
-use mathlib.Core.Path.{_≡_, refl, sym, ap, subst, _∙_}
-use mathlib.Core.Bool.{Bool, true, false, not, cond, _&&_}
-use Prim.Native.Nat.{ℕ, zero, suc, _+_, _*_, _≤_, _<_}
-use native.Mathlib.Omega.{arith}
+use mathlib.Core.Path.{_≡_, refl, sym, ap, _∙_}
+use mathlib.Core.Bool.{Bool, true, false, cond}
+use Prim.Native.Nat.{ℕ}
 use mathlib.Core.List.{List, [], _∷_, _++_, map}
-use lib.ListN.{length}
-use lib.Dec.{eqb}
 use borrow.Author.Tests.{eqb-true}
 use Rattle.records.specs.Encoding.{instructionOf, instructionFrom}
 use Rattle.lists.specs.Tests.{_is_, first}
-use Rattle.rules.specs.Schedule.{Schedule}
 use Rattle.rules.specs.Book.{Instruction, Book}
-use Rattle.rules.specs.Refusals.{answerNumber, after}
+use Rattle.rules.specs.Refusals.{answerNumber}
 use Rattle.rules.specs.Posting.{Posted, post, bookAfter}
 use Rattle.rules.specs.Soundness.{sound}
 use Rattle.rules.specs.Tables.{Tables, bookOf, tablesOf, soundTables}

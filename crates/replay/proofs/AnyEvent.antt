@@ -1,17 +1,16 @@
 -- Any accepted event keeps the relation: the refusals that do not apply give each event what its law needs.
-use mathlib.Core.Path.{_≡_, refl, sym, ap, _∙_}
-use mathlib.Core.Bool.{Bool, true, false, not, cond, _&&_, _||_, true≢false}
-use Prim.Native.Nat.{ℕ, zero, suc, _+_, _≤_, _<_}
+use mathlib.Core.Path.{_≡_, refl}
+use mathlib.Core.Bool.{Bool, true, false, not, _&&_, _||_}
+use Prim.Native.Nat.{ℕ, zero, suc, _≤_, _<_}
 use native.Mathlib.Omega.{arith}
-use mathlib.Core.List.{List, [], _∷_}
-use lib.ListN.{length, getD}
-use lib.Dec.{eqb, leb, ltb}
-use borrow.Author.Tests.{eqb-true, eq-eqb, leb-true, ltb-true, lt-ltb, not-true, not-false}
+use lib.ListN.{getD}
+use lib.Dec.{leb, ltb}
+use borrow.Author.Tests.{eqb-true, leb-true, ltb-true, lt-ltb, not-false}
 use Rattle.records.specs.Codes.{Check}
-use Rattle.lists.specs.Tests.{_is_, _from_to_, first}
+use Rattle.lists.specs.Tests.{_is_}
 use Rattle.lists.proofs.TestLaws.{and-left, and-right, and-then, or-left, or-right, first-fails}
-use Rattle.rules.specs.Rows.{Row, Toll, Payment, heldToll, unsettled}
-use Rattle.rules.specs.Book.{Unused, Open, Pending, Instruction, Book, account, row, topUpDue, lowBalance}
+use Rattle.rules.specs.Rows.{heldToll, unsettled}
+use Rattle.rules.specs.Book.{Unused, Open, Instruction, Book, account, row, topUpDue, lowBalance}
 use Rattle.rules.specs.Refusals.{changeOf, after, inTable, stateOf, unknown, taken, namedKind, noRow, untimely, refusals, answerNumber}
 use Rattle.rules.proofs.SoundnessLaws.{Sound}
 use Rattle.replay.specs.Replay.{Replay, settledReplay, stepOf}

@@ -1,35 +1,33 @@
 -- Demand 3: the claim, from the relation at the end of any list of calls.
 use mathlib.Core.Path.{_≡_, refl, sym, ap, _∙_}
-use mathlib.Core.Bool.{Bool, true, false, not, cond, _&&_, true≢false}
+use mathlib.Core.Bool.{Bool, true, false, _&&_}
 use Prim.Native.Nat.{ℕ, zero, suc, _+_, _*_, _/_, _-_, _≤_, _<_, min}
 use native.Mathlib.Nat.{le-div-iff-mul-le, mul-le-mul}
 use native.Mathlib.Omega.{arith}
 use native.Mathlib.Decide.{decLt}
-use mathlib.Core.List.{List, [], _∷_, map}
-use lib.ListN.{length, getD, replicate}
+use mathlib.Core.List.{List, [], map}
+use lib.ListN.{replicate}
 use lib.Dec.{leb}
 use lib.IntN.{ℤ}
 use borrow.Author.Tests.{eq-eqb, lt-leb}
-use Rattle.records.specs.Layout.{firstDayPlace, openingSchedule}
-use Rattle.records.specs.Encoding.{word}
 use Rattle.lists.specs.Tests.{_is_}
-use Rattle.lists.specs.Lists.{one, gather}
+use Rattle.lists.specs.Lists.{one}
 use Rattle.lists.proofs.PairLaws.{Pairs, none, more, pairs-to, pairs-same}
 use Rattle.lists.proofs.GatherLaws.{collect, gather-collect, collect-pairs}
-use Rattle.rules.specs.Schedule.{Schedule, scheduleFits}
+use Rattle.rules.specs.Schedule.{Schedule}
 use Rattle.rules.specs.Rows.{Row, Toll, Held, LastStage, blank, toll, heldToll, feeNaming}
 use Rattle.rules.specs.Book.{Instruction, unused, Book, row}
 use Rattle.rules.specs.Posting.{post}
 use Rattle.rules.specs.Opening.{opening}
 use Rattle.rules.specs.Soundness.{sound}
-use Rattle.rules.specs.Tables.{Tables, accountsIn, roomIn, scheduleFrom, bookOf}
+use Rattle.rules.specs.Tables.{Tables, accountsIn, bookOf}
 use Rattle.rules.specs.Calls.{openedBook, openCall}
 use Rattle.rules.proofs.SoundnessLaws.{Sound, sound-facts}
 use Rattle.rules.proofs.OpeningLaws.{openedBook-sound, openCall-sound, bookOf-openCall}
-use Rattle.replay.specs.Entries.{Entry, entryNo, isToll}
+use Rattle.replay.specs.Entries.{entryNo, isToll}
 use Rattle.replay.specs.Replay.{noNote, Replay, Report, replay, begin}
-use Rattle.replay.specs.Demand3.{Call, reports, tablesAfter, lineOfRow, lineOfEntry, stageOf, dayReached, stageFees, feesNaming, Demand3, replayStart, Claim3}
-use Rattle.replay.proofs.Relation.{Face, Match, Named, Noted, Alike}
+use Rattle.replay.specs.Demand3.{reports, tablesAfter, lineOfRow, lineOfEntry, stageOf, dayReached, stageFees, feesNaming, Demand3, replayStart, Claim3}
+use Rattle.replay.proofs.Relation.{Match, Named, Noted}
 use Rattle.replay.proofs.SoundRows.{sound-row, stage-length}
 use Rattle.replay.proofs.Growing.{Place, row-place, number-at, rows-no}
 use Rattle.replay.proofs.RowEvents.{fee-same}
@@ -37,7 +35,7 @@ use Rattle.replay.proofs.Balances.{balance-same}
 use Rattle.replay.proofs.Idle.{idle-none}
 use Rattle.replay.proofs.StageFees.{feesAt, stageFees-at, feesAt-same}
 use Rattle.replay.proofs.ReplaySteps.{feeShare}
-use Rattle.replay.proofs.FeesAlong.{FeesOf, opened, attained, Ends}
+use Rattle.replay.proofs.FeesAlong.{FeesOf, opened, attained}
 use Rattle.replay.proofs.AnyCalls.{Underway, Ended, calls-ended}
 
 -- ---- stages

@@ -1,23 +1,23 @@
 -- A tick's last step: the book and the replay close the same accounts, with the same refunds, and use up the same money. An account that is
 -- closed already may close again in the replay, to no effect.
-use mathlib.Core.Path.{_≡_, refl, sym, ap, ap₂, _∙_}
-use mathlib.Core.Bool.{Bool, true, false, not, cond, _&&_, _||_, true≢false, false≢true}
-use Prim.Native.Nat.{ℕ, zero, suc, _+_, _*_, _-_, _≤_, _<_}
+use mathlib.Core.Path.{_≡_, refl, sym, _∙_}
+use mathlib.Core.Bool.{Bool, true, false, not, cond, _&&_, false≢true}
+use Prim.Native.Nat.{ℕ, zero, suc, _+_, _≤_, _<_}
 use native.Mathlib.Omega.{arith}
 use native.Mathlib.Decide.{decLt}
-use mathlib.Core.List.{List, [], _∷_, _++_, map}
-use lib.ListN.{length, getD, length-map, List·getD-eq-default}
+use mathlib.Core.List.{List, _++_}
+use lib.ListN.{length, getD, List·getD-eq-default}
 use lib.Dec.{eqb, leb, ltb}
 use borrow.Author.Tests.{eqb-true, eqb-false, eq-eqb, ne-eqb, ltb-true, ltb-false, lt-ltb, le-ltb, leb-true, le-leb, lt-leb}
 use Rattle.lists.specs.Tests.{_is_, _from_to_, _implies_}
-use Rattle.lists.specs.Lists.{sumBy, only, count, exists, one, gather}
-use Rattle.lists.proofs.TestLaws.{and-left, and-right, cond-both}
+use Rattle.lists.specs.Lists.{sumBy, only, count, exists, gather}
+use Rattle.lists.proofs.TestLaws.{and-left, and-right}
 use Rattle.lists.proofs.SumLaws.{sumBy-some}
 use Rattle.lists.proofs.PairLaws.{Pairs, pairs-to, pairs-sum}
 use Rattle.rules.specs.Limits.{closingDays}
-use Rattle.rules.specs.Rows.{Row, blank, toll, heldToll, unsettled, debitOf, remaining}
+use Rattle.rules.specs.Rows.{Row, blank, unsettled, debitOf, remaining}
 use Rattle.rules.specs.Settlement.{money, used, paid, owed}
-use Rattle.rules.specs.Book.{Account, Unused, Open, Pending, Closed, unused, Book, settled, account, sources, debits}
+use Rattle.rules.specs.Book.{Account, Unused, Open, Pending, Closed, unused, Book, settled, account}
 use Rattle.rules.specs.Soundness.{stateFits, unusedZero, requestFits}
 use Rattle.rules.specs.Tick.{nextDay, endHolds, beforeRaising, raiseTolls, closes}
 use Rattle.rules.proofs.SoundnessLaws.{Sound}
@@ -28,7 +28,7 @@ use Rattle.replay.proofs.PlainEvents.{noted-no, zero-request}
 use Rattle.replay.proofs.Balances.{sources-same, debits-same}
 use Rattle.replay.proofs.Raising.{duskEntries}
 use Rattle.replay.proofs.RaisedFees.{raise-rows}
-use Rattle.replay.proofs.Evening.{heldOf, night, night-even, night-sources, night-debits, held-owes, none-owed, closed-none}
+use Rattle.replay.proofs.NightSums.{heldOf, night, night-even, night-sources, night-debits, held-owes, none-owed, closed-none}
 
 -- ---- an account's state and its request day
 
@@ -96,8 +96,8 @@ module _ (b : Book) (p : Replay) (sound : Sound b) (a : Alike b p) where
   abbrev pub L : ℕ
   L = b .schedule .stage
 
-  abbrev pub evening : Book
-  evening = raiseTolls (beforeRaising b)
+  abbrev nightBook : Book
+  nightBook = raiseTolls (beforeRaising b)
 
   abbrev pub nightEntries : List Entry
   nightEntries = duskEntries b p sound a ++ gather (addFees (p .schedule) (p .day + 1)) (p .entries)
@@ -112,7 +112,7 @@ module _ (b : Book) (p : Replay) (sound : Sound b) (a : Alike b p) where
   noteOf c = noteNo (p .notes) c
 
   abbrev pub closesNow : ℕ → Bool
-  closesNow c = closes evening c (account b c)
+  closesNow c = closes nightBook c (account b c)
 
   abbrev pub closingNow : ℕ → Bool
   closingNow c = closing now nightEntries c (noteOf c)

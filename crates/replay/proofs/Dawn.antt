@@ -1,27 +1,27 @@
 -- A tick's first steps keep the relation: the day rises, old holds end, open days and ticks are counted, and settlement follows.
 use mathlib.Core.Path.{_≡_, refl, sym, ap, _∙_}
 use mathlib.Core.Bool.{Bool, true, false, not, cond, _&&_, true≢false, false≢true}
-use Prim.Native.Nat.{ℕ, zero, suc, _+_, _*_, _-_, _≤_, _<_}
+use Prim.Native.Nat.{ℕ, suc, _+_, _*_, _≤_}
 use native.Mathlib.Omega.{arith}
-use mathlib.Core.List.{List, [], _∷_, _++_, map}
-use lib.ListN.{length, getD}
+use mathlib.Core.List.{List, map}
+use lib.ListN.{length}
 use lib.Dec.{eqb, ltb}
-use borrow.Author.Tests.{eqb-true, eqb-false, eq-eqb, ne-eqb, ltb-true, not-true, not-false}
+use borrow.Author.Tests.{eqb-true, eqb-false}
 use Rattle.lists.specs.Tests.{_is_}
 use Rattle.lists.proofs.TestLaws.{and-false, cond-both}
-use Rattle.lists.proofs.PairLaws.{Pairs, pairs-map-in, pairs-map-self, pairs-length}
+use Rattle.lists.proofs.PairLaws.{pairs-map-in, pairs-map-self, pairs-length}
 use Rattle.rules.specs.Limits.{holdDays}
-use Rattle.rules.specs.Rows.{Row, Toll, Held, LastStage, blank, toll, heldToll, unsettled}
+use Rattle.rules.specs.Rows.{Row, blank, toll, heldToll, unsettled}
 use Rattle.rules.specs.Book.{Book, settled}
 use Rattle.rules.specs.Events.{release}
 use Rattle.rules.specs.Tick.{nextDay, holdEnds, endHolds, beforeRaising}
-use Rattle.rules.proofs.SoundnessLaws.{Near, Sound}
-use Rattle.replay.specs.Entries.{Entry, noEntry, isToll, coveredWhole, withHold, withTicks, withOpenDays, settleAllEntries}
+use Rattle.rules.proofs.SoundnessLaws.{Near}
+use Rattle.replay.specs.Entries.{Entry, noEntry, isToll, withHold, withTicks, withOpenDays, settleAllEntries}
 use Rattle.replay.specs.Replay.{Replay, gains, countTick, countDay}
 use Rattle.replay.proofs.Relation.{Face, Track, Match, Rows, Alike}
-use Rattle.replay.proofs.SoundRows.{Holding, SoundRow, sound-row}
+use Rattle.replay.proofs.SoundRows.{SoundRow, sound-row}
 use Rattle.replay.proofs.Settling.{settleAll-pairs}
-use Rattle.replay.proofs.Growing.{referring, Kept, SameToll, regrow, match-keep}
+use Rattle.replay.proofs.Growing.{referring, SameToll, regrow, match-keep}
 use Rattle.replay.proofs.RowEvents.{release-match}
 
 -- ---- a row and its entry at dawn

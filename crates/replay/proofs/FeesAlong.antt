@@ -1,18 +1,17 @@
 -- The fees of each toll along a list of reports: by stages reached, each on the day of the report that reached it.
 use mathlib.Core.Path.{_≡_, refl, sym, ap, ap₂, _∙_}
-use mathlib.Core.Logic.{_≢_}
 use mathlib.Core.Bool.{Bool, true, false, cond, _&&_, true≢false}
-use Prim.Native.Nat.{ℕ, zero, suc, _+_, _*_, _≤_, _<_}
+use Prim.Native.Nat.{ℕ, _+_, _*_, _≤_}
 use native.Mathlib.Omega.{arith}
 use native.Mathlib.Decide.{ℕ-discrete}
 use mathlib.Core.List.{List, [], _∷_, _++_, append-nil}
-use lib.Dec.{leb, eqb}
+use lib.Dec.{leb}
 use borrow.Author.Tests.{le-leb, leb-true}
 use Rattle.records.specs.declared.Instruction.{Instruction}
 use Rattle.lists.specs.Tests.{_is_}
 use Rattle.lists.proofs.GatherLaws.{collect}
 use Rattle.rules.specs.Schedule.{Schedule}
-use Rattle.replay.specs.Entries.{Entry, entryNo}
+use Rattle.replay.specs.Entries.{entryNo}
 use Rattle.replay.specs.Replay.{Replay, Report, settledReplay, gains, reaches, closeAll, tickReplay, stepOf, replayOne, replay}
 use Rattle.replay.specs.Demand3.{dayReached}
 use Rattle.replay.proofs.StageFees.{feesAt, feesAt-none, feesAt-same, feesAt-more}

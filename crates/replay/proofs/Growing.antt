@@ -1,23 +1,22 @@
 -- Rows and entries that grow: elements changed in place, none of them in kind or reference, and new ones at the end. The tolls that fees
 -- name stay, since a fee names an earlier row. And the settlement that ends an event.
-use mathlib.Core.Path.{_≡_, refl, sym, ap, _∙_}
+use mathlib.Core.Path.{_≡_, refl, _∙_}
 use mathlib.Core.Bool.{Bool, true, false, cond, _&&_}
 use Prim.Native.Nat.{ℕ, zero, suc, _+_, _-_, _≤_, _<_}
 use native.Mathlib.Omega.{arith}
 use native.Mathlib.Decide.{decLt}
 use mathlib.Core.List.{List, [], _∷_, _++_, append-nil}
 use lib.ListN.{length, getD, List·getD-append, List·getD-eq-default}
-use lib.Dec.{ltb}
 use borrow.Author.Tests.{ltb-true, lt-ltb}
 use Rattle.lists.specs.Tests.{_is_}
-use Rattle.lists.proofs.PairLaws.{Pairs, none, more, pairs-length, pairs-at, pairs-in, pairs-each, pairs-append, pairs-self}
+use Rattle.lists.proofs.PairLaws.{Pairs, none, more, pairs-length, pairs-at, pairs-in, pairs-each, pairs-append}
 use Rattle.rules.specs.Rows.{Row, Toll, Fee, blank, rowNo, settleMore}
 use Rattle.rules.specs.Book.{Book, settled}
 use Rattle.rules.proofs.SoundnessLaws.{Near}
 use Rattle.replay.specs.Entries.{Entry, noEntry, entryNo, withCovered}
 use Rattle.replay.specs.Replay.{Replay, settledReplay}
 use Rattle.replay.specs.Demand3.{tollNamed}
-use Rattle.replay.proofs.Relation.{Face, Match, Named, Rows, Alike, match-blank}
+use Rattle.replay.proofs.Relation.{Match, Named, Rows, Alike, match-blank}
 use Rattle.replay.proofs.Settling.{settleAll-pairs}
 use Rattle.replay.proofs.SoundRows.{sound-row}
 

@@ -1,18 +1,17 @@
 -- In a sound book an account with an unsettled debit that is not held has no unused money; so the replay has no idle money.
-use mathlib.Core.Path.{_≡_, refl, sym, ap, _∙_}
-use mathlib.Core.Bool.{Bool, true, false, not, cond, _&&_, _||_, true≢false, false≢true}
-use Prim.Native.Nat.{ℕ, zero, suc, _+_, _-_, _≤_, _<_}
+use mathlib.Core.Path.{_≡_, refl, sym, _∙_}
+use mathlib.Core.Bool.{Bool, true, false, not, _&&_, _||_, false≢true}
+use Prim.Native.Nat.{ℕ, zero, suc, _-_, _≤_, _<_}
 use native.Mathlib.Omega.{arith}
-use mathlib.Core.List.{List, _∷_}
+use mathlib.Core.List.{List}
 use lib.ListN.{length, getD}
-use lib.Dec.{eqb, ltb}
 use borrow.Author.Tests.{eqb-true, eq-eqb, ne-eqb, ltb-true, not-true, not-false}
 use Rattle.lists.specs.Tests.{_is_}
-use Rattle.lists.specs.Lists.{sumBy, only}
+use Rattle.lists.specs.Lists.{only}
 use Rattle.lists.proofs.TestLaws.{and-left, and-right}
 use Rattle.lists.proofs.SumLaws.{sumBy-at-le}
 use Rattle.lists.proofs.PairLaws.{Pairs, pairs-to}
-use Rattle.rules.specs.Rows.{Row, blank, rowNo, source, debit, unsettled, held, sourceOf, debitOf, payable, remaining}
+use Rattle.rules.specs.Rows.{Row, blank, source, debit, unsettled, held, sourceOf, payable, remaining}
 use Rattle.rules.specs.Settlement.{money, debt}
 use Rattle.rules.specs.Book.{Book, row}
 use Rattle.rules.specs.Soundness.{spent}

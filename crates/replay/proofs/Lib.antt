@@ -11,7 +11,7 @@ pub mod Dawn
 pub mod EntryLaws
 pub mod Raising
 pub mod RaisedFees
-pub mod Evening
+pub mod NightSums
 pub mod Closing
 pub mod Ticking
 pub mod StageFees

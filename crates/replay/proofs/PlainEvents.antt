@@ -1,17 +1,17 @@
 -- Events 1, 2, 3, 7 and 8 keep the relation: they change a note, or add a row and its entry.
-use mathlib.Core.Path.{_≡_, refl, sym, ap, _∙_}
+use mathlib.Core.Path.{_≡_, refl, sym, _∙_}
 use mathlib.Core.Bool.{Bool, true, false, cond, _&&_, false≢true}
 use Prim.Native.Nat.{ℕ, zero, suc, _+_, _*_, _-_, _≤_, _<_}
 use native.Mathlib.Omega.{arith}
 use native.Mathlib.Decide.{decLt}
-use mathlib.Core.List.{List, [], _∷_, _++_}
+use mathlib.Core.List.{[], _∷_, _++_}
 use lib.ListN.{length, getD, List·getD-eq-default}
-use borrow.Author.Tests.{eqb-true, eq-eqb}
+use borrow.Author.Tests.{eqb-true}
 use Rattle.records.specs.Codes.{Yes}
 use Rattle.records.specs.AccountOperations.{opened, declinedOn, topUpPaid, closeRequestedOn, lastDecline}
 use Rattle.lists.specs.Tests.{_is_}
 use Rattle.lists.proofs.TestLaws.{and-left}
-use Rattle.lists.proofs.PairLaws.{Pairs, none, more, pairs-at, pairs-set, pairs-set-left, pairs-self, pairs-to}
+use Rattle.lists.proofs.PairLaws.{none, more, pairs-at, pairs-set, pairs-set-left, pairs-self, pairs-to}
 use Rattle.rules.specs.Rows.{Row}
 use Rattle.rules.specs.Book.{Account, unused, Unused, Instruction, Book, account, putAccount, addRow}
 use Rattle.rules.specs.Events.{openAccount, tollRate, postToll, postPayment, payTopUp, declineTopUp, topUpResult, requestClose}
@@ -20,7 +20,7 @@ use Rattle.rules.proofs.SoundnessLaws.{Near}
 use Rattle.replay.specs.Entries.{Entry, Payment, newEntry}
 use Rattle.replay.specs.Replay.{Note, noNote, Replay, noteNo, putNote, addEntry, noteTopUp, noteRequest, addToll, addPayment, addTopUp}
 use Rattle.replay.specs.Demand3.{tollNamed}
-use Rattle.replay.proofs.Relation.{Face, Match, Named, Noted, Alike, track-other}
+use Rattle.replay.proofs.Relation.{Face, Match, Noted, Alike, track-other}
 use Rattle.replay.proofs.SoundRows.{stage-length}
 use Rattle.replay.proofs.Growing.{Referring, referring, kept-self, grow}
 
@@ -56,9 +56,9 @@ zero-request x e f =
 unused-request : (b : Book) → Near (b .day) b → (n : ℕ) → account b n .state ≡ Unused → account b n .request ≡ 0
 unused-request b near zero e = refl
 unused-request b near (suc n) e = elim (decLt n (length (b .accounts))) [
-    | yes h ↦ zero-request (getD (b .accounts) n unused) e (near .standing n h .zero)
-    | no h ↦ rw (List·getD-eq-default (b .accounts) unused {n = n} (omega arith))
-  ]
+  | yes h ↦ zero-request (getD (b .accounts) n unused) e (near .standing n h .zero)
+  | no h ↦ rw (List·getD-eq-default (b .accounts) unused {n = n} (omega arith))
+]
 
 -- ---- a row and its entry are added
 
@@ -133,7 +133,7 @@ topUpResult-alike b p e near a n t = go (e .b is Yes)
     declined true = record { request = q .request; topup = λ h. absurd (omega arith) }
     declined false = record { request = q .request; topup = q .topup }
 
-    go : (v : Bool) → Alike (cond v (payTopUp b e) (declineTopUp b e)) 
+    go : (v : Bool) → Alike (cond v (payTopUp b e) (declineTopUp b e))
         (cond v (addEntry (newEntry Payment (e .account) (p .day) (noteNo (p .notes) (e .account) .topup)) p) p)
     go true = payment-alike (putAccount (e .account) (topUpPaid x) b) p (referring b near) (account-alike b p a (e .account) n (topUpPaid x) (record { request = q .request; topup = q .topup })) _ _
         (record { kind = refl; account = refl; day = a .day; amount = q .topup t; settled = refl; hold = refl }) refl refl refl

@@ -1,33 +1,32 @@
 -- The fees of a tick: the rows that raised tolls add are the entries that the replay adds.
-use mathlib.Core.Path.{_≡_, refl, sym, ap, _∙_}
-use mathlib.Core.Bool.{Bool, true, false, not, cond, _&&_, true≢false, false≢true}
-use Prim.Native.Nat.{ℕ, zero, suc, _+_, _*_, _-_, _≤_, _<_}
+use mathlib.Core.Path.{_≡_, refl, sym, _∙_}
+use mathlib.Core.Bool.{Bool, true, false, _&&_}
+use Prim.Native.Nat.{ℕ, zero, suc, _+_, _*_, _≤_, _<_}
 use native.Mathlib.Nat.{mul-le-mul-right}
 use native.Mathlib.Omega.{arith}
 use native.Mathlib.Decide.{ℕ-discrete, decLt}
-use mathlib.Core.List.{List, [], _∷_, _++_, map}
-use lib.ListN.{length, getD, length-map, List·getD-append}
+use mathlib.Core.List.{List, [], _++_, map}
+use lib.ListN.{length, getD, length-map}
 use lib.Dec.{eqb, ltb}
 use borrow.Author.Tests.{eqb-true, eq-eqb, ne-eqb}
 use Rattle.lists.specs.Tests.{_is_}
 use Rattle.lists.specs.Lists.{one, gather}
-use Rattle.lists.proofs.TestLaws.{and-left, and-right, cond-both}
+use Rattle.lists.proofs.TestLaws.{and-left, and-right}
 use Rattle.lists.proofs.ListLaws.{map-at}
 use Rattle.lists.proofs.PairLaws.{Pairs, none, more, pairs-length, pairs-each, pairs-gather, pairs-self, pairs-map-self}
 use Rattle.rules.specs.Schedule.{Schedule, stageFee}
-use Rattle.rules.specs.Rows.{Row, Toll, Fee, LastStage, blank, newRow, withReference, withDue, withMark, rowNo, toll}
+use Rattle.rules.specs.Rows.{Row, Fee, LastStage, blank, newRow, withReference, toll}
 use Rattle.rules.specs.Book.{Book, settled}
-use Rattle.rules.specs.Events.{release}
 use Rattle.rules.specs.Tick.{nextDay, endHolds, beforeRaising, rises, raise, feeRow, raiseTolls}
 use Rattle.rules.proofs.SoundnessLaws.{Sound}
 use Rattle.replay.specs.Entries.{Entry, noEntry, newEntry, withToll}
-use Rattle.replay.specs.Replay.{Replay, gains, countDay, reaches, addFee, addFees}
+use Rattle.replay.specs.Replay.{Replay, gains, reaches, addFee, addFees}
 use Rattle.replay.specs.Demand3.{tollNamed}
-use Rattle.replay.proofs.Relation.{Face, Match, Named, Rows, Alike, track-other}
+use Rattle.replay.proofs.Relation.{Match, Named, Rows, Alike, track-other}
 use Rattle.replay.proofs.SoundRows.{stage-length, and3}
 use Rattle.replay.proofs.Growing.{Referring, referring, Kept, kind-kept, grow}
-use Rattle.replay.proofs.Dawn.{dawn-keeps, gains-same, dusk-rows}
-use Rattle.replay.proofs.Raising.{raise-keeps, rising, old, new, kept, dusk-length, duskEntries, Reached, rises-reached, reached-rises, raise-match, mark-same, toll-same}
+use Rattle.replay.proofs.Dawn.{gains-same, dusk-rows}
+use Rattle.replay.proofs.Raising.{raise-keeps, rising, old, dusk-length, duskEntries, kind-same, account-same, reference-same, rises-reached, reached-rises, raise-match, mark-same}
 
 -- ---- the open days of stage k, and of the stage after m
 
@@ -86,12 +85,12 @@ module _ (b : Book) (p : Replay) (sound : Sound b) (a : Alike b p) where
   abbrev now : ℕ
   now = b .day + 1
 
-  abbrev evening : List Row
-  evening = beforeRaising b .rows
+  abbrev dusk : List Row
+  dusk = beforeRaising b .rows
 
   module _ (k : ℕ) (h : k < length (b .rows)) where
     abbrev s : Row
-    s = getD evening k blank
+    s = getD dusk k blank
 
     abbrev x : Entry
     x = getD (p .entries) k noEntry
@@ -138,54 +137,48 @@ module _ (b : Book) (p : Replay) (sound : Sound b) (a : Alike b p) where
   -- ---- the rows after the raising
 
   abbrev pub raised : List Row
-  raised = map (raise (b .schedule) now) evening
+  raised = map (raise (b .schedule) now) dusk
 
   abbrev pub fees : List Row
-  fees = gather (feeRow (b .schedule) now) evening
+  fees = gather (feeRow (b .schedule) now) dusk
 
-  pub raised-kept : Pairs Kept evening raised
-  raised-kept = pairs-map-self (raise (b .schedule) now) (λ r. record { kind = raise-keeps (λ q. q .kind) (λ q v w. refl) (b .schedule) now r; reference = raise-keeps (λ q. q .reference) (λ q v w. refl) (b .schedule) now r }) evening
+  pub raised-kept : Pairs Kept dusk raised
+  raised-kept = pairs-map-self (raise (b .schedule) now) (λ r. record { kind = raise-keeps (λ q. q .kind) (λ q v w. refl) (b .schedule) now r; reference = raise-keeps (λ q. q .reference) (λ q v w. refl) (b .schedule) now r }) dusk
 
-  pub raise-at : (k : ℕ) → getD raised k blank ≡ raise (b .schedule) now (getD evening k blank)
+  pub raise-at : (k : ℕ) → getD raised k blank ≡ raise (b .schedule) now (getD dusk k blank)
   unfolding raise rises
-  raise-at k = map-at (raise (b .schedule) now) evening k blank refl
+  raise-at k = map-at (raise (b .schedule) now) dusk k blank refl
 
-  evening-account : (k : ℕ) → k < length (b .rows) → getD evening k blank .account ≡ getD (b .rows) k blank .account
-  evening-account k h = ap (λ (q : Row). q .account) (kept b p sound a k h) ∙ dawn-keeps (λ q. q .account) (λ q t. unfold release in refl) now _
-
-  pub evening-referring : Referring evening
-  evening-referring k h f =
+  pub dusk-referring : Referring dusk
+  dusk-referring k h f =
       let l : k < length (b .rows) = rw (dusk-length b p sound a) at h in
-      let e = kept b p sound a k l in
-      let u : getD evening k blank .kind ≡ getD (b .rows) k blank .kind = ap (λ (q : Row). q .kind) e ∙ dawn-keeps (λ q. q .kind) (λ q t. unfold release in refl) now _ in
-      let w : getD evening k blank .reference ≡ getD (b .rows) k blank .reference = ap (λ (q : Row). q .reference) e ∙ dawn-keeps (λ q. q .reference) (λ q t. unfold release in refl) now _ in
-      rw w (referring b (sound .near) k l (rw u at f))
+      rw (reference-same b p sound a k l) (referring b (sound .near) k l (rw (kind-same b p sound a k l) at f))
 
-  fee-pairs : (k n : ℕ) → n ≡ 1 + k → k < length evening
-      → Pairs (Named (Match 0 now L) (raised ++ fees)) (feeRow (b .schedule) now n (getD evening k blank)) (addFees (p .schedule) (p .day + 1) n (getD (p .entries) k noEntry))
+  fee-pairs : (k n : ℕ) → n ≡ 1 + k → k < length dusk
+      → Pairs (Named (Match 0 now L) (raised ++ fees)) (feeRow (b .schedule) now n (getD dusk k blank)) (addFees (p .schedule) (p .day + 1) n (getD (p .entries) k noEntry))
   unfolding feeRow addFees addFee tollNamed
   fee-pairs k n e h =
       let l : k < length (b .rows) = rw (dusk-length b p sound a) at h in
       let z : n ≡ suc k = omega arith in
       rw (z, ← (a .schedule), ← (a .day), reaches-same k l 2 (omega arith), reaches-same k l 3 (omega arith), reaches-same k l 4 (omega arith))
       (one-fee (Named (Match 0 now L) (raised ++ fees)) (b .schedule)
-      (λ j. withReference (suc k) (newRow Fee (getD evening k blank .account) now (stageFee (b .schedule) j)))
+      (λ j. withReference (suc k) (newRow Fee (getD dusk k blank .account) now (stageFee (b .schedule) j)))
       (λ j. withToll (suc k) (newEntry Fee (getD (p .entries) k noEntry .account) now (stageFee (b .schedule) j)))
-      (rises now (getD evening k blank)) (getD evening k blank .mark) (λ q. rising now (getD evening k blank) q .under)
+      (rises now (getD dusk k blank)) (getD dusk k blank .mark) (λ q. rising now (getD dusk k blank) q .under)
       (λ q j. record {
         is = record {
-          face = record { kind = refl; account = evening-account k l ∙ old b p sound a k l .face .account; day = refl; amount = refl; settled = refl; hold = refl };
+          face = record { kind = refl; account = account-same b p sound a k l ∙ old b p sound a k l .face .account; day = refl; amount = refl; settled = refl; hold = refl };
           track = track-other 0 now L _ _ refl (λ i. refl);
         };
-        toll = rw (kind-kept evening raised fees raised-kept (suc k) h, rising now (getD evening k blank) q .toll);
+        toll = rw (kind-kept dusk raised fees raised-kept (suc k) h, rising now (getD dusk k blank) q .toll);
       }))
 
   pub raise-rows : Rows (Match 0 now L) (raiseTolls (beforeRaising b) .rows) (duskEntries b p sound a ++ gather (addFees (p .schedule) (p .day + 1)) (p .entries))
   unfolding raiseTolls beforeRaising settled endHolds nextDay
   raise-rows =
       let d = dusk-rows b p (sound .near) a in
-      let n : length raised ≡ length evening = length-map evening (raise (b .schedule) now) in
-      grow evening (duskEntries b p sound a) evening-referring d raised (duskEntries b p sound a) raised-kept (pairs-self (λ y. refl) (duskEntries b p sound a))
+      let n : length raised ≡ length dusk = length-map dusk (raise (b .schedule) now) in
+      grow dusk (duskEntries b p sound a) dusk-referring d raised (duskEntries b p sound a) raised-kept (pairs-self (λ y. refl) (duskEntries b p sound a))
       (pairs-each blank noEntry raised (duskEntries b p sound a) (n ∙ pairs-length d) (λ k h.
       rw (raise-at k) (raise-match b p sound a k (rw (n, dusk-length b p sound a) at h))))
-      fees _ (pairs-gather (feeRow (b .schedule) now) (addFees (p .schedule) (p .day + 1)) blank noEntry 1 evening (p .entries) (dusk-length b p sound a ∙ pairs-length (a .rows)) fee-pairs)
+      fees _ (pairs-gather (feeRow (b .schedule) now) (addFees (p .schedule) (p .day + 1)) blank noEntry 1 dusk (p .entries) (dusk-length b p sound a ∙ pairs-length (a .rows)) fee-pairs)

@@ -1,20 +1,20 @@
 -- A tick's fourth step keeps the relation: a toll rises exactly when this tick gave it its (stage + 1) × L-th open day, and the same fees
 -- are added.
 use mathlib.Core.Path.{_≡_, refl, sym, ap, _∙_}
-use mathlib.Core.Bool.{Bool, true, false, not, cond, _&&_, _||_, true≢false, false≢true}
-use Prim.Native.Nat.{ℕ, zero, suc, _+_, _*_, _-_, _≤_, _<_}
+use mathlib.Core.Bool.{Bool, true, false, not, cond, _&&_, true≢false}
+use Prim.Native.Nat.{ℕ, _+_, _*_, _<_}
 use native.Mathlib.Omega.{arith}
 use native.Mathlib.Decide.{decLt}
-use mathlib.Core.List.{List, [], _∷_, _++_, map}
+use mathlib.Core.List.{List, map}
 use lib.ListN.{length, getD, length-map}
-use lib.Dec.{eqb, ltb}
-use borrow.Author.Tests.{eqb-true, eq-eqb, ne-eqb, ltb-true, lt-ltb, not-true, not-false}
+use lib.Dec.{ltb}
+use borrow.Author.Tests.{eqb-true, eq-eqb, ltb-true, lt-ltb, not-true}
 use Rattle.lists.specs.Tests.{_is_}
-use Rattle.lists.specs.Lists.{sumBy, only}
+use Rattle.lists.specs.Lists.{only}
 use Rattle.lists.proofs.TestLaws.{cond-both}
 use Rattle.lists.proofs.ListLaws.{map-at}
 use Rattle.lists.proofs.SumLaws.{sumBy-map, sumBy-ext}
-use Rattle.lists.proofs.PairLaws.{Pairs, pairs-in, pairs-length}
+use Rattle.lists.proofs.PairLaws.{pairs-in}
 use Rattle.rules.specs.Schedule.{Schedule}
 use Rattle.rules.specs.Rows.{Row, Toll, LastStage, blank, withDue, withMark, toll, heldToll, held, unsettled, sourceOf, remaining}
 use Rattle.rules.specs.Settlement.{money, settleAccounts}
@@ -25,8 +25,8 @@ use Rattle.rules.proofs.AllocationLaws.{bare}
 use Rattle.rules.proofs.SoundnessLaws.{Sound}
 use Rattle.replay.specs.Entries.{Entry, noEntry, settleAllEntries}
 use Rattle.replay.specs.Replay.{Replay, gains, countDay}
-use Rattle.replay.proofs.Relation.{Face, Track, Match, Alike}
-use Rattle.replay.proofs.SoundRows.{SoundRow, sound-row, stage-length, and3}
+use Rattle.replay.proofs.Relation.{Track, Match, Alike}
+use Rattle.replay.proofs.SoundRows.{stage-length, and3}
 use Rattle.replay.proofs.Idle.{open-none}
 use Rattle.replay.proofs.SettledAccounts.{length-all, all-row, all-stay}
 use Rattle.replay.proofs.Dawn.{dawn, dawn-keeps, gains-same, dusk-rows}
@@ -134,11 +134,24 @@ module _ (b : Book) (p : Replay) (sound : Sound b) (a : Alike b p) where
     pub kept : bare s ≡ bare (dawn today r)
     kept = rw dusk-is (all-row (length (b .accounts)) dawned k .kept ∙ ap (λ (q : Row). bare q) (dawn-at k))
 
+    -- what looks neither at what is settled nor at what dawn changes
+    pub dusk-keeps : {B : Type 0} (g : Row → B) → ((q : Row) → g (bare q) ≡ g q) → ((q : Row) (t : ℕ) → g (release t q) ≡ g q) → g s ≡ g r
+    dusk-keeps g f e = sym (f s) ∙ ap g kept ∙ f (dawn today r) ∙ dawn-keeps g e today r
+
+    pub kind-same : s .kind ≡ r .kind
+    kind-same = dusk-keeps (λ q. q .kind) (λ q. refl) (λ q t. unfold release in refl)
+
+    pub account-same : s .account ≡ r .account
+    account-same = dusk-keeps (λ q. q .account) (λ q. refl) (λ q t. unfold release in refl)
+
     pub mark-same : s .mark ≡ r .mark
-    mark-same = ap (λ (q : Row). q .mark) kept ∙ dawn-keeps (λ q. q .mark) (λ q t. unfold release in refl) today r
+    mark-same = dusk-keeps (λ q. q .mark) (λ q. refl) (λ q t. unfold release in refl)
+
+    pub reference-same : s .reference ≡ r .reference
+    reference-same = dusk-keeps (λ q. q .reference) (λ q. refl) (λ q t. unfold release in refl)
 
     pub toll-same : toll s ≡ toll r
-    toll-same = ap (λ (q : Row). toll q) kept ∙ dawn-keeps (λ q. toll q) (λ q t. unfold release in refl) today r
+    toll-same = rw kind-same
 
     pub open-same : y .open-days ≡ x .open-days + cond (gains x) 1 0
     open-same =

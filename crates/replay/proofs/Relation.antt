@@ -3,12 +3,10 @@
 use mathlib.Core.Path.{_≡_, refl}
 use mathlib.Core.Bool.{true, false, cond, false≢true}
 use Prim.Native.Nat.{ℕ, _+_, _*_, _≤_, _<_}
-use native.Mathlib.Omega.{arith}
 use mathlib.Core.List.{List}
-use lib.ListN.{length}
 use Rattle.lists.proofs.PairLaws.{Pairs}
 use Rattle.rules.specs.Rows.{Row, blank, LastStage, toll, heldToll, unsettled}
-use Rattle.rules.specs.Book.{Account, unused, Book}
+use Rattle.rules.specs.Book.{Account, Book}
 use Rattle.replay.specs.Entries.{Entry, noEntry}
 use Rattle.replay.specs.Replay.{Note, Replay}
 use Rattle.replay.specs.Demand3.{tollNamed}

@@ -1,22 +1,21 @@
 -- The replay's steps, by themselves: none but the tick changes a toll's fees or open days.
-use mathlib.Core.Path.{_≡_, refl, sym, ap, ap₂, _∙_}
+use mathlib.Core.Path.{_≡_, refl, sym, _∙_}
 use mathlib.Core.Logic.{_≢_}
-use mathlib.Core.Bool.{Bool, true, false, not, cond, _&&_}
-use Prim.Native.Nat.{ℕ, zero, suc, _+_, _*_, _-_, _≤_, _<_, min}
+use mathlib.Core.Bool.{Bool, true, false, cond}
+use Prim.Native.Nat.{ℕ, zero, suc, _-_, _≤_}
 use native.Mathlib.Omega.{arith}
-use mathlib.Core.List.{List, [], _∷_, _++_, map, append-nil}
-use lib.ListN.{length, getD, set}
-use lib.Dec.{eqb}
-use borrow.Author.Tests.{eq-eqb, ne-eqb}
+use mathlib.Core.List.{List, [], _∷_, _++_, append-nil}
+use lib.ListN.{getD, set}
+use borrow.Author.Tests.{ne-eqb}
 use Rattle.records.specs.Codes.{Yes}
 use Rattle.records.specs.declared.Instruction.{Instruction}
 use Rattle.lists.specs.Tests.{_is_}
 use Rattle.lists.specs.Lists.{one}
 use Rattle.lists.proofs.TestLaws.{and-false, cond-both}
-use Rattle.lists.proofs.PairLaws.{Pairs, none, more, pairs-at, pairs-to, pairs-self, pairs-map-self, pairs-set-self}
+use Rattle.lists.proofs.PairLaws.{Pairs, none, more, pairs-at, pairs-to, pairs-map-self, pairs-set-self}
 use Rattle.lists.proofs.GatherLaws.{collect, collect-append, collect-pairs, collect-none}
-use Rattle.replay.specs.Entries.{Entry, Fee, noEntry, entryNo, newEntry, withCovered, withHold, coverWhole, uncovered, feeOf, unusedOf, wantedBy, cover, settleEntries, settleAllEntries}
-use Rattle.replay.specs.Replay.{Replay, Step, settledReplay, noteTopUp, noteRequest, addToll, addPayment, addTopUp, addReturn, setHold, addCredit, freeToll, stepOf}
+use Rattle.replay.specs.Entries.{Entry, Fee, noEntry, entryNo, coverWhole, feeOf, unusedOf, wantedBy, cover, settleEntries, settleAllEntries}
+use Rattle.replay.specs.Replay.{Replay, noteTopUp, noteRequest, addToll, addPayment, addTopUp, addReturn, setHold, addCredit, freeToll, stepOf}
 use Rattle.replay.proofs.Growing.{number-at}
 
 -- the fee entries that name toll n: amounts and days

@@ -1,9 +1,9 @@
 -- Events 4, 5 and 6 keep the relation: they change a row that the event names, and 4 and 6 add rows.
-use mathlib.Core.Path.{_≡_, refl, sym, ap, _∙_}
+use mathlib.Core.Path.{_≡_, refl, sym, _∙_}
 use mathlib.Core.Bool.{Bool, true, false, cond, _&&_, true≢false, false≢true}
-use Prim.Native.Nat.{ℕ, zero, suc, _+_, _*_, _-_, _≤_, _<_}
+use Prim.Native.Nat.{ℕ, _+_, _*_, _-_, _≤_, _<_}
 use native.Mathlib.Omega.{arith}
-use mathlib.Core.List.{List, [], _∷_, _++_, map, append-assoc}
+use mathlib.Core.List.{List, [], _∷_, append-assoc}
 use lib.ListN.{length, getD, set}
 use lib.Seq.{getD-set-same, set-set}
 use borrow.Author.Tests.{ltb-true, ne-eqb, eqb-true}
@@ -15,17 +15,16 @@ use Rattle.lists.specs.Lists.{sumBy, only}
 use Rattle.lists.proofs.TestLaws.{and-left, and-false, cond-both}
 use Rattle.lists.proofs.SumLaws.{sumBy-set-same}
 use Rattle.lists.proofs.PairLaws.{Pairs, none, more, pairs-to, pairs-set, pairs-set-left, pairs-map, pairs-map-right, pairs-self, pairs-set-self, pairs-sum, pairs-length}
-use Rattle.rules.specs.Limits.{returnFee}
-use Rattle.rules.specs.Rows.{Row, Toll, Fee, Reversal, Payment, Credit, Held, LastStage, blank, newRow, withMark, withReference, withSettled, withDispute, rowNo, toll, heldToll, unsettled, remaining, settleWhole, feeNaming}
+use Rattle.rules.specs.Rows.{Row, Toll, Fee, Payment, Credit, Held, blank, newRow, withMark, withReference, withSettled, withDispute, rowNo, toll, heldToll, remaining, settleWhole, feeNaming}
 use Rattle.rules.specs.Rows
-use Rattle.rules.specs.Book.{Account, Pending, Closed, Instruction, Book, account, row, putAccount, putRow, addRow, withRows}
+use Rattle.rules.specs.Book.{Account, Pending, Closed, Instruction, Book, account, row, putAccount, putRow}
 use Rattle.rules.specs.Events.{returnCheck, holdFrom, holdToll, release, reject, withFees, uphold, decide}
 use Rattle.rules.proofs.SoundnessLaws.{Near}
 use Rattle.replay.specs.Entries.{Entry, noEntry, entryNo, newEntry, withCovered, withHold, coverWhole, uncovered, feeOf}
-use Rattle.replay.specs.Replay.{Note, Replay, noteNo, changeEntry, addReturn, setHold, tollAndFees, addCredit, freeToll}
+use Rattle.replay.specs.Replay.{Note, Replay, changeEntry, addReturn, setHold, tollAndFees, addCredit, freeToll}
 use Rattle.replay.specs.Demand3.{tollNamed}
-use Rattle.replay.proofs.Relation.{Face, Track, Match, Named, Noted, Rows, Alike, track-other}
-use Rattle.replay.proofs.SoundRows.{Holding, sound-row}
+use Rattle.replay.proofs.Relation.{Face, Match, Named, Noted, Rows, Alike, track-other}
+use Rattle.replay.proofs.SoundRows.{sound-row}
 use Rattle.replay.proofs.Growing.{Referring, referring, Kept, kept-self, kind-kept, SameToll, grow, regrow, Place, row-place, number-at, rows-no}
 use Rattle.replay.proofs.PlainEvents.{noted-no, account-alike}
 
@@ -279,6 +278,8 @@ returnCheck-alike b p e near a h k =
           (pairs-set-left (n - 1) r noEntry new (pairs-to (λ s y q. q .is) (a .rows)))
           (_ ∷ _ ∷ []) (_ ∷ _ ∷ [])
           (more (record { is = record { face = record { kind = refl; account = refl; day = a .day; amount = f .amount; settled = refl; hold = refl }; track = track-other 0 (b .day) (b .schedule .stage) _ _ refl (λ q. refl) }; toll = refl })
-          (more (record { is = record { face = record { kind = refl; account = refl; day = a .day; amount = refl; settled = refl; hold = refl }; track = track-other 0 (b .day) (b .schedule .stage) _ _ refl (λ q. refl) };
-              toll = rw (kind-kept (b .rows) olds _ keeps n (omega (arith, place .low, place .high)), k) }) none));
+          (more (record {
+            is = record { face = record { kind = refl; account = refl; day = a .day; amount = refl; settled = refl; hold = refl }; track = track-other 0 (b .day) (b .schedule .stage) _ _ refl (λ q. refl) };
+            toll = rw (kind-kept (b .rows) olds _ keeps n (omega (arith, place .low, place .high)), k);
+          }) none));
     })

@@ -1,8 +1,8 @@
 -- The settlement of all accounts, account by account: what it does to a row, which rows it leaves, and what it makes of an account's sums.
-use mathlib.Core.Path.{_≡_, refl, sym, ap, ap₂, _∙_}
+use mathlib.Core.Path.{_≡_, refl, sym, ap, _∙_}
 use mathlib.Core.Logic.{_≢_}
-use mathlib.Core.Bool.{Bool, true, false, not, cond, _&&_, _||_, true≢false}
-use Prim.Native.Nat.{ℕ, zero, suc, _+_, _-_, _≤_, _<_, min}
+use mathlib.Core.Bool.{Bool, true, false}
+use Prim.Native.Nat.{ℕ, zero, suc, _+_, _≤_}
 use native.Mathlib.Omega.{arith}
 use native.Mathlib.Decide.{ℕ-discrete}
 use mathlib.Core.List.{List}
@@ -13,8 +13,8 @@ use Rattle.lists.specs.Tests.{_is_}
 use Rattle.lists.specs.Lists.{sumBy, only}
 use Rattle.lists.proofs.TestLaws.{and-left, and-false}
 use Rattle.lists.proofs.PairLaws.{pairs-each, pairs-sum}
-use Rattle.rules.specs.Rows.{Row, Toll, Held, blank, debit, heldToll, held, sourceOf, debitOf, payable, remaining, settleMore}
-use Rattle.rules.specs.Settlement.{money, debt, moved, settle, settleAccounts, used, paid, owed}
+use Rattle.rules.specs.Rows.{Row, Toll, Held, blank, debit, heldToll, held, sourceOf, debitOf, payable, remaining}
+use Rattle.rules.specs.Settlement.{money, debt, moved, settle, settleAccounts, used, paid}
 use Rattle.rules.proofs.AllocationLaws.{bare, settleMore-zero, share, share-le}
 use Rattle.rules.proofs.SettlementLaws.{payable-settle, settle-spent, settle-same, length-settle, settle-at, settle-row, settle-fair}
 

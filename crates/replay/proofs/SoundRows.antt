@@ -1,20 +1,20 @@
 -- What soundness says of a row, in numbers.
-use mathlib.Core.Path.{_≡_, refl, sym, ap, _∙_}
-use mathlib.Core.Bool.{Bool, true, false, not, cond, _&&_, _||_, true≢false, false≢true}
+use mathlib.Core.Path.{_≡_, refl}
+use mathlib.Core.Bool.{Bool, true, false, not, _&&_, _||_, false≢true}
 use Prim.Native.Nat.{ℕ, zero, suc, _+_, _≤_, _<_}
 use native.Mathlib.Omega.{arith}
 use mathlib.Core.List.{List}
 use native.Mathlib.Decide.{decLt}
 use lib.ListN.{length, getD, List·getD-eq-default}
-use lib.Dec.{eqb, leb, ltb}
-use borrow.Author.Tests.{leb-true, ltb-true, lt-ltb, eqb-true, not-true, not-false}
+use lib.Dec.{leb, ltb}
+use borrow.Author.Tests.{leb-true, ltb-true, eqb-true}
 use Rattle.lists.specs.Tests.{_is_, _from_to_, _implies_}
 use Rattle.lists.proofs.TestLaws.{and-left, and-right}
 use Rattle.rules.specs.Limits.{longestStage, highestFee}
 use Rattle.rules.specs.Schedule.{Schedule, scheduleFits, ratesFit}
 use Rattle.rules.specs.Rows.{Row, Toll, Fee, Payment, LastStage, Held, blank, rowNo, toll, heldToll, unsettled}
 use Rattle.rules.specs.Book.{Account, unused, Unused, Book, accountNo}
-use Rattle.rules.specs.Soundness.{settledFits, markFits, dueWithin, holdFits, accountUsed, names, referenceFits}
+use Rattle.rules.specs.Soundness.{settledFits, markFits, holdFits, accountUsed, names, referenceFits}
 use Rattle.rules.proofs.SoundnessLaws.{Near}
 
 pub and3 : (a b c : Bool) → a && b && c ≡ true → (a ≡ true) × (b ≡ true) × (c ≡ true)
@@ -75,9 +75,9 @@ pub record Within (n : ℕ) (a : ℕ) : Type 0 where
 account-in : (xs : List Account) (a : ℕ) → not (accountNo xs a .state is Unused) ≡ true → Within (length xs) a
 account-in xs zero e = absurd (false≢true e)
 account-in xs (suc a) e = elim (decLt a (length xs)) [
-    | yes h ↦ record { low = omega arith; high = omega arith }
-    | no h ↦ absurd (false≢true (rw (List·getD-eq-default xs unused {n = a} (omega arith)) at e))
-  ]
+  | yes h ↦ record { low = omega arith; high = omega arith }
+  | no h ↦ absurd (false≢true (rw (List·getD-eq-default xs unused {n = a} (omega arith)) at e))
+]
 
 -- ---- a row of a sound book
 

@@ -1,13 +1,13 @@
 -- The fees that are due by a number of open days, and those that one more open day adds.
-use mathlib.Core.Path.{_≡_, refl, sym, ap, ap₂, _∙_}
+use mathlib.Core.Path.{_≡_, refl, sym, ap₂, _∙_}
 use mathlib.Core.Bool.{Bool, true, false, cond, _&&_}
-use Prim.Native.Nat.{ℕ, zero, suc, _+_, _*_, _/_, _≤_, _<_, min}
+use Prim.Native.Nat.{ℕ, _+_, _*_, _/_, _≤_, _<_, min}
 use native.Mathlib.Nat.{le-div-iff-mul-le}
 use native.Mathlib.Omega.{arith}
 use native.Mathlib.Decide.{ℕ-discrete, decLt}
-use mathlib.Core.List.{List, [], _∷_, _++_, append-nil, append-assoc}
-use lib.Dec.{leb, ltb, eqb}
-use borrow.Author.Tests.{le-leb, lt-leb, leb-true, eq-eqb, ne-eqb}
+use mathlib.Core.List.{List, [], _++_, append-nil, append-assoc}
+use lib.Dec.{leb, ltb}
+use borrow.Author.Tests.{le-leb, lt-leb, eq-eqb, ne-eqb}
 use Rattle.lists.specs.Tests.{_is_}
 use Rattle.lists.specs.Lists.{one, gatherFrom}
 use Rattle.rules.specs.Schedule.{Schedule}

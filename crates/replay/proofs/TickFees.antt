@@ -2,9 +2,9 @@
 use mathlib.Core.Path.{_≡_, refl, sym, ap, ap₂, _∙_}
 use mathlib.Core.Logic.{_≢_}
 use mathlib.Core.Bool.{Bool, true, false, not, cond, _&&_}
-use Prim.Native.Nat.{ℕ, zero, suc, _+_, _*_, _-_, _≤_, _<_}
+use Prim.Native.Nat.{ℕ, zero, suc, _+_, _-_, _≤_}
 use native.Mathlib.Omega.{arith}
-use mathlib.Core.List.{List, [], _∷_, _++_, map, append-nil}
+use mathlib.Core.List.{List, [], _++_, map, append-nil}
 use lib.ListN.{length, getD}
 use lib.Dec.{eqb, ltb}
 use borrow.Author.Tests.{eq-eqb, ne-eqb}
@@ -13,16 +13,16 @@ use Rattle.lists.specs.Tests.{_is_}
 use Rattle.lists.specs.Lists.{one, gather}
 use Rattle.lists.proofs.TestLaws.{and-true, and-false, cond-both}
 use Rattle.lists.proofs.ListLaws.{map-at}
-use Rattle.lists.proofs.PairLaws.{Pairs, none, more, pairs-at, pairs-map-self, pairs-gather, pairs-append, pairs-one}
+use Rattle.lists.proofs.PairLaws.{Pairs, pairs-at, pairs-map-self, pairs-gather, pairs-append, pairs-one}
 use Rattle.lists.proofs.GatherLaws.{collect, collect-append, collect-pairs, collect-only}
 use Rattle.rules.specs.Limits.{holdDays}
 use Rattle.rules.specs.Schedule.{Schedule, stageFee}
 use Rattle.replay.specs.Entries.{Entry, Fee, noEntry, entryNo, newEntry, withToll, withHold, withTicks, withOpenDays, coverWhole, isMoney, feeOf, moneyIn, moneyOut, settleAllEntries}
-use Rattle.replay.specs.Replay.{Note, noNote, noteNo, Replay, gains, countTick, countDay, reaches, addFee, addFees, closing, addRefund, useMoney, closeAll, tickReplay}
+use Rattle.replay.specs.Replay.{noNote, noteNo, Replay, gains, countTick, countDay, reaches, addFee, addFees, closing, addRefund, useMoney, closeAll, tickReplay}
 use Rattle.replay.proofs.Growing.{number-at}
 use Rattle.replay.proofs.EntryLaws.{count-open}
-use Rattle.replay.proofs.StageFees.{feeIf, feesAt}
-use Rattle.replay.proofs.ReplaySteps.{feeShare, Steady, steady-then, Still, still-self, steady-still, New, steady-append, opened-append, settle-steady, share-same}
+use Rattle.replay.proofs.StageFees.{feesAt}
+use Rattle.replay.proofs.ReplaySteps.{feeShare, Steady, steady-then, Still, still-self, steady-still, steady-append, opened-append, settle-steady}
 
 -- ---- the fees that one toll adds
 

@@ -1,13 +1,13 @@
 -- Event 9 keeps the relation.
 use mathlib.Core.Path.{_≡_, refl, sym, ap, subst, _∙_}
-use mathlib.Core.Bool.{Bool, true, false, not, cond, _&&_, false≢true}
-use Prim.Native.Nat.{ℕ, zero, suc, _+_, _-_, _≤_, _<_}
+use mathlib.Core.Bool.{Bool, true, false, cond, _&&_}
+use Prim.Native.Nat.{ℕ, suc, _+_, _-_, _≤_, _<_}
 use native.Mathlib.Omega.{arith}
 use native.Mathlib.Decide.{decLt}
-use mathlib.Core.List.{List, [], _∷_, _++_, map}
+use mathlib.Core.List.{List, _++_, map}
 use lib.ListN.{length, getD, length-map}
-use lib.Dec.{eqb, leb, ltb}
-use borrow.Author.Tests.{eqb-true, le-ltb, lt-ltb}
+use lib.Dec.{ltb}
+use borrow.Author.Tests.{le-ltb, lt-ltb}
 use Rattle.records.specs.AccountOperations.{closed}
 use Rattle.lists.specs.Tests.{_is_}
 use Rattle.lists.specs.Lists.{one, gather}
@@ -23,14 +23,14 @@ use Rattle.rules.proofs.SoundnessLaws.{Sound}
 use Rattle.replay.specs.Entries.{Entry, noEntry, newEntry, withCovered, coverWhole, isMoney, moneyIn, moneyOut}
 use Rattle.replay.specs.Replay.{Note, noNote, Replay, noteNo, closing, addRefund, useMoney, closeAll, tickReplay}
 use Rattle.replay.specs.Demand3.{tollNamed}
-use Rattle.replay.proofs.Relation.{Face, Match, Named, Noted, Rows, Alike, track-other}
+use Rattle.replay.proofs.Relation.{Match, Named, Noted, Rows, Alike, track-other}
 use Rattle.replay.proofs.Growing.{Referring, Kept, SameToll, grow}
 use Rattle.replay.proofs.RowEvents.{whole-match}
 use Rattle.replay.proofs.Idle.{money-least}
 use Rattle.replay.proofs.Raising.{raise-keeps}
-use Rattle.replay.proofs.RaisedFees.{raised, fees, raise-at, evening-referring}
-use Rattle.replay.proofs.Evening.{night, evening-fits}
-use Rattle.replay.proofs.Closing.{now, L, evening, nightEntries, noteOf, closesNow, closingNow, rows, Judged, same, idle, judge}
+use Rattle.replay.proofs.RaisedFees.{raised, fees, raise-at, dusk-referring}
+use Rattle.replay.proofs.NightSums.{night, dusk-fits}
+use Rattle.replay.proofs.Closing.{nightEntries, closesNow, closingNow, rows, Judged, same, idle, judge}
 
 -- ---- a row and a refund, however the book judges (v) and the replay (w)
 
@@ -78,9 +78,12 @@ module _ (S : Row → Entry → Type 0) (f : ℕ → Row) (g : ℕ → Entry) wh
 -- ---- the tick
 
 module _ (b : Book) (p : Replay) (sound : Sound b) (a : Alike b p) where
-  closes-at : {c d : ℕ} → c ≡ d → closes (raiseTolls (beforeRaising b)) c (account (raiseTolls (beforeRaising b)) c) ≡ closesNow b p sound a d
+  abbrev book3 : Book
+  book3 = raiseTolls (beforeRaising b)
+
+  closes-at : {c d : ℕ} → c ≡ d → closes book3 c (account book3 c) ≡ closesNow b p sound a d
   unfolding raiseTolls beforeRaising settled endHolds nextDay
-  closes-at {c} {d} e = ap (λ (n : ℕ). closes (raiseTolls (beforeRaising b)) n (account b n)) e
+  closes-at {c} {d} e = ap (λ (n : ℕ). closes book3 n (account b n)) e
 
   abbrev today : ℕ
   today = b .day + 1
@@ -103,7 +106,7 @@ module _ (b : Book) (p : Replay) (sound : Sound b) (a : Alike b p) where
   unfolding raiseTolls beforeRaising settled endHolds nextDay
   night-is = refl
 
-  night-day : raiseTolls (beforeRaising b) .day ≡ today
+  night-day : book3 .day ≡ today
   unfolding raiseTolls beforeRaising settled endHolds nextDay
   night-day = refl
 
@@ -123,19 +126,19 @@ module _ (b : Book) (p : Replay) (sound : Sound b) (a : Alike b p) where
   night-fits : (k : ℕ) → k < length rows3 → getD rows3 k blank .settled ≤ getD rows3 k blank .amount
   night-fits = rw night-is (append-at (λ k r. r .settled ≤ r .amount) (raised b p sound a) (fees b p sound a) blank
       (λ k h. rw (raise-at b p sound a k, raise-keeps (λ q. q .settled) (λ q v w. refl) (b .schedule) today (getD old k blank), raise-keeps (λ q. q .amount) (λ q v w. refl) (b .schedule) today (getD old k blank))
-      (evening-fits b p sound a k (rw length-raised at h)))
+      (dusk-fits b p sound a k (rw length-raised at h)))
       (λ k h. let f = pairs-in blank blank fresh-fees k h in omega (arith, f .settled)))
 
   night-referring : Referring rows3
   night-referring = rw night-is (append-at (λ k r. r .kind is Fee ≡ true → r .reference ≤ k) (raised b p sound a) (fees b p sound a) blank
       (λ k h. rw (raise-at b p sound a k, raise-keeps (λ q. q .kind) (λ q v w. refl) (b .schedule) today (getD old k blank), raise-keeps (λ q. q .reference) (λ q v w. refl) (b .schedule) today (getD old k blank))
-      (evening-referring b p sound a k (rw length-raised at h)))
+      (dusk-referring b p sound a k (rw length-raised at h)))
       (λ k h e. let f = pairs-in blank blank fresh-fees k h in omega (arith, f .reference, length-raised)))
 
   -- ---- money used up
 
   use-match : (k : ℕ) → k < length rows3 → Match 0 today stage (getD rows3 k blank) (getD entries3 k noEntry)
-      → Match 0 today stage (useUp (raiseTolls (beforeRaising b)) (getD rows3 k blank)) (useMoney today (p .notes) entries3 (getD entries3 k noEntry))
+      → Match 0 today stage (useUp book3 (getD rows3 k blank)) (useMoney today (p .notes) entries3 (getD entries3 k noEntry))
   unfolding useUp useMoney
   use-match k h m = by (judge b p sound a y-account)
     where
@@ -149,7 +152,7 @@ module _ (b : Book) (p : Replay) (sound : Sound b) (a : Alike b p) where
       y-account = y .account
 
       v : Bool
-      v = closes (raiseTolls (beforeRaising b)) (r .account) (account (raiseTolls (beforeRaising b)) (r .account))
+      v = closes book3 (r .account) (account book3 (r .account))
 
       at-entry : v ≡ closesNow b p sound a y-account
       at-entry = closes-at (m .face .account)
@@ -163,7 +166,7 @@ module _ (b : Book) (p : Replay) (sound : Sound b) (a : Alike b p) where
   -- ---- refunds
 
   refund-pairs : (rows : List Row) (k n : ℕ) → n ≡ 1 + k → k < length (b .accounts)
-      → Pairs (Named (Match 0 today stage) rows) (refundRow (raiseTolls (beforeRaising b)) n (getD (b .accounts) k unused)) (addRefund today entries3 n (getD (p .notes) k noNote))
+      → Pairs (Named (Match 0 today stage) rows) (refundRow book3 n (getD (b .accounts) k unused)) (addRefund today entries3 n (getD (p .notes) k noNote))
   unfolding refundRow addRefund tollNamed
   refund-pairs rows k n e h = let z : n ≡ suc k = omega arith in rw z (by (judge b p sound a (suc k)))
     where
@@ -174,7 +177,7 @@ module _ (b : Book) (p : Replay) (sound : Sound b) (a : Alike b p) where
       S r y = Named (Match 0 today stage) rows r y
 
       f : ℕ → Row
-      f m = settleWhole (newRow Refund c (raiseTolls (beforeRaising b) .day) m)
+      f m = settleWhole (newRow Refund c (book3 .day) m)
 
       g : ℕ → Entry
       g m = coverWhole (newEntry Refund c today m)
@@ -193,25 +196,25 @@ module _ (b : Book) (p : Replay) (sound : Sound b) (a : Alike b p) where
 
   -- ---- the whole
 
-  use-kept : (r : Row) → Kept r (useUp (raiseTolls (beforeRaising b)) r)
+  use-kept : (r : Row) → Kept r (useUp book3 r)
   unfolding useUp
-  use-kept r = cond-both (λ (s : Row). Kept r s) (source r && closes (raiseTolls (beforeRaising b)) (r .account) (account (raiseTolls (beforeRaising b)) (r .account))) (settleWhole r) r (record { kind = refl; reference = refl }) (record { kind = refl; reference = refl })
+  use-kept r = cond-both (λ (s : Row). Kept r s) (source r && closes book3 (r .account) (account book3 (r .account))) (settleWhole r) r (record { kind = refl; reference = refl }) (record { kind = refl; reference = refl })
 
   use-toll : (y : Entry) → SameToll y (useMoney today (p .notes) entries3 y)
   unfolding useMoney
   use-toll y = cond-both (λ (z : Entry). SameToll y z) (isMoney y && closing today entries3 (y .account) (noteNo (p .notes) (y .account))) (coverWhole y) y refl refl
 
-  close-noted : (n : ℕ) (x : Account) (y : Note) → Noted x y → Noted (closeIf (raiseTolls (beforeRaising b)) n x) y
+  close-noted : (n : ℕ) (x : Account) (y : Note) → Noted x y → Noted (closeIf book3 n x) y
   unfolding closeIf
-  close-noted n x y q = cond-both (λ (z : Account). Noted z y) (closes (raiseTolls (beforeRaising b)) n x) (closed x) x (record { request = q .request; topup = q .topup }) q
+  close-noted n x y q = cond-both (λ (z : Account). Noted z y) (closes book3 n x) (closed x) x (record { request = q .request; topup = q .topup }) q
 
-  close-rows : Rows (Match 0 today stage) (map (useUp (raiseTolls (beforeRaising b))) rows3 ++ gather (refundRow (raiseTolls (beforeRaising b))) (b .accounts))
+  close-rows : Rows (Match 0 today stage) (map (useUp book3) rows3 ++ gather (refundRow book3) (b .accounts))
       (map (useMoney today (p .notes) entries3) entries3 ++ gather (addRefund today entries3) (p .notes))
   close-rows =
       grow rows3 entries3 night-referring (rows b p sound a) _ _
-      (pairs-map-self (useUp (raiseTolls (beforeRaising b))) use-kept rows3) (pairs-map-self (useMoney today (p .notes) entries3) use-toll entries3)
-      (pairs-map-in (useUp (raiseTolls (beforeRaising b))) (useMoney today (p .notes) entries3) blank noEntry (rows b p sound a) (λ k h m. use-match k h (m .is)))
-      _ _ (pairs-gather (refundRow (raiseTolls (beforeRaising b))) (addRefund today entries3) unused noNote 1 (b .accounts) (p .notes) (pairs-length (a .notes)) (refund-pairs _))
+      (pairs-map-self (useUp book3) use-kept rows3) (pairs-map-self (useMoney today (p .notes) entries3) use-toll entries3)
+      (pairs-map-in (useUp book3) (useMoney today (p .notes) entries3) blank noEntry (rows b p sound a) (λ k h m. use-match k h (m .is)))
+      _ _ (pairs-gather (refundRow book3) (addRefund today entries3) unused noNote 1 (b .accounts) (p .notes) (pairs-length (a .notes)) (refund-pairs _))
 
   pub tick-alike : (e : Instruction) → Alike (tick b e) (tickReplay p e)
   unfolding tick closeAccounts raiseTolls beforeRaising settled endHolds nextDay tickReplay closeAll
@@ -219,5 +222,5 @@ module _ (b : Book) (p : Replay) (sound : Sound b) (a : Alike b p) where
     day = ap (λ (n : ℕ). n + 1) (a .day);
     schedule = a .schedule;
     rows = rw (← (a .day)) (rw (← (a .day)) at close-rows);
-    notes = pairs-change-left (closeIf (raiseTolls (beforeRaising b))) close-noted 1 (a .notes);
+    notes = pairs-change-left (closeIf book3) close-noted 1 (a .notes);
   }

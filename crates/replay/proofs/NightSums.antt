@@ -1,20 +1,20 @@
 -- An account's sums once a tick has settled and raised: used = settled, no unused money beside an unheld debt, nothing at all in a closed
 -- account. So "no unsettled debit, held ones counted" is "no toll held, and the debits are at most the sources".
-use mathlib.Core.Path.{_≡_, refl, sym, ap, ap₂, _∙_}
-use mathlib.Core.Bool.{Bool, true, false, not, cond, _&&_, _||_, true≢false, false≢true}
-use Prim.Native.Nat.{ℕ, zero, suc, _+_, _*_, _-_, _≤_, _<_, min}
+use mathlib.Core.Path.{_≡_, refl, sym, ap, _∙_}
+use mathlib.Core.Bool.{Bool, true, false, not, cond, _&&_, false≢true}
+use Prim.Native.Nat.{ℕ, zero, suc, _+_, _-_, _≤_, _<_}
 use native.Mathlib.Omega.{arith}
 use native.Mathlib.Decide.{decLt}
-use mathlib.Core.List.{List, [], _∷_, _++_, map}
-use lib.ListN.{length, getD, length-map}
-use lib.Dec.{eqb, leb, ltb}
-use borrow.Author.Tests.{eqb-true, eq-eqb, ne-eqb, ltb-true, lt-ltb, le-ltb, not-true}
+use mathlib.Core.List.{List, map}
+use lib.ListN.{length, getD}
+use lib.Dec.{ltb}
+use borrow.Author.Tests.{eqb-true, eq-eqb, ltb-true}
 use Rattle.lists.specs.Tests.{_is_}
-use Rattle.lists.specs.Lists.{sumBy, only, count, one, gather}
+use Rattle.lists.specs.Lists.{sumBy, only, one, gather}
 use Rattle.lists.proofs.TestLaws.{and-left, and-right, and-true, and-false}
 use Rattle.lists.proofs.SumLaws.{sumBy-append, sumBy-map, sumBy-ext, sumBy-ext-at, sumBy-add, sumBy-le, sumBy-at-le, sumBy-some, sumBy-gather, sumBy-gather-none}
 use Rattle.rules.specs.Schedule.{stageFee}
-use Rattle.rules.specs.Rows.{Row, Test, Toll, Fee, Held, blank, newRow, withReference, withDue, withMark, rowNo, debit, source, toll, heldToll, held, unsettled, sourceOf, debitOf, payable, remaining}
+use Rattle.rules.specs.Rows.{Row, Test, Toll, Fee, Held, blank, newRow, withReference, withDue, withMark, rowNo, debit, toll, heldToll, held, unsettled, sourceOf, debitOf, payable, remaining}
 use Rattle.rules.specs.Settlement.{money, debt, moved, used, paid, owed, settleAccounts}
 use Rattle.rules.specs.Book.{Closed, Book, settled, account, sources, debits}
 use Rattle.rules.specs.Events.{release}
@@ -23,11 +23,11 @@ use Rattle.rules.specs.Soundness.{even, closedClear}
 use Rattle.rules.proofs.SoundnessLaws.{Sound}
 use Rattle.replay.specs.Replay.{Replay}
 use Rattle.replay.proofs.Relation.{Alike}
-use Rattle.replay.proofs.SoundRows.{Within, Refers, sound-row}
+use Rattle.replay.proofs.SoundRows.{Refers, sound-row}
 use Rattle.replay.proofs.Idle.{debt-least}
 use Rattle.replay.proofs.SettledAccounts.{all-row, all-held, all-even, all-spent, all-own, own-source, own-debit}
 use Rattle.replay.proofs.Dawn.{dawn, dawn-keeps}
-use Rattle.replay.proofs.Raising.{raise-keeps, rising, free-toll, dusk-is, dusk-length, dawn-at, kept}
+use Rattle.replay.proofs.Raising.{raise-keeps, rising, free-toll, dusk-is, dusk-length, dawn-at, kept, kind-same, account-same, reference-same}
 
 -- ---- a fee row's share of a sum
 
@@ -126,27 +126,27 @@ module _ (b : Book) (p : Replay) (sound : Sound b) (a : Alike b p) where
   abbrev now : ℕ
   now = b .day + 1
 
-  abbrev evening : List Row
-  evening = beforeRaising b .rows
+  abbrev dusk : List Row
+  dusk = beforeRaising b .rows
 
   abbrev dawned : List Row
   dawned = map (dawn now) (b .rows)
 
   abbrev fees : List Row
-  fees = gather (feeRow (b .schedule) now) evening
+  fees = gather (feeRow (b .schedule) now) dusk
 
   abbrev pub night : List Row
   night = raiseTolls (beforeRaising b) .rows
 
-  evening-is : evening ≡ settleAccounts (length (b .accounts)) dawned
-  evening-is = dusk-is b p sound a
+  dusk-settled : dusk ≡ settleAccounts (length (b .accounts)) dawned
+  dusk-settled = dusk-is b p sound a
 
   -- a sum that looks at neither stage, due day nor hold
-  night-sum : (f : Row → ℕ) → ((r : Row) (v w : ℕ) → f (withDue v (withMark w r)) ≡ f r) → sumBy f night ≡ sumBy f evening + sumBy f fees
+  night-sum : (f : Row → ℕ) → ((r : Row) (v w : ℕ) → f (withDue v (withMark w r)) ≡ f r) → sumBy f night ≡ sumBy f dusk + sumBy f fees
   unfolding raiseTolls beforeRaising settled endHolds nextDay
   night-sum f e =
-      sumBy-append f (map (raise (b .schedule) now) evening) fees
-      ∙ ap (λ (n : ℕ). n + sumBy f fees) (sumBy-map f (raise (b .schedule) now) evening ∙ sumBy-ext _ _ evening (raise-keeps f e (b .schedule) now))
+      sumBy-append f (map (raise (b .schedule) now) dusk) fees
+      ∙ ap (λ (n : ℕ). n + sumBy f fees) (sumBy-map f (raise (b .schedule) now) dusk ∙ sumBy-ext _ _ dusk (raise-keeps f e (b .schedule) now))
 
   dawned-sum : (f : Row → ℕ) → ((r : Row) (today : ℕ) → f (release today r) ≡ f r) → sumBy f dawned ≡ sumBy f (b .rows)
   dawned-sum f e = sumBy-map f (dawn now) (b .rows) ∙ sumBy-ext _ _ (b .rows) (dawn-keeps f e now)
@@ -155,42 +155,38 @@ module _ (b : Book) (p : Replay) (sound : Sound b) (a : Alike b p) where
   abbrev feeOn : ℕ → Row → Row
   feeOn n r = withReference n (newRow Fee (r .account) now (stageFee (b .schedule) (r .mark + 1)))
 
-  fees-none : (f : Row → ℕ) → ((k n : ℕ) → k < length evening → rises now (getD evening k blank) ≡ true → f (feeOn n (getD evening k blank)) ≡ 0) → sumBy f fees ≡ 0
+  fees-none : (f : Row → ℕ) → ((k n : ℕ) → k < length dusk → rises now (getD dusk k blank) ≡ true → f (feeOn n (getD dusk k blank)) ≡ 0) → sumBy f fees ≡ 0
   unfolding feeRow
-  fees-none f e = sumBy-gather-none (feeRow (b .schedule) now) f blank 1 evening (λ k n q l.
-      let s : Row = getD evening k blank in
+  fees-none f e = sumBy-gather-none (feeRow (b .schedule) now) f blank 1 dusk (λ k n q l.
+      let s : Row = getD dusk k blank in
       one-none f (rises now s && ltb 0 (stageFee (b .schedule) (s .mark + 1))) (feeOn n s) (λ v. e k n l (and-left (rises now s) (ltb 0 (stageFee (b .schedule) (s .mark + 1))) v)))
 
   fees-same : (f g : Row → ℕ) → ((n : ℕ) (r : Row) → f (feeOn n r) ≡ g (feeOn n r)) → sumBy f fees ≡ sumBy g fees
   unfolding feeRow
-  fees-same f g e = sumBy-gather (feeRow (b .schedule) now) f g blank 1 evening (λ k n q l.
-      let s : Row = getD evening k blank in
+  fees-same f g e = sumBy-gather (feeRow (b .schedule) now) f g blank 1 dusk (λ k n q l.
+      let s : Row = getD dusk k blank in
       one-same f g (rises now s && ltb 0 (stageFee (b .schedule) (s .mark + 1))) (feeOn n s) (e n s))
 
-  -- ---- the rows of the evening
+  -- ---- the rows of the dusk
 
-  pub evening-fits : (k : ℕ) → k < length evening → getD evening k blank .settled ≤ getD evening k blank .amount
-  evening-fits k h =
+  pub dusk-fits : (k : ℕ) → k < length dusk → getD dusk k blank .settled ≤ getD dusk k blank .amount
+  dusk-fits k h =
       let l : k < length (b .rows) = rw (dusk-length b p sound a) at h in
       let r : Row = getD (b .rows) k blank in
       let u : dawn now r .settled ≡ r .settled = dawn-keeps (λ q. q .settled) (λ q t. unfold release in refl) now r in
       let v : dawn now r .amount ≡ r .amount = dawn-keeps (λ q. q .amount) (λ q t. unfold release in refl) now r in
-      rw evening-is (all-row (length (b .accounts)) dawned k .fits (rw (dawn-at b p sound a k) (omega (arith, sound-row b (sound .near) k l .fits))))
+      rw dusk-settled (all-row (length (b .accounts)) dawned k .fits (rw (dawn-at b p sound a k) (omega (arith, sound-row b (sound .near) k l .fits))))
 
-  -- a toll held in the evening was held before, and is unsettled
-  evening-held : (k : ℕ) → k < length evening → heldToll (getD evening k blank) ≡ true → unsettled (getD evening k blank) ≡ true
-  evening-held k h e =
+  -- a toll held in the dusk was held before, and is unsettled
+  dusk-held : (k : ℕ) → k < length dusk → heldToll (getD dusk k blank) ≡ true → unsettled (getD dusk k blank) ≡ true
+  dusk-held k h e =
       let l : k < length (b .rows) = rw (dusk-length b p sound a) at h in
       let r : Row = getD (b .rows) k blank in
       let d : heldToll (dawn now r) ≡ true = sym (ap (λ (q : Row). heldToll q) (kept b p sound a k l)) ∙ e in
       let s : dawn now r ≡ r = dawn-held now r d in
       let q : getD dawned k blank ≡ r = dawn-at b p sound a k ∙ s in
-      let t : getD evening k blank ≡ r = rw evening-is (all-held (length (b .accounts)) dawned k (rw q (rw s at d)) ∙ q) in
+      let t : getD dusk k blank ≡ r = rw dusk-settled (all-held (length (b .accounts)) dawned k (rw q (rw s at d)) ∙ q) in
       rw t (sound-row b (sound .near) k l .holding (rw s at d) .open-still)
-
-  evening-account : (k : ℕ) → k < length evening → getD evening k blank .account ≡ getD (b .rows) k blank .account
-  evening-account k h =
-      ap (λ (q : Row). q .account) (kept b p sound a k (rw (dusk-length b p sound a) at h)) ∙ dawn-keeps (λ q. q .account) (λ q t. unfold release in refl) now _
 
   -- ---- one account's sums
 
@@ -198,23 +194,23 @@ module _ (b : Book) (p : Replay) (sound : Sound b) (a : Alike b p) where
     abbrev c : ℕ
     c = suc j
 
-    money-night : money c night ≡ money c evening
+    money-night : money c night ≡ money c dusk
     unfolding money only sourceOf
-    money-night = night-sum (only (sourceOf c) remaining) (λ r v w. refl) ∙ omega (arith, fees-none (only (sourceOf c) remaining) (λ k n l e. and-none (getD evening k blank .account is c) _))
+    money-night = night-sum (only (sourceOf c) remaining) (λ r v w. refl) ∙ omega (arith, fees-none (only (sourceOf c) remaining) (λ k n l e. and-none (getD dusk k blank .account is c) _))
 
-    used-night : used c night ≡ used c evening
+    used-night : used c night ≡ used c dusk
     unfolding used only sourceOf
     used-night =
         night-sum (only (sourceOf c) (λ r. r .settled)) (λ r v w. refl)
-        ∙ omega (arith, fees-none (only (sourceOf c) (λ r. r .settled)) (λ k n l e. and-none (getD evening k blank .account is c) _))
+        ∙ omega (arith, fees-none (only (sourceOf c) (λ r. r .settled)) (λ k n l e. and-none (getD dusk k blank .account is c) _))
 
-    paid-night : paid c night ≡ paid c evening
+    paid-night : paid c night ≡ paid c dusk
     unfolding paid only debitOf
     paid-night =
         night-sum (only (debitOf c) (λ r. r .settled)) (λ r v w. refl)
-        ∙ omega (arith, fees-none (only (debitOf c) (λ r. r .settled)) (λ k n l e. zero-either (getD evening k blank .account is c && true)))
+        ∙ omega (arith, fees-none (only (debitOf c) (λ r. r .settled)) (λ k n l e. zero-either (getD dusk k blank .account is c && true)))
 
-    owed-night : owed c night ≡ owed c evening + sumBy (only (debitOf c) remaining) fees
+    owed-night : owed c night ≡ owed c dusk + sumBy (only (debitOf c) remaining) fees
     unfolding owed only debitOf
     owed-night = night-sum (only (debitOf c) remaining) (λ r v w. refl)
 
@@ -224,16 +220,16 @@ module _ (b : Book) (p : Replay) (sound : Sound b) (a : Alike b p) where
         let e : used c (b .rows) ≡ paid c (b .rows) = unfold even in (eqb-true _ _ (sound .near .counted j h .even)) in
         let u : used c dawned ≡ used c (b .rows) = unfold used only sourceOf in (dawned-sum (only (sourceOf c) (λ r. r .settled)) (λ r t. unfold release in refl)) in
         let v : paid c dawned ≡ paid c (b .rows) = unfold paid only debitOf in (dawned-sum (only (debitOf c) (λ r. r .settled)) (λ r t. unfold release in refl)) in
-        used-night ∙ rw evening-is (all-even (length (b .accounts)) dawned c (u ∙ e ∙ sym v)) ∙ sym paid-night
+        used-night ∙ rw dusk-settled (all-even (length (b .accounts)) dawned c (u ∙ e ∙ sym v)) ∙ sym paid-night
 
     -- the amounts of sources and debits
     pub night-sources : sources night c ≡ used c night + money c night
     unfolding sources used money
     night-sources =
         let f : Row → ℕ = only (sourceOf c) (λ r. r .amount) in
-        let z : sumBy f fees ≡ 0 = fees-none f (λ k n l e. unfold only sourceOf in (and-none (getD evening k blank .account is c) _)) in
-        let n : sumBy f night ≡ sumBy f evening + sumBy f fees = night-sum f (λ r v w. unfold only sourceOf in refl) in
-        let q = sum-split (sourceOf c) evening evening-fits in
+        let z : sumBy f fees ≡ 0 = fees-none f (λ k n l e. unfold only sourceOf in (and-none (getD dusk k blank .account is c) _)) in
+        let n : sumBy f night ≡ sumBy f dusk + sumBy f fees = night-sum f (λ r v w. unfold only sourceOf in refl) in
+        let q = sum-split (sourceOf c) dusk dusk-fits in
         omega (arith, money-night, used-night)
 
     pub night-debits : debits night c ≡ paid c night + owed c night
@@ -241,70 +237,68 @@ module _ (b : Book) (p : Replay) (sound : Sound b) (a : Alike b p) where
     night-debits =
         let f : Row → ℕ = only (debitOf c) (λ r. r .amount) in
         let z : sumBy f fees ≡ sumBy (only (debitOf c) remaining) fees = fees-same f (only (debitOf c) remaining) (λ n r. unfold only debitOf in (whole (r .account is c && true) _)) in
-        let n : sumBy f night ≡ sumBy f evening + sumBy f fees = night-sum f (λ r v w. unfold only debitOf in refl) in
-        let q = sum-split (debitOf c) evening evening-fits in
+        let n : sumBy f night ≡ sumBy f dusk + sumBy f fees = night-sum f (λ r v w. unfold only debitOf in refl) in
+        let q = sum-split (debitOf c) dusk dusk-fits in
         omega (arith, owed-night, paid-night)
 
     -- an account without an unsettled unheld debit gets no fee
-    fees-owed : debt c evening ≡ 0 → sumBy (only (debitOf c) remaining) fees ≡ 0
+    fees-owed : debt c dusk ≡ 0 → sumBy (only (debitOf c) remaining) fees ≡ 0
     unfolding only debitOf
     fees-owed z = fees-none (only (debitOf c) remaining) (λ k n l e.
-        let s : Row = getD evening k blank in
+        let s : Row = getD dusk k blank in
         let q = rising now s e in
         go (s .account is c) refl _ (λ v.
         let t : s .kind ≡ Toll = eqb-true _ _ (q .toll) in
         let u : s .settled < s .amount = ltb-true _ _ (q .open-still) in
-        omega (arith, debt-least evening c k l (eqb-true _ _ v) (rw t) (free-toll evening s t (q .free)))))
+        omega (arith, debt-least dusk c k l (eqb-true _ _ v) (rw t) (free-toll dusk s t (q .free)))))
       where
         go : (v : Bool) {u : Bool} → u ≡ v → (n : ℕ) → (u ≡ true → ⊥) → cond (v && true) n 0 ≡ 0
         go true e n f = absurd (f e)
         go false e n f = refl
 
     -- no unused money beside it
-    night-spent : 0 < money c night → debt c evening ≡ 0
+    night-spent : 0 < money c night → debt c dusk ≡ 0
     unfolding moved
     night-spent m =
-        let e : moved c evening ≡ 0 = rw evening-is (all-spent (length (b .accounts)) dawned c (omega arith) (omega arith)) in
+        let e : moved c dusk ≡ 0 = rw dusk-settled (all-spent (length (b .accounts)) dawned c (omega arith) (omega arith)) in
         omega (arith, money-night)
 
     -- ---- the account's held tolls
 
-    held-night : sumBy (heldOf c) night ≡ sumBy (heldOf c) evening
-    held-night = night-sum (heldOf c) (λ r v w. refl) ∙ omega (arith, fees-none (heldOf c) (λ k n l e. and-none (getD evening k blank .account is c) 1))
+    held-night : sumBy (heldOf c) night ≡ sumBy (heldOf c) dusk
+    held-night = night-sum (heldOf c) (λ r v w. refl) ∙ omega (arith, fees-none (heldOf c) (λ k n l e. and-none (getD dusk k blank .account is c) 1))
 
     -- a held toll is an unsettled debit
     pub held-owes : 0 < sumBy (heldOf c) night → 0 < owed c night
     unfolding owed
     held-owes m =
-        let q : 0 < sumBy (heldOf c) evening = rw held-night at m in
-        let o : 0 < sumBy (only (debitOf c) remaining) evening =
-        sumBy-some (heldOf c) (only (debitOf c) remaining) blank evening
-        (λ k l v. let e = held-of c (getD evening k blank) v in owes c (getD evening k blank) (e .0) (e .1) (evening-held k l (e .1))) q in
+        let q : 0 < sumBy (heldOf c) dusk = rw held-night at m in
+        let o : 0 < sumBy (only (debitOf c) remaining) dusk =
+        sumBy-some (heldOf c) (only (debitOf c) remaining) blank dusk
+        (λ k l v. let e = held-of c (getD dusk k blank) v in owes c (getD dusk k blank) (e .0) (e .1) (dusk-held k l (e .1))) q in
         omega (arith, owed-night)
 
     -- without one, all that is owed is payable
-    module _ (z : sumBy (heldOf c) evening ≡ 0) where
-      free : (k : ℕ) → k < length evening → getD evening k blank .account is c ≡ true → heldToll (getD evening k blank) ≡ false
-      free k l e = not-held c (getD evening k blank) (omega (arith, sumBy-at-le (heldOf c) evening k blank l)) e
+    module _ (z : sumBy (heldOf c) dusk ≡ 0) where
+      free : (k : ℕ) → k < length dusk → getD dusk k blank .account is c ≡ true → heldToll (getD dusk k blank) ≡ false
+      free k l e = not-held c (getD dusk k blank) (omega (arith, sumBy-at-le (heldOf c) dusk k blank l)) e
 
-      named-free : (k : ℕ) → k < length evening → getD evening k blank .account is c ≡ true → getD evening k blank .kind is Fee ≡ true
-          → heldToll (rowNo evening (getD evening k blank .reference)) ≡ false
+      named-free : (k : ℕ) → k < length dusk → getD dusk k blank .account is c ≡ true → getD dusk k blank .kind is Fee ≡ true
+          → heldToll (rowNo dusk (getD dusk k blank .reference)) ≡ false
       named-free k l e f =
           let i : k < length (b .rows) = rw (dusk-length b p sound a) at l in
           let r : Row = getD (b .rows) k blank in
-          let u : getD evening k blank .kind ≡ r .kind = ap (λ (q : Row). q .kind) (kept b p sound a k i) ∙ dawn-keeps (λ q. q .kind) (λ q t. unfold release in refl) now r in
-          let v : getD evening k blank .reference ≡ r .reference = ap (λ (q : Row). q .reference) (kept b p sound a k i) ∙ dawn-keeps (λ q. q .reference) (λ q t. unfold release in refl) now r in
-          let g : Refers (b .rows) (suc k) r = sound-row b (sound .near) k i .refers (rw u at f) in
-          rw v (at-no (r .reference) (omega (arith, g .earlier)) (g .same ∙ sym (evening-account k l) ∙ eqb-true _ _ e))
+          let g : Refers (b .rows) (suc k) r = sound-row b (sound .near) k i .refers (rw (kind-same b p sound a k i) at f) in
+          rw (reference-same b p sound a k i) (at-no (r .reference) (omega (arith, g .earlier)) (g .same ∙ sym (account-same b p sound a k i) ∙ eqb-true _ _ e))
         where
-          at-no : (n : ℕ) → n ≤ length evening → rowNo (b .rows) n .account ≡ c → heldToll (rowNo evening n) ≡ false
+          at-no : (n : ℕ) → n ≤ length dusk → rowNo (b .rows) n .account ≡ c → heldToll (rowNo dusk n) ≡ false
           at-no zero m q = refl
-          at-no (suc n) m q = free n (omega arith) (eq-eqb _ _ (evening-account n (omega arith) ∙ q))
+          at-no (suc n) m q = free n (omega arith) (eq-eqb _ _ (account-same b p sound a n (omega (arith, dusk-length b p sound a)) ∙ q))
 
-      owed-debt : owed c evening ≡ debt c evening
+      owed-debt : owed c dusk ≡ debt c dusk
       unfolding owed debt held
-      owed-debt = sumBy-ext-at (only (debitOf c) remaining) (only (payable evening c) remaining) blank evening
-          (λ k l. payable-all evening c (getD evening k blank) (λ e. rw (free k l e) (go (getD evening k blank .kind is Fee) refl (named-free k l e))))
+      owed-debt = sumBy-ext-at (only (debitOf c) remaining) (only (payable dusk c) remaining) blank dusk
+          (λ k l. payable-all dusk c (getD dusk k blank) (λ e. rw (free k l e) (go (getD dusk k blank .kind is Fee) refl (named-free k l e))))
         where
           go : (v : Bool) {f w : Bool} → f ≡ v → (f ≡ true → w ≡ false) → v && w ≡ false
           go true e q = q e
@@ -327,7 +321,7 @@ module _ (b : Book) (p : Replay) (sound : Sound b) (a : Alike b p) where
         let o0 : owed c (b .rows) ≡ 0 = eqb-true _ _ (and-right (money c (b .rows) is 0) (owed c (b .rows) is 0) m) in
         let md : money c dawned ≡ 0 = dawned-sum (only (sourceOf c) remaining) (λ r t. unfold release only sourceOf in refl) ∙ m0 in
         let od : owed c dawned ≡ 0 = dawned-sum (only (debitOf c) remaining) (λ r t. unfold release only debitOf in refl) ∙ o0 in
-        let me : money c evening ≡ 0 = rw evening-is (all-own (length (b .accounts)) dawned c md _ (own-source c remaining) ∙ md) in
-        let oe : owed c evening ≡ 0 = rw evening-is (all-own (length (b .accounts)) dawned c md _ (own-debit c remaining) ∙ od) in
-        let de : debt c evening ≤ owed c evening = sumBy-le (only (payable evening c) remaining) (only (debitOf c) remaining) evening (payable-some evening c) in
+        let me : money c dusk ≡ 0 = rw dusk-settled (all-own (length (b .accounts)) dawned c md _ (own-source c remaining) ∙ md) in
+        let oe : owed c dusk ≡ 0 = rw dusk-settled (all-own (length (b .accounts)) dawned c md _ (own-debit c remaining) ∙ od) in
+        let de : debt c dusk ≤ owed c dusk = sumBy-le (only (payable dusk c) remaining) (only (debitOf c) remaining) dusk (payable-some dusk c) in
         (money-night ∙ me, omega (arith, owed-night, fees-owed (omega arith)))
