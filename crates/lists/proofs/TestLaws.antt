@@ -20,6 +20,10 @@ and-right false b e = absurd (false≢true e)
 pub and-both : (a b : Bool) → a ≡ true → b ≡ true → a && b ≡ true
 and-both a b p q = rw p q
 
+-- each of three
+pub and3 : (a b c : Bool) → a && b && c ≡ true → (a ≡ true) × (b ≡ true) × (c ≡ true)
+and3 a b c e = let d = and-left (a && b) c e in (and-left a b d, and-right a b d, and-right (a && b) c e)
+
 pub and-true : (v : Bool) → v && true ≡ v
 and-true true = refl
 and-true false = refl

@@ -1,4 +1,5 @@
--- Demand 3: the claim, from the relation at the end of any list of calls.
+-- Demand 3: the claim, from the relation at the end of any list of calls. Its one premise, that an event keeps a sound book sound, is the
+-- parameter of the last section.
 use mathlib.Core.Path.{_≡_, refl, sym, ap, _∙_}
 use mathlib.Core.Bool.{Bool, true, false, _&&_}
 use Prim.Native.Nat.{ℕ, zero, suc, _+_, _*_, _/_, _-_, _≤_, _<_, min}
@@ -158,7 +159,7 @@ module _ (t : Tables) (w : List ℤ) (z : openCall t w .number ≡ 0) where
     fees = start-fees;
   }
 
--- ---- the claim
+-- ---- the claim, given that an event keeps a sound book sound
 
 module _ (keeps : (b : Book) (e : Instruction) → sound b ≡ true → sound (post b e .book) ≡ true) where
   pub claim3 : Claim3

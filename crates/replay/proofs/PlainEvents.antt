@@ -8,6 +8,7 @@ use mathlib.Core.List.{[], _∷_, _++_}
 use lib.ListN.{length, getD, List·getD-eq-default}
 use borrow.Author.Tests.{eqb-true}
 use Rattle.records.specs.Codes.{Yes}
+use Rattle.records.specs.Updates.{withTopUp, withDeclines}
 use Rattle.records.specs.AccountOperations.{opened, declinedOn, topUpPaid, closeRequestedOn, lastDecline}
 use Rattle.lists.specs.Tests.{_is_}
 use Rattle.lists.proofs.TestLaws.{and-left}
@@ -128,8 +129,7 @@ topUpResult-alike b p e near a n t = go (e .b is Yes)
     q : Noted x (noteNo (p .notes) (e .account))
     q = noted-no b p a (e .account)
 
-    declined : (v : Bool) → Noted (cond v (record { state = x .state; request = x .request; returned = x .returned; threshold = 0; topup = 0; declines = 0; declined = 0 })
-        (record { state = x .state; request = x .request; returned = x .returned; threshold = x .threshold; topup = x .topup; declines = x .declines + 1; declined = b .day })) (noteNo (p .notes) (e .account))
+    declined : (v : Bool) → Noted (cond v (withDeclines 0 0 (withTopUp 0 0 x)) (withDeclines (x .declines + 1) (b .day) x)) (noteNo (p .notes) (e .account))
     declined true = record { request = q .request; topup = λ h. absurd (omega arith) }
     declined false = record { request = q .request; topup = q .topup }
 

@@ -11,7 +11,7 @@ use lib.Dec.{eqb, ltb}
 use borrow.Author.Tests.{eqb-true, eq-eqb, ne-eqb}
 use Rattle.lists.specs.Tests.{_is_}
 use Rattle.lists.specs.Lists.{one, gather}
-use Rattle.lists.proofs.TestLaws.{and-left, and-right}
+use Rattle.lists.proofs.TestLaws.{and-left, and-right, and3}
 use Rattle.lists.proofs.ListLaws.{map-at}
 use Rattle.lists.proofs.PairLaws.{Pairs, none, more, pairs-length, pairs-each, pairs-gather, pairs-self, pairs-map-self}
 use Rattle.rules.specs.Schedule.{Schedule, stageFee}
@@ -23,7 +23,7 @@ use Rattle.replay.specs.Entries.{Entry, noEntry, newEntry, withToll}
 use Rattle.replay.specs.Replay.{Replay, gains, reaches, addFee, addFees}
 use Rattle.replay.specs.Demand3.{tollNamed}
 use Rattle.replay.proofs.Relation.{Match, Named, Rows, Alike, track-other}
-use Rattle.replay.proofs.SoundRows.{stage-length, and3}
+use Rattle.replay.proofs.SoundRows.{stage-length}
 use Rattle.replay.proofs.Growing.{Referring, referring, Kept, kind-kept, grow}
 use Rattle.replay.proofs.Dawn.{gains-same, dusk-rows}
 use Rattle.replay.proofs.Raising.{raise-keeps, rising, old, dusk-length, duskEntries, kind-same, account-same, reference-same, rises-reached, reached-rises, raise-match, mark-same}

@@ -11,7 +11,7 @@ use lib.Dec.{ltb}
 use borrow.Author.Tests.{eqb-true, eq-eqb, ltb-true, lt-ltb, not-true}
 use Rattle.lists.specs.Tests.{_is_}
 use Rattle.lists.specs.Lists.{only}
-use Rattle.lists.proofs.TestLaws.{cond-both}
+use Rattle.lists.proofs.TestLaws.{cond-both, and3}
 use Rattle.lists.proofs.ListLaws.{map-at}
 use Rattle.lists.proofs.SumLaws.{sumBy-map, sumBy-ext}
 use Rattle.lists.proofs.PairLaws.{pairs-in}
@@ -26,7 +26,7 @@ use Rattle.rules.proofs.SoundnessLaws.{Sound}
 use Rattle.replay.specs.Entries.{Entry, noEntry, settleAllEntries}
 use Rattle.replay.specs.Replay.{Replay, gains, countDay}
 use Rattle.replay.proofs.Relation.{Track, Match, Alike}
-use Rattle.replay.proofs.SoundRows.{stage-length, and3}
+use Rattle.replay.proofs.SoundRows.{stage-length}
 use Rattle.replay.proofs.Idle.{open-none}
 use Rattle.replay.proofs.SettledAccounts.{length-all, all-row, all-stay}
 use Rattle.replay.proofs.Dawn.{dawn, dawn-keeps, gains-same, dusk-rows}

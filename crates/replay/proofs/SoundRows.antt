@@ -9,16 +9,13 @@ use lib.ListN.{length, getD, List·getD-eq-default}
 use lib.Dec.{leb, ltb}
 use borrow.Author.Tests.{leb-true, ltb-true, eqb-true}
 use Rattle.lists.specs.Tests.{_is_, _from_to_, _implies_}
-use Rattle.lists.proofs.TestLaws.{and-left, and-right}
+use Rattle.lists.proofs.TestLaws.{and-left, and-right, and3}
 use Rattle.rules.specs.Limits.{longestStage, highestFee}
 use Rattle.rules.specs.Schedule.{Schedule, scheduleFits, ratesFit}
 use Rattle.rules.specs.Rows.{Row, Toll, Fee, Payment, LastStage, Held, blank, rowNo, toll, heldToll, unsettled}
 use Rattle.rules.specs.Book.{Account, unused, Unused, Book, accountNo}
 use Rattle.rules.specs.Soundness.{settledFits, markFits, holdFits, accountUsed, names, referenceFits}
 use Rattle.rules.proofs.SoundnessLaws.{Near}
-
-pub and3 : (a b c : Bool) → a && b && c ≡ true → (a ≡ true) × (b ≡ true) × (c ≡ true)
-and3 a b c e = let d = and-left (a && b) c e in (and-left a b d, and-right a b d, and-right (a && b) c e)
 
 -- ---- a toll
 

@@ -1,4 +1,4 @@
--- Event 9 keeps the relation.
+-- Event 9 keeps the relation: after the closings, the rows and the entries, the accounts and the notes are still alike.
 use mathlib.Core.Path.{_≡_, refl, sym, ap, subst, _∙_}
 use mathlib.Core.Bool.{Bool, true, false, cond, _&&_}
 use Prim.Native.Nat.{ℕ, suc, _+_, _-_, _≤_, _<_}
@@ -78,12 +78,12 @@ module _ (S : Row → Entry → Type 0) (f : ℕ → Row) (g : ℕ → Entry) wh
 -- ---- the tick
 
 module _ (b : Book) (p : Replay) (sound : Sound b) (a : Alike b p) where
-  abbrev book3 : Book
-  book3 = raiseTolls (beforeRaising b)
+  abbrev bookNow : Book
+  bookNow = raiseTolls (beforeRaising b)
 
-  closes-at : {c d : ℕ} → c ≡ d → closes book3 c (account book3 c) ≡ closesNow b p sound a d
+  closes-at : {c d : ℕ} → c ≡ d → closes bookNow c (account bookNow c) ≡ closesNow b p sound a d
   unfolding raiseTolls beforeRaising settled endHolds nextDay
-  closes-at {c} {d} e = ap (λ (n : ℕ). closes book3 n (account b n)) e
+  closes-at {c} {d} e = ap (λ (n : ℕ). closes bookNow n (account b n)) e
 
   abbrev today : ℕ
   today = b .day + 1
@@ -91,68 +91,68 @@ module _ (b : Book) (p : Replay) (sound : Sound b) (a : Alike b p) where
   abbrev stage : ℕ
   stage = b .schedule .stage
 
-  abbrev old : List Row
-  old = beforeRaising b .rows
+  abbrev duskRows : List Row
+  duskRows = beforeRaising b .rows
 
-  abbrev rows3 : List Row
-  rows3 = night b p sound a
+  abbrev rowsNow : List Row
+  rowsNow = night b p sound a
 
-  abbrev entries3 : List Entry
-  entries3 = nightEntries b p sound a
+  abbrev entriesNow : List Entry
+  entriesNow = nightEntries b p sound a
 
   -- ---- the rows before the closings
 
-  night-is : rows3 ≡ raised b p sound a ++ fees b p sound a
+  night-is : rowsNow ≡ raised b p sound a ++ fees b p sound a
   unfolding raiseTolls beforeRaising settled endHolds nextDay
   night-is = refl
 
-  night-day : book3 .day ≡ today
+  night-day : bookNow .day ≡ today
   unfolding raiseTolls beforeRaising settled endHolds nextDay
   night-day = refl
 
   -- a fee row of this tick
   record Fresh (r : Row) : Type 0 where
     settled : r .settled ≡ 0
-    reference : r .reference ≤ length old
+    reference : r .reference ≤ length duskRows
 
   fresh-fees : Pairs (λ r s. Fresh r) (fees b p sound a) (fees b p sound a)
   unfolding feeRow
-  fresh-fees = pairs-gather (feeRow (b .schedule) today) (feeRow (b .schedule) today) blank blank 1 old old refl
-      (λ k n q l. pairs-one (rises today (getD old k blank) && ltb 0 (stageFee (b .schedule) (getD old k blank .mark + 1))) _ _ (λ v. record { settled = refl; reference = omega arith }))
+  fresh-fees = pairs-gather (feeRow (b .schedule) today) (feeRow (b .schedule) today) blank blank 1 duskRows duskRows refl
+      (λ k n q l. pairs-one (rises today (getD duskRows k blank) && ltb 0 (stageFee (b .schedule) (getD duskRows k blank .mark + 1))) _ _ (λ v. record { settled = refl; reference = omega arith }))
 
-  length-raised : length (raised b p sound a) ≡ length old
-  length-raised = length-map old _
+  length-raised : length (raised b p sound a) ≡ length duskRows
+  length-raised = length-map duskRows _
 
-  night-fits : (k : ℕ) → k < length rows3 → getD rows3 k blank .settled ≤ getD rows3 k blank .amount
+  night-fits : (k : ℕ) → k < length rowsNow → getD rowsNow k blank .settled ≤ getD rowsNow k blank .amount
   night-fits = rw night-is (append-at (λ k r. r .settled ≤ r .amount) (raised b p sound a) (fees b p sound a) blank
-      (λ k h. rw (raise-at b p sound a k, raise-keeps (λ q. q .settled) (λ q v w. refl) (b .schedule) today (getD old k blank), raise-keeps (λ q. q .amount) (λ q v w. refl) (b .schedule) today (getD old k blank))
+      (λ k h. rw (raise-at b p sound a k, raise-keeps (λ q. q .settled) (λ q v w. refl) (b .schedule) today (getD duskRows k blank), raise-keeps (λ q. q .amount) (λ q v w. refl) (b .schedule) today (getD duskRows k blank))
       (dusk-fits b p sound a k (rw length-raised at h)))
       (λ k h. let f = pairs-in blank blank fresh-fees k h in omega (arith, f .settled)))
 
-  night-referring : Referring rows3
+  night-referring : Referring rowsNow
   night-referring = rw night-is (append-at (λ k r. r .kind is Fee ≡ true → r .reference ≤ k) (raised b p sound a) (fees b p sound a) blank
-      (λ k h. rw (raise-at b p sound a k, raise-keeps (λ q. q .kind) (λ q v w. refl) (b .schedule) today (getD old k blank), raise-keeps (λ q. q .reference) (λ q v w. refl) (b .schedule) today (getD old k blank))
+      (λ k h. rw (raise-at b p sound a k, raise-keeps (λ q. q .kind) (λ q v w. refl) (b .schedule) today (getD duskRows k blank), raise-keeps (λ q. q .reference) (λ q v w. refl) (b .schedule) today (getD duskRows k blank))
       (dusk-referring b p sound a k (rw length-raised at h)))
       (λ k h e. let f = pairs-in blank blank fresh-fees k h in omega (arith, f .reference, length-raised)))
 
   -- ---- money used up
 
-  use-match : (k : ℕ) → k < length rows3 → Match 0 today stage (getD rows3 k blank) (getD entries3 k noEntry)
-      → Match 0 today stage (useUp book3 (getD rows3 k blank)) (useMoney today (p .notes) entries3 (getD entries3 k noEntry))
+  use-match : (k : ℕ) → k < length rowsNow → Match 0 today stage (getD rowsNow k blank) (getD entriesNow k noEntry)
+      → Match 0 today stage (useUp bookNow (getD rowsNow k blank)) (useMoney today (p .notes) entriesNow (getD entriesNow k noEntry))
   unfolding useUp useMoney
   use-match k h m = by (judge b p sound a y-account)
     where
       r : Row
-      r = getD rows3 k blank
+      r = getD rowsNow k blank
 
       y : Entry
-      y = getD entries3 k noEntry
+      y = getD entriesNow k noEntry
 
       y-account : ℕ
       y-account = y .account
 
       v : Bool
-      v = closes book3 (r .account) (account book3 (r .account))
+      v = closes bookNow (r .account) (account bookNow (r .account))
 
       at-entry : v ≡ closesNow b p sound a y-account
       at-entry = closes-at (m .face .account)
@@ -161,12 +161,12 @@ module _ (b : Book) (p : Replay) (sound : Sound b) (a : Alike b p) where
       by (same t f) = use-same today stage r y m v (closingNow b p sound a y-account) (at-entry ∙ t)
       by (idle t z i) =
           use-idle today stage r y m v (closingNow b p sound a y-account) (at-entry ∙ t)
-          (λ e. let l : remaining r ≤ 0 = omega (arith, money-least rows3 y-account k h (m .face .account) e) in omega (arith, night-fits k h))
+          (λ e. let l : remaining r ≤ 0 = omega (arith, money-least rowsNow y-account k h (m .face .account) e) in omega (arith, night-fits k h))
 
   -- ---- refunds
 
   refund-pairs : (rows : List Row) (k n : ℕ) → n ≡ 1 + k → k < length (b .accounts)
-      → Pairs (Named (Match 0 today stage) rows) (refundRow book3 n (getD (b .accounts) k unused)) (addRefund today entries3 n (getD (p .notes) k noNote))
+      → Pairs (Named (Match 0 today stage) rows) (refundRow bookNow n (getD (b .accounts) k unused)) (addRefund today entriesNow n (getD (p .notes) k noNote))
   unfolding refundRow addRefund tollNamed
   refund-pairs rows k n e h = let z : n ≡ suc k = omega arith in rw z (by (judge b p sound a (suc k)))
     where
@@ -177,7 +177,7 @@ module _ (b : Book) (p : Replay) (sound : Sound b) (a : Alike b p) where
       S r y = Named (Match 0 today stage) rows r y
 
       f : ℕ → Row
-      f m = settleWhole (newRow Refund c (book3 .day) m)
+      f m = settleWhole (newRow Refund c (bookNow .day) m)
 
       g : ℕ → Entry
       g m = coverWhole (newEntry Refund c today m)
@@ -189,32 +189,32 @@ module _ (b : Book) (p : Replay) (sound : Sound b) (a : Alike b p) where
       }
 
       by : Judged b p sound a c
-          → Pairs S (one (closesNow b p sound a c && ltb 0 (money c rows3)) (f (money c rows3)))
-          (one (closingNow b p sound a c && ltb (moneyOut c entries3) (moneyIn c entries3)) (g (moneyIn c entries3 - moneyOut c entries3)))
-      by (same t q) = refund-same S f g pair (closesNow b p sound a c) (closingNow b p sound a c) (money c rows3) (moneyIn c entries3) (moneyOut c entries3) t q
-      by (idle t z i) = refund-idle S f g (closesNow b p sound a c) (closingNow b p sound a c) (money c rows3) (moneyIn c entries3) (moneyOut c entries3) t i
+          → Pairs S (one (closesNow b p sound a c && ltb 0 (money c rowsNow)) (f (money c rowsNow)))
+          (one (closingNow b p sound a c && ltb (moneyOut c entriesNow) (moneyIn c entriesNow)) (g (moneyIn c entriesNow - moneyOut c entriesNow)))
+      by (same t q) = refund-same S f g pair (closesNow b p sound a c) (closingNow b p sound a c) (money c rowsNow) (moneyIn c entriesNow) (moneyOut c entriesNow) t q
+      by (idle t z i) = refund-idle S f g (closesNow b p sound a c) (closingNow b p sound a c) (money c rowsNow) (moneyIn c entriesNow) (moneyOut c entriesNow) t i
 
   -- ---- the whole
 
-  use-kept : (r : Row) → Kept r (useUp book3 r)
+  use-kept : (r : Row) → Kept r (useUp bookNow r)
   unfolding useUp
-  use-kept r = cond-both (λ (s : Row). Kept r s) (source r && closes book3 (r .account) (account book3 (r .account))) (settleWhole r) r (record { kind = refl; reference = refl }) (record { kind = refl; reference = refl })
+  use-kept r = cond-both (λ (s : Row). Kept r s) (source r && closes bookNow (r .account) (account bookNow (r .account))) (settleWhole r) r (record { kind = refl; reference = refl }) (record { kind = refl; reference = refl })
 
-  use-toll : (y : Entry) → SameToll y (useMoney today (p .notes) entries3 y)
+  use-toll : (y : Entry) → SameToll y (useMoney today (p .notes) entriesNow y)
   unfolding useMoney
-  use-toll y = cond-both (λ (z : Entry). SameToll y z) (isMoney y && closing today entries3 (y .account) (noteNo (p .notes) (y .account))) (coverWhole y) y refl refl
+  use-toll y = cond-both (λ (z : Entry). SameToll y z) (isMoney y && closing today entriesNow (y .account) (noteNo (p .notes) (y .account))) (coverWhole y) y refl refl
 
-  close-noted : (n : ℕ) (x : Account) (y : Note) → Noted x y → Noted (closeIf book3 n x) y
+  close-noted : (n : ℕ) (x : Account) (y : Note) → Noted x y → Noted (closeIf bookNow n x) y
   unfolding closeIf
-  close-noted n x y q = cond-both (λ (z : Account). Noted z y) (closes book3 n x) (closed x) x (record { request = q .request; topup = q .topup }) q
+  close-noted n x y q = cond-both (λ (z : Account). Noted z y) (closes bookNow n x) (closed x) x (record { request = q .request; topup = q .topup }) q
 
-  close-rows : Rows (Match 0 today stage) (map (useUp book3) rows3 ++ gather (refundRow book3) (b .accounts))
-      (map (useMoney today (p .notes) entries3) entries3 ++ gather (addRefund today entries3) (p .notes))
+  close-rows : Rows (Match 0 today stage) (map (useUp bookNow) rowsNow ++ gather (refundRow bookNow) (b .accounts))
+      (map (useMoney today (p .notes) entriesNow) entriesNow ++ gather (addRefund today entriesNow) (p .notes))
   close-rows =
-      grow rows3 entries3 night-referring (rows b p sound a) _ _
-      (pairs-map-self (useUp book3) use-kept rows3) (pairs-map-self (useMoney today (p .notes) entries3) use-toll entries3)
-      (pairs-map-in (useUp book3) (useMoney today (p .notes) entries3) blank noEntry (rows b p sound a) (λ k h m. use-match k h (m .is)))
-      _ _ (pairs-gather (refundRow book3) (addRefund today entries3) unused noNote 1 (b .accounts) (p .notes) (pairs-length (a .notes)) (refund-pairs _))
+      grow rowsNow entriesNow night-referring (rows b p sound a) _ _
+      (pairs-map-self (useUp bookNow) use-kept rowsNow) (pairs-map-self (useMoney today (p .notes) entriesNow) use-toll entriesNow)
+      (pairs-map-in (useUp bookNow) (useMoney today (p .notes) entriesNow) blank noEntry (rows b p sound a) (λ k h m. use-match k h (m .is)))
+      _ _ (pairs-gather (refundRow bookNow) (addRefund today entriesNow) unused noNote 1 (b .accounts) (p .notes) (pairs-length (a .notes)) (refund-pairs _))
 
   pub tick-alike : (e : Instruction) → Alike (tick b e) (tickReplay p e)
   unfolding tick closeAccounts raiseTolls beforeRaising settled endHolds nextDay tickReplay closeAll
@@ -222,5 +222,5 @@ module _ (b : Book) (p : Replay) (sound : Sound b) (a : Alike b p) where
     day = ap (λ (n : ℕ). n + 1) (a .day);
     schedule = a .schedule;
     rows = rw (← (a .day)) (rw (← (a .day)) at close-rows);
-    notes = pairs-change-left (closeIf book3) close-noted 1 (a .notes);
+    notes = pairs-change-left (closeIf bookNow) close-noted 1 (a .notes);
   }
