@@ -1,4 +1,6 @@
 pub mod TestLaws
 pub mod SumLaws
 pub mod ListLaws
+pub mod PairLaws
+pub mod CollectLaws
 pub mod GatherLaws

@@ -8,7 +8,7 @@ use native.Mathlib.Omega.{arith}
 use native.Mathlib.Decide.{ℕ-discrete}
 use native.Mathlib.Numerals.{add-one}
 use mathlib.Core.List.{List, [], _∷_, _++_, map, map-append}
-use lib.ListN.{length, getD, set, take, drop, replicate, length-append, List·getD-append, List·getD-eq-default}
+use lib.ListN.{length, getD, set, take, drop, replicate, length-append, List·getD-append, List·getD-eq-default, List·getD-map}
 use lib.Seq.{set-append-left, set-at, getD-at, getD-drop, take-suc}
 use Rattle.lists.specs.Lists.{everyFrom, tabulate}
 use Rattle.lists.proofs.TestLaws.{and-left, and-right, and-both}
@@ -142,3 +142,20 @@ module _ {A B : Type 0} where
   unfolding tabulate
   tabulate-map h f g zero e = refl
   tabulate-map h f g (suc n) e = rw (tabulate-map h f g n (λ k q. e k (omega arith)), e n (omega arith), map-append)
+
+-- ---- map
+
+-- an element of a map that leaves what stands past the end
+pub map-at : {A : Type 0} (f : A → A) (xs : List A) (k : ℕ) (d : A) → f d ≡ d → getD (map f xs) k d ≡ f (getD xs k d)
+map-at {A} f xs k d e = ap (λ (z : A). getD (map f xs) k z) (sym e) ∙ List·getD-map f xs k d
+
+-- ---- append
+
+-- what holds of each element of two lists, its place in view
+pub append-at : {A : Type 0} (P : ℕ → A → Type 0) (xs ys : List A) (d : A) → ((k : ℕ) → k < length xs → P k (getD xs k d))
+    → ((k : ℕ) → k < length ys → P (length xs + k) (getD ys k d)) → (k : ℕ) → k < length (xs ++ ys) → P k (getD (xs ++ ys) k d)
+append-at P [] ys d f g k h = let z : 0 + k ≡ k = omega arith in rw z at (g k h)
+append-at P (x ∷ xs) ys d f g zero h = f 0 (omega arith)
+append-at P (x ∷ xs) ys d f g (suc k) h =
+    append-at (λ j y. P (suc j) y) xs ys d (λ j l. f (suc j) (omega arith))
+    (λ j l. let z : suc (length xs) + j ≡ suc (length xs + j) = omega arith in rw z at (g j l)) k (omega arith)

@@ -6,9 +6,9 @@ use Prim.Native.Nat.{ℕ, zero, suc, _+_, _*_, _≤_, _<_}
 use mathlib.Core.List.{List, [], _∷_, _++_, map}
 use native.Mathlib.Nat.{add-mul, one-mul, le-of-suc-le-suc, not-suc-le-zero, suc-mul, zero-mul}
 use native.Mathlib.Omega.{arith}
-use native.Mathlib.Decide.{ℕ-discrete}
+use native.Mathlib.Decide.{ℕ-discrete, decLt}
 use lib.ListN.{length, take, getD, set}
-use Rattle.lists.specs.Lists.{sumBy, only, count, tabulate}
+use Rattle.lists.specs.Lists.{sumBy, only, count, tabulate, gatherFrom}
 use Rattle.lists.proofs.ListLaws.{tabulate-more}
 
 module _ {A : Type 0} where
@@ -107,6 +107,16 @@ module _ {A : Type 0} where
   sumBy-longer f g d (x ∷ xs) (y ∷ ys) l e z =
       omega (arith, e 0 (omega arith), sumBy-longer f g d xs ys (omega arith) (λ i h. e (suc i) (omega arith)) (λ i h q. z (suc i) (omega arith) (omega arith)))
 
+  -- a sum is above 0 where another is: each element's share is
+  pub sumBy-some : (f g : A → ℕ) (d : A) (xs : List A) → ((k : ℕ) → k < length xs → 0 < f (getD xs k d) → 0 < g (getD xs k d)) → 0 < sumBy f xs → 0 < sumBy g xs
+  unfolding sumBy
+  sumBy-some f g d [] e h = h
+  sumBy-some f g d (x ∷ xs) e h = go (decLt 0 (f x)) (λ q. sumBy-some f g d xs (λ k l. e (suc k) (omega arith)) q)
+    where
+      go : Dec (0 < f x) → (0 < sumBy f xs → 0 < sumBy g xs) → 0 < g x + sumBy g xs
+      go (yes q) i = omega (arith, e 0 (omega arith) q)
+      go (no q) i = let r : 0 < sumBy g xs = i (omega arith) in omega arith
+
 -- a sum over the elements that pass, each of at most so much
 pub sumBy-only-le : {A : Type 0} (t : A → Bool) (f : A → ℕ) (most : ℕ) (d : A) (xs : List A)
     → ((i : ℕ) → i < length xs → t (getD xs i d) ≡ true → f (getD xs i d) ≤ most) → sumBy (only t f) xs ≤ count t xs * most
@@ -183,3 +193,26 @@ pub sumBy-map : {A B : Type 0} (f : B → ℕ) (g : A → B) (xs : List A) → s
 unfolding sumBy
 sumBy-map f g [] = refl
 sumBy-map f g (x ∷ xs) = omega (arith, sumBy-map f g xs)
+
+module _ {A B : Type 0} (h : ℕ → A → List B) where
+  -- sums of what each element adds
+  pub sumBy-gather : (f g : B → ℕ) (d : A) (i : ℕ) (xs : List A) → ((k n : ℕ) → n ≡ i + k → k < length xs → sumBy f (h n (getD xs k d)) ≡ sumBy g (h n (getD xs k d)))
+      → sumBy f (gatherFrom h i xs) ≡ sumBy g (gatherFrom h i xs)
+  unfolding gatherFrom sumBy
+  sumBy-gather f g d i [] e = refl
+  sumBy-gather f g d i (x ∷ xs) e =
+      omega (
+        arith,
+        sumBy-append f (h i x) (gatherFrom h (i + 1) xs),
+        sumBy-append g (h i x) (gatherFrom h (i + 1) xs),
+        e 0 i (omega arith) (omega arith),
+        sumBy-gather f g d (i + 1) xs (λ k n q l. e (suc k) n (omega arith) (omega arith)),
+      )
+
+  pub sumBy-gather-none : (f : B → ℕ) (d : A) (i : ℕ) (xs : List A) → ((k n : ℕ) → n ≡ i + k → k < length xs → sumBy f (h n (getD xs k d)) ≡ 0) → sumBy f (gatherFrom h i xs) ≡ 0
+  sumBy-gather-none f d i xs e =
+      omega (
+        arith,
+        sumBy-zero (λ (y : B). 0) (gatherFrom h i xs) (λ y. refl),
+        sumBy-gather f (λ y. 0) d i xs (λ k n q l. omega (arith, e k n q l, sumBy-zero (λ (y : B). 0) (h n (getD xs k d)) (λ y. refl))),
+      )

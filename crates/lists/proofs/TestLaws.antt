@@ -20,9 +20,18 @@ and-right false b e = absurd (false≢true e)
 pub and-both : (a b : Bool) → a ≡ true → b ≡ true → a && b ≡ true
 and-both a b p q = rw p q
 
+-- each of three
+pub and3 : (a b c : Bool) → a && b && c ≡ true → (a ≡ true) × (b ≡ true) × (c ≡ true)
+and3 a b c e = let d = and-left (a && b) c e in (and-left a b d, and-right a b d, and-right (a && b) c e)
+
 pub and-false : (b : Bool) → b && false ≡ false
 and-false true = refl
 and-false false = refl
+
+-- ---- tests that fail
+
+pub and-then : (a b : Bool) → a ≡ true → a && b ≡ false → b ≡ false
+and-then a b p e = rw p at e
 
 -- ---- _||_
 
@@ -47,6 +56,11 @@ cond-zero false n e = refl
 pub cond-both : (c a b : Bool) → a ≡ true → b ≡ true → cond c a b ≡ true
 cond-both true a b p q = p
 cond-both false a b p q = q
+
+-- what holds of both holds of either
+pub cond-either : {A : Type 0} (P : A → Type 0) (v : Bool) (x y : A) → P x → P y → P (cond v x y)
+cond-either P true x y p q = p
+cond-either P false x y p q = q
 
 -- ---- tests without branches
 
