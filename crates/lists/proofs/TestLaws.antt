@@ -1,6 +1,6 @@
 -- Laws of tests, of conjunctions and of tables of cases.
 use mathlib.Core.Path.{_≡_, refl, sym, _∙_}
-use mathlib.Core.Bool.{Bool, true, false, not, cond, _&&_, _||_, false≢true, or-false, and-true, and-assoc}
+use mathlib.Core.Bool.{Bool, true, false, not, cond, _&&_, _||_, false≢true, and-true, and-assoc}
 use Prim.Native.Nat.{ℕ, zero, suc, _<_}
 use native.Mathlib.Omega.{arith}
 use mathlib.Core.List.{List, [], _∷_}
@@ -25,10 +25,6 @@ and-both a b p q = rw p q
 pub or-implies : (a b : Bool) → not a || b ≡ a implies b
 or-implies true b = refl
 or-implies false b = refl
-
-pub or-cond : (t a b : Bool) → t && a || not t && b ≡ cond t a b
-or-cond true a b = or-false a
-or-cond false a b = refl
 
 -- ---- allOf
 

@@ -22,7 +22,7 @@ use Rattle.rules.specs.Opening.{dayFits, sizesFit}
 use Rattle.rules.specs.Soundness.{mostOf, amountFits, settledFits, accountUsed, referenceFits, passageOnce, feesFit, rowSound, returnedFits, even, spent, closedClear, accountSound, sound}
 use Rattle.rules.specs.Tables.{Tables, accountsIn, roomIn, rowsUsed, scheduleFrom, bookOf, wholeRecords, lengthsFit, usedFits, laterRowsZero, soundTables}
 use Rattle.rules.proofs.StorableLaws.{mostOf-le, used-inside, between-le, schedule-storable}
-use Rattle.soundness.specs.Clauses.{rowAlone, rowStands, rowsStand, passagesDiffer, feesFew, restZero, bookStands, tablesOn, Bounds}
+use Rattle.soundness.specs.Clauses.{ownWords, rowAlone, rowStands, rowsStand, passagesDiffer, feesFew, restZero, bookStands, tablesOn, Bounds}
 use Rattle.soundness.specs.Accounts.{accountAlone, sumsAgree, accountStands, sumsOf, allAgree, accountsStand}
 use Rattle.soundness.specs.Tallies.{Countable}
 
@@ -32,7 +32,7 @@ rows-parts : (b : Book) → every (rowSound b) (b .rows) ≡ rowsStand (b .accou
 unfolding rowsStand passagesDiffer feesFew
 rows-parts b =
     every-ext (rowSound b) (λ n r. rowStands (b .accounts) (b .rows) (b .day) (b .schedule .stage) n r && (passageOnce (b .rows) r && feesFit (b .rows) n r)) 1 (b .rows) (λ n r.
-    unfold rowSound rowStands rowAlone allOf in simp (and-assoc, and-true))
+    unfold rowSound rowStands rowAlone ownWords allOf in simp (and-assoc, and-true))
     ∙ every-and (rowStands (b .accounts) (b .rows) (b .day) (b .schedule .stage)) (λ n r. passageOnce (b .rows) r && feesFit (b .rows) n r) 1 (b .rows)
     ∙ rw (every-and (λ n r. passageOnce (b .rows) r) (feesFit (b .rows)) 1 (b .rows))
 

@@ -43,9 +43,14 @@ fn is_held(journal: &[i64], used: usize, r: Row) -> bool
     requires { ⌜ used * rowWidth ≤ length (now journal) ⌝ }
     ensures { λ b. ⌜ b ≡ held (rowsOf (now (journal .entry)) used) r ⌝ }
 {
+    if r.kind == TOLL {
+        return r.dispute == HELD;
+    }
+    if r.kind != FEE {
+        return false;
+    }
     let named = row_numbered(journal, used, r.reference);
-    let own = (r.kind == TOLL) & (r.dispute == HELD);
-    own | ((r.kind == FEE) & ((named.kind == TOLL) & (named.dispute == HELD)))
+    (named.kind == TOLL) & (named.dispute == HELD)
 }
 
 // Row i as a source.
