@@ -1,3 +1,4 @@
+-- `fees_within` meets its contract: no fee is always few; otherwise fewer than the stage.
 use Rattle.soundness.proofs.FeeLaws.{fees-none, fewer}
 use Rattle.soundness.specs.Tallies.{feesWithin}
 use mathlib.Core.Path.{_∙_}

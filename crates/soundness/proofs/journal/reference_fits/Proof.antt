@@ -1,3 +1,4 @@
+-- `reference_fits` meets its contract: a toll and a payment name no row; of the others it is the clause on the row that is looked up.
 use Rattle.rules.specs.Soundness.{names, referenceFits}
 use borrow.Author.Needs.{needs}
 use Rattle.soundness.proofs.journal.reference_fits.Statement.{statement}

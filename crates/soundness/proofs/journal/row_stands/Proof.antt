@@ -1,3 +1,4 @@
+-- `row_stands` meets its contract: the first test that fails decides.
 use Rattle.soundness.specs.Clauses.{rowStands}
 use Rattle.lists.specs.Tests.{allOf}
 use borrow.Author.Tests.{not-true, not-false}

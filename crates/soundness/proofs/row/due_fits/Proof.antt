@@ -1,3 +1,4 @@
+-- `due_fits` meets its contract: each way through the tests decides the clause.
 use Prim.Native.Nat.{_+_}
 use Rattle.rules.specs.Soundness.{dueWithin}
 use borrow.Author.Tests.{eq-eqb, le-leb, le-ltb, lt-leb, lt-ltb, ne-eqb}

@@ -1,3 +1,4 @@
+-- `hold_fits` meets its contract: each way through the tests decides the clause, and no sum wraps once the hold starts by today.
 use Rattle.soundness.proofs.RowLaws.{held-fits}
 use mathlib.Core.Bool.{and-false}
 use Rattle.rules.specs.Soundness.{holdFits}

@@ -1,3 +1,4 @@
+-- `method_fits` meets its contract: it is the clause on a row that is no toll.
 use Rattle.rules.specs.Soundness.{markFits}
 use borrow.Author.Tests.{eq-eqb, ne-eqb}
 use native.Mathlib.Omega.{arith}

@@ -1,3 +1,4 @@
+-- `most_of` meets its contract: each arm is the definition's entry, and a number that is no kind has none.
 use Rattle.soundness.proofs.RowLaws.{most-none}
 use Rattle.rules.specs.Soundness.{mostOf}
 use Rattle.soundness.proofs.row.most_of.Statement.{statement}

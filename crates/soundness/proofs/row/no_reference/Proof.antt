@@ -1,3 +1,4 @@
+-- `no_reference` meets its contract: each way through the tests decides the clause.
 use Rattle.rules.specs.Soundness.{noReference}
 use borrow.Author.Tests.{eq-eqb, ne-eqb}
 use native.Mathlib.Omega.{arith}

@@ -1,3 +1,4 @@
+-- `no_toll_words` meets its contract: it is the clause on a row that is no toll.
 use Rattle.rules.specs.Soundness.{tollWordsFit}
 use borrow.Author.Tests.{ne-eqb}
 use native.Mathlib.Omega.{arith}

@@ -1,3 +1,4 @@
+-- `other_fits` meets its contract: the first test that fails decides; only a toll has a due day and a hold.
 use Rattle.soundness.proofs.RowLaws.{other-due, other-hold}
 use Rattle.soundness.specs.Clauses.{ownWords}
 use Rattle.lists.specs.Tests.{allOf}

@@ -1,3 +1,4 @@
+-- `own_words` meets its contract: tolls and other rows part.
 use borrow.Author.Needs.{needs}
 use Rattle.soundness.proofs.row.own_words.Statement.{statement}
 use Rattle.soundness.proofs.row.own_words.Tie as tie

@@ -1,3 +1,4 @@
+-- `settled_fits` meets its contract: each way through the tests decides the clause.
 use Rattle.rules.specs.Soundness.{settledFits}
 use borrow.Author.Tests.{eq-eqb, le-leb, lt-leb, ne-eqb}
 use native.Mathlib.Omega.{arith}

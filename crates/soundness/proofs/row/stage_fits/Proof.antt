@@ -1,3 +1,4 @@
+-- `stage_fits` meets its contract: it is the clause on a toll.
 use Rattle.rules.specs.Soundness.{markFits}
 use borrow.Author.Tests.{eq-eqb}
 use native.Mathlib.Omega.{arith}

@@ -1,3 +1,4 @@
+-- `toll_fits` meets its contract: the first test that fails decides; a toll needs no empty reference.
 use Rattle.soundness.proofs.RowLaws.{toll-no-reference}
 use Rattle.soundness.specs.Clauses.{ownWords}
 use Rattle.lists.specs.Tests.{allOf}

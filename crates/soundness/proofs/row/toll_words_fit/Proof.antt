@@ -1,3 +1,4 @@
+-- `toll_words_fit` meets its contract: it is the clause on a toll.
 use Rattle.rules.specs.Soundness.{tollWordsFit}
 use borrow.Author.Tests.{eq-eqb, le-leb, lt-leb}
 use native.Mathlib.Omega.{arith}

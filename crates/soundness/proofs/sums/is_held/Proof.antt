@@ -1,3 +1,4 @@
+-- `is_held` meets its contract: each way through the tests decides the definition.
 use mathlib.Core.Bool.{or-false}
 use Rattle.rules.specs.Rows.{held}
 use borrow.Author.Tests.{eq-eqb, ne-eqb}
