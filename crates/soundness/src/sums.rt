@@ -55,13 +55,12 @@ fn is_held(journal: &[i64], used: usize, r: Row) -> bool
 // Row i, a source.
 fn add_source(
     journal: &[i64],
-    used: usize,
     i: usize,
     returned: &mut [u64; SEATS],
     drawn: &mut [u64; SEATS],
     money: &mut [u64; SEATS],
 )
-    requires { ⌜ Countable (now journal) used × (i < used) × (source (rowAt (now journal) i) ≡ true) × SourceTallies (now journal) (now returned) (now drawn) (now money) i ⌝ }
+    requires { ⌜ Countable (now journal) (i + 1) × (source (rowAt (now journal) i) ≡ true) × SourceTallies (now journal) (now returned) (now drawn) (now money) i ⌝ }
     ensures { λ _. ⌜ SourceTallies (now (journal .entry)) (now (returned .exit)) (now (drawn .exit)) (now (money .exit)) (i + 1) ⌝ }
 {
     let r = read_row(journal, i);
@@ -112,7 +111,7 @@ fn add_row(
 {
     let kind = kind_at(journal, i);
     if (kind == PAYMENT) | (kind == CREDIT) {
-        add_source(journal, used, i, returned, drawn, money);
+        add_source(journal, i, returned, drawn, money);
         return;
     }
     add_debit(journal, used, i, paid, debt, owed);
