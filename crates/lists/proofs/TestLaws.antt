@@ -68,10 +68,6 @@ pub or-implies : (a b : Bool) → not a || b ≡ a implies b
 or-implies true b = refl
 or-implies false b = refl
 
-pub or-cond : (t a b : Bool) → t && a || not t && b ≡ cond t a b
-or-cond true a b = or-false a
-or-cond false a b = refl
-
 -- ---- allOf
 
 -- each test of a conjunction that holds

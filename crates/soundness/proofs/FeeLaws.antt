@@ -1,9 +1,10 @@
 -- Laws of the fees that name a row.
 use Prim.Native.Nat.{ℕ, zero, suc, _+_, _*_, _-_, _≤_, _<_}
 use native.Mathlib.Omega.{arith}
+use native.Mathlib.Decide.{decLt}
 use mathlib.Core.Path.{_≡_, refl, sym, ap, _∙_}
 use mathlib.Core.Logic.{_≢_}
-use mathlib.Core.Bool.{Bool, true, false, cond, _||_}
+use mathlib.Core.Bool.{Bool, true, false, cond}
 use mathlib.Core.List.{List}
 use lib.Dec.{eqb, leb, ltb}
 use borrow.Author.Tests.{eq-eqb, ne-eqb, le-leb, lt-leb, lt-ltb, le-ltb}
@@ -58,13 +59,19 @@ module _ (t : List ℤ) (xs : List ℕ) (i : ℕ) (s : Tallied feeOf 8193 t xs i
 -- ---- the test of a row
 
 -- at most k - 1, with none at 0
-pub fewer : (c k : ℕ) → (eqb c 0 || ltb c k) ≡ leb c (k - 1)
-fewer zero k = sym (le-leb 0 (k - 1) (omega arith))
-fewer (suc c) zero = simp (ne-eqb (suc c) 0 (λ w. omega arith), le-ltb (suc c) 0 (omega arith), lt-leb (suc c) (0 - 1) (omega arith))
-fewer (suc c) (suc k) =
-    elim (native.Mathlib.Decide.decLt (suc c) (suc k)) [
-      | yes h ↦ simp (ne-eqb (suc c) 0 (λ w. omega arith), lt-ltb (suc c) (suc k) h, le-leb (suc c) (suc k - 1) (omega arith))
-      | no h ↦ simp (ne-eqb (suc c) 0 (λ w. omega arith), le-ltb (suc c) (suc k) (omega arith), lt-leb (suc c) (suc k - 1) (omega arith))
+pub fees-none : (r : Row) → true ≡ feesWithin 0 r
+unfolding feesWithin
+fees-none r = go (toll r)
+  where
+    go : (b : Bool) → true ≡ (b implies leb 0 (r .mark - 1))
+    go true = sym (le-leb 0 (r .mark - 1) (omega arith))
+    go false = refl
+
+pub fewer : (c k : ℕ) → (c ≡ 0 → ⊥) → ltb c k ≡ leb c (k - 1)
+fewer c k q =
+    elim (decLt c k) [
+      | yes h ↦ simp (lt-ltb c k h, le-leb c (k - 1) (omega arith))
+      | no h ↦ simp (le-ltb c k (omega arith), lt-leb c (k - 1) (omega arith))
     ]
 
 -- the counts are those of the definition

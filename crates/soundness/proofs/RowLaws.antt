@@ -1,33 +1,41 @@
 -- What the tests on one row leave to show.
-use mathlib.Core.Path.{_≡_, refl, sym}
-use mathlib.Core.Bool.{Bool, true, false, not, cond, _&&_}
-use Prim.Native.Nat.{ℕ, _+_, _<_}
-use native.Mathlib.Omega.{arith}
-use mathlib.Core.List.{List, [], _∷_}
-use lib.ListN.{List·getD-eq-default}
-use lib.Dec.{eqb, leb, ltb}
-use borrow.Author.Tests.{lt-leb, ne-eqb}
-use Rattle.lists.specs.Tests.{_is_, _implies_}
-use Rattle.rules.specs.Limits
-use Rattle.rules.specs.Rows.{Row, toll, Held, LastStage, unsettled}
-use Rattle.rules.specs.Soundness.{mostOf, holdFits}
+use mathlib.Core.Path.{_≡_, refl}
+use mathlib.Core.Logic.{_≢_}
+use mathlib.Core.Bool.{Bool, true, _&&_}
+use Prim.Native.Nat.{ℕ, zero, suc, _+_}
+use lib.Dec.{leb, ltb}
+use borrow.Author.Tests.{eq-eqb, ne-eqb}
+use Rattle.lists.specs.Tests.{_implies_}
+use Rattle.rules.specs.Rows.{Row, Toll, Held, LastStage}
+use Rattle.rules.specs.Soundness.{mostOf, noReference, dueWithin, dueFits, holdFits}
 
--- a kind past the last has no amount
-pub most-past : (k : ℕ) → 6 < k → 0 ≡ mostOf k
+-- a number that is no kind has no amount
+pub most-none : (k : ℕ) → k ≢ 1 → k ≢ 2 → k ≢ 3 → k ≢ 4 → k ≢ 5 → k ≢ 6 → 0 ≡ mostOf k
 unfolding mostOf
-most-past k h =
-    let l : List ℕ = 0 ∷ Limits.highestRate ∷ Limits.highestFee ∷ Limits.highestPayment ∷ Limits.highestPayment ∷ Limits.highestCredit ∷ Limits.highestRefund ∷ [] in
-    sym (List·getD-eq-default l 0 {n = k} (omega arith))
+most-none zero a b c d e f = refl
+most-none (suc zero) a b c d e f = absurd (a refl)
+most-none (suc (suc zero)) a b c d e f = absurd (b refl)
+most-none (suc (suc (suc zero))) a b c d e f = absurd (c refl)
+most-none (suc (suc (suc (suc zero)))) a b c d e f = absurd (d refl)
+most-none (suc (suc (suc (suc (suc zero))))) a b c d e f = absurd (e refl)
+most-none (suc (suc (suc (suc (suc (suc zero)))))) a b c d e f = absurd (f refl)
+most-none (suc (suc (suc (suc (suc (suc (suc k))))))) a b c d e f = refl
 
--- no toll is held from a later day
-pub late-hold : (today L : ℕ) (r : Row) → today < r .hold → not (eqb (r .kind) 1) ≡ holdFits today L r
+-- a toll has a reference, and only a toll has a due day and a hold
+pub toll-no-reference : (r : Row) → r .kind ≡ Toll → noReference r ≡ true
+unfolding noReference
+toll-no-reference r e = rw e
+
+pub other-due : (today L : ℕ) (r : Row) → r .kind ≢ Toll → dueFits today L r ≡ true
+unfolding dueWithin
+other-due today L r q = rw (ne-eqb (r .kind) Toll q)
+
+pub other-hold : (today L : ℕ) (r : Row) → r .kind ≢ Toll → holdFits today L r ≡ true
 unfolding holdFits
-late-hold today L r h =
-    rw (lt-leb (r .hold) today h, ne-eqb (r .hold) 0 (λ e. omega arith))
-    (go (toll r) (r .dispute is Held) (leb 1 (r .hold) && leb today (r .hold + 29)) (unsettled r) (leb (r .due) (r .hold + L)) (ltb (r .mark) LastStage implies ltb (r .hold) (r .due)))
-  where
-    go : (t d a u v w : Bool) → not t ≡ (t implies cond d (a && false && u && v && w) false)
-    go false d a u v w = refl
-    go true false a u v w = refl
-    go true true true u v w = refl
-    go true true false u v w = refl
+other-hold today L r q = rw (ne-eqb (r .kind) Toll q)
+
+-- a held toll's own tests
+pub held-fits : (today L : ℕ) (r : Row) (after : Bool) → r .kind ≡ Toll → r .dispute ≡ Held → after ≡ (ltb (r .mark) LastStage implies ltb (r .hold) (r .due))
+    → (leb 1 (r .hold) && leb today (r .hold + 29) && leb (r .hold) today && ltb (r .settled) (r .amount) && leb (r .due) (r .hold + L) && after) ≡ holdFits today L r
+unfolding holdFits
+held-fits today L r after k d a = rw (a, eq-eqb (r .kind) Toll k, eq-eqb (r .dispute) Held d)

@@ -19,10 +19,10 @@ use Rattle.rules.specs.Rows.{Row, Refund}
 use Rattle.rules.specs.Schedule.{scheduleFits}
 use Rattle.rules.specs.Book.{Account, Book}
 use Rattle.rules.specs.Opening.{dayFits, sizesFit}
-use Rattle.rules.specs.Soundness.{mostOf, amountFits, settledFits, accountUsed, referenceFits, passageOnce, feesFit, rowSound, returnedFits, even, spent, closedClear, accountSound, sound}
+use Rattle.rules.specs.Soundness.{kindFits, mostOf, amountFits, settledFits, accountUsed, referenceFits, passageOnce, feesFit, rowSound, returnedFits, even, spent, closedClear, accountSound, sound}
 use Rattle.rules.specs.Tables.{Tables, accountsIn, roomIn, rowsUsed, scheduleFrom, bookOf, wholeRecords, lengthsFit, usedFits, laterRowsZero, soundTables}
 use Rattle.rules.proofs.StorableLaws.{mostOf-le, used-inside, between-le, schedule-storable}
-use Rattle.soundness.specs.Clauses.{rowAlone, rowStands, rowsStand, passagesDiffer, feesFew, restZero, bookStands, tablesOn, Bounds}
+use Rattle.soundness.specs.Clauses.{ownWords, rowAlone, rowStands, rowsStand, passagesDiffer, feesFew, restZero, bookStands, tablesOn, Bounds}
 use Rattle.soundness.specs.Accounts.{accountAlone, sumsAgree, accountStands, sumsOf, allAgree, accountsStand}
 use Rattle.soundness.specs.Tallies.{Countable}
 
@@ -32,7 +32,7 @@ rows-parts : (b : Book) → every (rowSound b) (b .rows) ≡ rowsStand (b .accou
 unfolding rowsStand passagesDiffer feesFew
 rows-parts b =
     every-ext (rowSound b) (λ n r. rowStands (b .accounts) (b .rows) (b .day) (b .schedule .stage) n r && (passageOnce (b .rows) r && feesFit (b .rows) n r)) 1 (b .rows) (λ n r.
-    unfold rowSound rowStands rowAlone allOf in simp (and-assoc, and-true))
+    unfold rowSound rowStands rowAlone ownWords allOf in simp (and-assoc, and-true))
     ∙ every-and (rowStands (b .accounts) (b .rows) (b .day) (b .schedule .stage)) (λ n r. passageOnce (b .rows) r && feesFit (b .rows) n r) 1 (b .rows)
     ∙ rw (every-and (λ n r. passageOnce (b .rows) r) (feesFit (b .rows)) 1 (b .rows))
 
@@ -183,10 +183,13 @@ module _ (accounts journal : List ℤ) (count used today stage : ℕ) (b : Bound
   row-at k h = tabulate-every _ (rowAt journal) used e k h
 
   pub countable : Countable journal used
-  countable = record { room = b .room; few = b .few; account = account-le; amount = amount-le; settled = settled-le }
+  countable = record { room = b .room; few = b .few; kind = kind-fits; account = account-le; amount = amount-le; settled = settled-le }
     where
       part : (k : ℕ) → k < used → (i : ℕ) → getD (rowAlone today stage (rowAt journal k) ∷ accountUsed (accountsOf accounts count) (rowAt journal k) ∷ referenceFits (rowsOf journal used) (k + 1) (rowAt journal k) ∷ []) i true ≡ true
       part k h = unfold rowStands in allOf-at _ (row-at k h)
+
+      kind-fits : (k : ℕ) → k < used → kindFits (rowAt journal k) ≡ true
+      kind-fits k h = unfold rowAlone in allOf-at _ (part k h 0) 0
 
       account-le : (k : ℕ) → k < used → rowAt journal k .account ≤ mostAccounts
       account-le k h = unfold accountUsed in

@@ -15,11 +15,13 @@ use Rattle.rules.specs.Soundness.{kindFits, amountFits, settledFits, markFits, 
 use Rattle.rules.specs.Tables.{Tables, zeroWord}
 use Rattle.soundness.specs.Accounts.{accountsStand}
 
--- a row by itself
+-- a row by itself: the words that differ from kind to kind, and all
+unfoldable pub ownWords : ℕ → ℕ → Row → Bool
+ownWords today L r = allOf
+    (markFits r ∷ tollWordsFit r ∷ noReference r ∷ rowDayFits today r ∷ dueFits today L r ∷ holdFits today L r ∷ [])
+
 unfoldable pub rowAlone : ℕ → ℕ → Row → Bool
-rowAlone today L r = allOf
-    (kindFits r ∷ amountFits r ∷ settledFits r ∷ markFits r ∷ tollWordsFit r ∷ noReference r
-    ∷ rowDayFits today r ∷ dueFits today L r ∷ holdFits today L r ∷ [])
+rowAlone today L r = allOf (kindFits r ∷ amountFits r ∷ settledFits r ∷ ownWords today L r ∷ [])
 
 -- and with the account and the row that it names
 unfoldable pub rowStands : List Account → List Row → ℕ → ℕ → ℕ → Row → Bool

@@ -1,7 +1,7 @@
 -- Arrays that hold, at each number below their size, a sum over the first rows.
 use Prim.Native.Nat.{ℕ, _+_, _*_, _-_, _≤_, _<_}
 use mathlib.Core.Path.{_≡_}
-use mathlib.Core.Bool.{Bool, cond}
+use mathlib.Core.Bool.{Bool, true, cond}
 use mathlib.Core.List.{List}
 use lib.Dec.{leb}
 use lib.IntN.{ℤ}
@@ -12,7 +12,7 @@ use Rattle.records.specs.Layout.{rowWidth}
 use Rattle.records.specs.Encoding.{rowAt, rowsOf}
 use Rattle.rules.specs.Limits.{mostRows, mostAccounts, highestRefund}
 use Rattle.rules.specs.Rows.{Row, toll, feeNaming, remaining, sourceOf, debitOf, payable}
-use Rattle.rules.specs.Soundness.{returnedOf}
+use Rattle.rules.specs.Soundness.{kindFits, returnedOf}
 
 -- xs holds the sums of f n over the first i rows
 pub record Tallied (f : ℕ → Row → ℕ) (size : ℕ) (t : List ℤ) (xs : List ℕ) (i : ℕ) : Type 0 where
@@ -61,10 +61,11 @@ pub record DebitTallies (t : List ℤ) (used : ℕ) (paid debt owed : List ℕ) 
   pub debts : Tallied (debtOf (rowsOf t used)) 257 t debt i
   pub owings : Tallied owedOf 257 t owed i
 
--- rows that have an account and amounts whose sums fit
+-- rows that have a kind, an account and amounts whose sums fit
 pub record Countable (t : List ℤ) (used : ℕ) : Type 0 where
   pub room : used * rowWidth ≤ length t
   pub few : used ≤ mostRows
+  pub kind : (i : ℕ) → i < used → kindFits (rowAt t i) ≡ true
   pub account : (i : ℕ) → i < used → rowAt t i .account ≤ mostAccounts
   pub amount : (i : ℕ) → i < used → rowAt t i .amount ≤ highestRefund
   pub settled : (i : ℕ) → i < used → rowAt t i .settled ≤ rowAt t i .amount

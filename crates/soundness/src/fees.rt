@@ -61,10 +61,10 @@ fn fees_within(journal: &[i64], i: usize, c: u64) -> bool
     requires { ⌜ RowIn (now journal) i ⌝ }
     ensures { λ b. ⌜ b ≡ feesWithin c (rowAt (now (journal .entry)) i) ⌝ }
 {
-    implies(
-        kind_at(journal, i) == TOLL,
-        (c == 0) | (c < mark_at(journal, i)),
-    )
+    if c == 0 {
+        return true;
+    }
+    implies(kind_at(journal, i) == TOLL, c < mark_at(journal, i))
 }
 
 fn fees_all_within(journal: &[i64], used: usize, counts: &[u16; COUNTS]) -> bool

@@ -41,6 +41,12 @@ fn reference_fits(journal: &[i64], used: usize, n: u64, r: Row) -> bool
     requires { ⌜ used * rowWidth ≤ length (now journal) ⌝ }
     ensures { λ b. ⌜ b ≡ referenceFits (rowsOf (now (journal .entry)) used) n r ⌝ }
 {
+    if r.kind == TOLL {
+        return true;
+    }
+    if r.kind == PAYMENT {
+        return true;
+    }
     let named = row_numbered(journal, used, r.reference);
     let toll = names_row(n, r, named, TOLL);
     let payment = names_row(n, r, named, PAYMENT);
@@ -63,9 +69,13 @@ fn row_stands(
     ensures { λ b. ⌜ b ≡ rowStands (accountsOf (now (accounts .entry)) count) (rowsOf (now (journal .entry)) used) today stage (i + 1) (rowAt (now (journal .entry)) i) ⌝ }
 {
     let r = read_row(journal, i);
-    row_alone(today, stage, r)
-        & account_used(accounts, count, r)
-        & reference_fits(journal, used, (i + 1) as u64, r)
+    if !row_alone(today, stage, r) {
+        return false;
+    }
+    if !account_used(accounts, count, r) {
+        return false;
+    }
+    reference_fits(journal, used, (i + 1) as u64, r)
 }
 
 pub fn rows_stand(

@@ -1,6 +1,6 @@
-// A row by itself: each clause of rules' Soundness that looks at one row and the day.
+// A row by itself: each clause of rules' Soundness that looks at one row and the day. Each test returns at once, so that a sound
+// row costs one well-predicted branch a test; tolls and other rows part at once, since they share few tests.
 use super::tests::between;
-use super::tests::choose;
 use super::tests::implies;
 use records::Row;
 use tables::codes::CARD;
@@ -18,26 +18,18 @@ use tables::limits::HIGHEST_PAYMENT;
 use tables::limits::HIGHEST_RATE;
 use tables::limits::HIGHEST_REFUND;
 ghost use mathlib.Core.Path.{_≡_};
-ghost use Prim.Native.Nat.{_≤_};
+ghost use Prim.Native.Nat.{ℕ, _≤_};
 ghost use Rattle.rules.specs.Limits.{finalDay, longestStage};
+ghost use Rattle.rules.specs.Rows.{Toll};
 ghost use Rattle.rules.specs.Soundness.{kindFits, mostOf, amountFits, settledFits, markFits, tollWordsFit, noReference, rowDayFits, dueFits, holdFits};
-ghost use Rattle.soundness.specs.Clauses.{rowAlone};
+ghost use Rattle.soundness.specs.Clauses.{ownWords, rowAlone};
 
-// The highest amount of each kind, from kind 0 on.
-const MOST: [u64; 7] = [
-    0,
-    HIGHEST_RATE,
-    HIGHEST_FEE,
-    HIGHEST_PAYMENT,
-    HIGHEST_PAYMENT,
-    HIGHEST_CREDIT,
-    HIGHEST_REFUND,
-];
-
-// The day before which a hold that began has ended: 29 days back.
+// The last day of a hold is its 29th after the start: the tick to the 30th ends it.
 const HOLD_LASTS: u64 = 29;
 
-pub fn kind_fits(r: Row) -> bool
+// ---- every row
+
+fn kind_fits(r: Row) -> bool
     ensures { λ b. ⌜ b ≡ kindFits r ⌝ }
 {
     between(TOLL, r.kind, REFUND)
@@ -46,90 +38,185 @@ pub fn kind_fits(r: Row) -> bool
 fn most_of(kind: u64) -> u64
     ensures { λ n. ⌜ n ≡ mostOf kind ⌝ }
 {
-    if kind > REFUND {
-        return 0;
+    match kind {
+        1 => HIGHEST_RATE,
+        2 => HIGHEST_FEE,
+        3 => HIGHEST_PAYMENT,
+        4 => HIGHEST_PAYMENT,
+        5 => HIGHEST_CREDIT,
+        6 => HIGHEST_REFUND,
+        _ => 0,
     }
-    MOST[kind as usize]
 }
 
-pub fn amount_fits(r: Row) -> bool
+fn amount_fits(r: Row) -> bool
     ensures { λ b. ⌜ b ≡ amountFits r ⌝ }
 {
     between(1, r.amount, most_of(r.kind))
 }
 
-pub fn settled_fits(r: Row) -> bool
+fn settled_fits(r: Row) -> bool
     ensures { λ b. ⌜ b ≡ settledFits r ⌝ }
 {
-    (r.settled <= r.amount) & implies(r.kind == REFUND, r.settled == r.amount)
+    if r.settled > r.amount {
+        return false;
+    }
+    if r.kind != REFUND {
+        return true;
+    }
+    r.settled == r.amount
 }
 
-pub fn mark_fits(r: Row) -> bool
-    ensures { λ b. ⌜ b ≡ markFits r ⌝ }
-{
-    let other = choose(
-        r.kind == PAYMENT,
-        between(CARD, r.mark, CHECK_RETURNED),
-        r.mark == 0,
-    );
-    choose(r.kind == TOLL, r.mark <= LAST_STAGE, other)
-}
-
-pub fn toll_words_fit(r: Row) -> bool
-    ensures { λ b. ⌜ b ≡ tollWordsFit r ⌝ }
-{
-    let toll = (r.dispute <= UPHELD) & between(1, r.reference, HIGHEST_PASSAGE);
-    choose(
-        r.kind == TOLL,
-        toll,
-        (r.due == 0) & (r.dispute == 0) & (r.hold == 0),
-    )
-}
-
-pub fn no_reference(r: Row) -> bool
-    ensures { λ b. ⌜ b ≡ noReference r ⌝ }
-{
-    implies((r.kind == PAYMENT) | (r.kind == REFUND), r.reference == 0)
-}
-
-pub fn row_day_fits(today: u64, r: Row) -> bool
+fn row_day_fits(today: u64, r: Row) -> bool
     ensures { λ b. ⌜ b ≡ rowDayFits today r ⌝ }
 {
     between(1, r.day, today)
 }
 
-pub fn due_fits(today: u64, stage: u64, r: Row) -> bool
-    requires { ⌜ (today ≤ finalDay) × (stage ≤ longestStage) ⌝ }
-    ensures { λ b. ⌜ b ≡ dueFits today stage r ⌝ }
+// ---- a toll
+
+fn stage_fits(r: Row) -> bool
+    requires { ⌜ r .kind ≡ Toll ⌝ }
+    ensures { λ b. ⌜ b ≡ markFits r ⌝ }
 {
-    let toll = r.kind == TOLL;
-    let open = (r.settled < r.amount) & !(toll & (r.dispute == HELD)) & (r.mark < LAST_STAGE);
-    implies(
-        toll,
-        (r.due <= today + stage) & choose(open, today < r.due, 1 <= r.due),
-    )
+    r.mark <= LAST_STAGE
 }
 
-// A hold that starts after today is met first, so that no sum on it wraps.
-pub fn hold_fits(today: u64, stage: u64, r: Row) -> bool
-    requires { ⌜ (today ≤ finalDay) × (stage ≤ longestStage) ⌝ }
+fn toll_words_fit(r: Row) -> bool
+    requires { ⌜ r .kind ≡ Toll ⌝ }
+    ensures { λ b. ⌜ b ≡ tollWordsFit r ⌝ }
+{
+    if r.dispute > UPHELD {
+        return false;
+    }
+    between(1, r.reference, HIGHEST_PASSAGE)
+}
+
+fn due_fits(today: u64, stage: u64, r: Row) -> bool
+    requires { ⌜ (r .kind ≡ Toll) × (today ≤ finalDay) × (stage ≤ longestStage) ⌝ }
+    ensures { λ b. ⌜ b ≡ dueFits today stage r ⌝ }
+{
+    if r.due > today + stage {
+        return false;
+    }
+    if r.settled >= r.amount {
+        return 1 <= r.due;
+    }
+    if r.dispute == HELD {
+        return 1 <= r.due;
+    }
+    if r.mark >= LAST_STAGE {
+        return 1 <= r.due;
+    }
+    today < r.due
+}
+
+// A hold that starts after today is met before the sums, so that none of them wraps.
+fn hold_fits(today: u64, stage: u64, r: Row) -> bool
+    requires { ⌜ (r .kind ≡ Toll) × (today ≤ finalDay) × (stage ≤ longestStage) ⌝ }
     ensures { λ b. ⌜ b ≡ holdFits today stage r ⌝ }
 {
+    if r.dispute != HELD {
+        return r.hold == 0;
+    }
     if r.hold > today {
-        return r.kind != TOLL;
+        return false;
     }
     let started = (1 <= r.hold) & (today <= r.hold + HOLD_LASTS) & (r.hold <= today);
     let after = implies(r.mark < LAST_STAGE, r.hold < r.due);
-    let held = started & (r.settled < r.amount) & (r.due <= r.hold + stage) & after;
-    implies(r.kind == TOLL, choose(r.dispute == HELD, held, r.hold == 0))
+    started & (r.settled < r.amount) & (r.due <= r.hold + stage) & after
 }
 
-// All that a row is tested for by itself.
+fn toll_fits(today: u64, stage: u64, r: Row) -> bool
+    requires { ⌜ (r .kind ≡ Toll) × (today ≤ finalDay) × (stage ≤ longestStage) ⌝ }
+    ensures { λ b. ⌜ b ≡ ownWords today stage r ⌝ }
+{
+    if !stage_fits(r) {
+        return false;
+    }
+    if !toll_words_fit(r) {
+        return false;
+    }
+    if !row_day_fits(today, r) {
+        return false;
+    }
+    if !due_fits(today, stage, r) {
+        return false;
+    }
+    hold_fits(today, stage, r)
+}
+
+// ---- another row
+
+fn method_fits(r: Row) -> bool
+    requires { ⌜ (r .kind ≡ Toll → ⊥) ⌝ }
+    ensures { λ b. ⌜ b ≡ markFits r ⌝ }
+{
+    if r.kind == PAYMENT {
+        return between(CARD, r.mark, CHECK_RETURNED);
+    }
+    r.mark == 0
+}
+
+fn no_toll_words(r: Row) -> bool
+    requires { ⌜ (r .kind ≡ Toll → ⊥) ⌝ }
+    ensures { λ b. ⌜ b ≡ tollWordsFit r ⌝ }
+{
+    (r.due == 0) & (r.dispute == 0) & (r.hold == 0)
+}
+
+fn no_reference(r: Row) -> bool
+    ensures { λ b. ⌜ b ≡ noReference r ⌝ }
+{
+    if r.kind == PAYMENT {
+        return r.reference == 0;
+    }
+    if r.kind == REFUND {
+        return r.reference == 0;
+    }
+    true
+}
+
+fn other_fits(today: u64, r: Row) -> bool
+    requires { ⌜ (r .kind ≡ Toll → ⊥) ⌝ }
+    ensures { λ b. ⌜ ((L : ℕ) → b ≡ ownWords today L r) ⌝ }
+{
+    if !method_fits(r) {
+        return false;
+    }
+    if !no_toll_words(r) {
+        return false;
+    }
+    if !no_reference(r) {
+        return false;
+    }
+    row_day_fits(today, r)
+}
+
+// ---- all that a row is tested for by itself
+
+fn own_words(today: u64, stage: u64, r: Row) -> bool
+    requires { ⌜ (today ≤ finalDay) × (stage ≤ longestStage) ⌝ }
+    ensures { λ b. ⌜ b ≡ ownWords today stage r ⌝ }
+{
+    if r.kind == TOLL {
+        return toll_fits(today, stage, r);
+    }
+    other_fits(today, r)
+}
+
 pub fn row_alone(today: u64, stage: u64, r: Row) -> bool
     requires { ⌜ (today ≤ finalDay) × (stage ≤ longestStage) ⌝ }
     ensures { λ b. ⌜ b ≡ rowAlone today stage r ⌝ }
 {
-    let amounts = kind_fits(r) & amount_fits(r) & settled_fits(r);
-    let words = amounts & mark_fits(r) & toll_words_fit(r) & no_reference(r);
-    words & row_day_fits(today, r) & due_fits(today, stage, r) & hold_fits(today, stage, r)
+    if !kind_fits(r) {
+        return false;
+    }
+    if !amount_fits(r) {
+        return false;
+    }
+    if !settled_fits(r) {
+        return false;
+    }
+    own_words(today, stage, r)
 }

@@ -6,19 +6,18 @@ use tables::codes::CREDIT;
 use tables::codes::FEE;
 use tables::codes::HELD;
 use tables::codes::PAYMENT;
-use tables::codes::REFUND;
-use tables::codes::REVERSAL;
 use tables::codes::TOLL;
 use tables::limits::MOST_ACCOUNTS;
+use tables::rows::kind_at;
 use tables::rows::read_row;
 use tables::rows::row_numbered;
 ghost use mathlib.Core.Path.{_≡_};
-ghost use mathlib.Core.Bool.{cond};
+ghost use mathlib.Core.Bool.{true, false, cond};
 ghost use Prim.Native.Nat.{_+_, _*_, _^_, _≤_, _<_};
 ghost use lib.ListN.{length, getD, set};
 ghost use Rattle.records.specs.Layout.{rowWidth};
-ghost use Rattle.records.specs.Encoding.{rowsOf};
-ghost use Rattle.rules.specs.Rows.{held};
+ghost use Rattle.records.specs.Encoding.{rowAt, rowsOf};
+ghost use Rattle.rules.specs.Rows.{source, held};
 ghost use Rattle.soundness.specs.Tallies.{Countable, SourceTallies, DebitTallies};
 
 // A sum for each account number, from 0 on.
@@ -43,36 +42,39 @@ fn is_held(journal: &[i64], used: usize, r: Row) -> bool
     requires { ⌜ used * rowWidth ≤ length (now journal) ⌝ }
     ensures { λ b. ⌜ b ≡ held (rowsOf (now (journal .entry)) used) r ⌝ }
 {
+    if r.kind == TOLL {
+        return r.dispute == HELD;
+    }
+    if r.kind != FEE {
+        return false;
+    }
     let named = row_numbered(journal, used, r.reference);
-    let own = (r.kind == TOLL) & (r.dispute == HELD);
-    own | ((r.kind == FEE) & ((named.kind == TOLL) & (named.dispute == HELD)))
+    (named.kind == TOLL) & (named.dispute == HELD)
 }
 
-// Row i as a source.
+// Row i, a source.
 fn add_source(
     journal: &[i64],
-    used: usize,
     i: usize,
     returned: &mut [u64; SEATS],
     drawn: &mut [u64; SEATS],
     money: &mut [u64; SEATS],
 )
-    requires { ⌜ Countable (now journal) used × (i < used) × SourceTallies (now journal) (now returned) (now drawn) (now money) i ⌝ }
+    requires { ⌜ Countable (now journal) (i + 1) × (source (rowAt (now journal) i) ≡ true) × SourceTallies (now journal) (now returned) (now drawn) (now money) i ⌝ }
     ensures { λ _. ⌜ SourceTallies (now (journal .entry)) (now (returned .exit)) (now (drawn .exit)) (now (money .exit)) (i + 1) ⌝ }
 {
     let r = read_row(journal, i);
     let a = r.account as usize;
-    let source = (r.kind == PAYMENT) | (r.kind == CREDIT);
     add(
         returned,
         a,
         part((r.kind == PAYMENT) & (r.mark == CHECK_RETURNED), 1),
     );
-    add(drawn, a, part(source, r.settled));
-    add(money, a, part(source, r.amount - r.settled));
+    add(drawn, a, r.settled);
+    add(money, a, r.amount - r.settled);
 }
 
-// Row i as a debit.
+// Row i, a debit.
 fn add_debit(
     journal: &[i64],
     used: usize,
@@ -81,16 +83,38 @@ fn add_debit(
     debt: &mut [u64; SEATS],
     owed: &mut [u64; SEATS],
 )
-    requires { ⌜ Countable (now journal) used × (i < used) × DebitTallies (now journal) used (now paid) (now debt) (now owed) i ⌝ }
+    requires { ⌜ Countable (now journal) used × (i < used) × (source (rowAt (now journal) i) ≡ false) × DebitTallies (now journal) used (now paid) (now debt) (now owed) i ⌝ }
     ensures { λ _. ⌜ DebitTallies (now (journal .entry)) used (now (paid .exit)) (now (debt .exit)) (now (owed .exit)) (i + 1) ⌝ }
 {
     let r = read_row(journal, i);
     let a = r.account as usize;
-    let debit = (r.kind == TOLL) | (r.kind == FEE) | (r.kind == REVERSAL) | (r.kind == REFUND);
     let left = r.amount - r.settled;
-    add(paid, a, part(debit, r.settled));
-    add(debt, a, part(debit & !is_held(journal, used, r), left));
-    add(owed, a, part(debit, left));
+    add(paid, a, r.settled);
+    add(debt, a, part(!is_held(journal, used, r), left));
+    add(owed, a, left);
+}
+
+// Row i to its account's sums.
+fn add_row(
+    journal: &[i64],
+    used: usize,
+    i: usize,
+    returned: &mut [u64; SEATS],
+    drawn: &mut [u64; SEATS],
+    money: &mut [u64; SEATS],
+    paid: &mut [u64; SEATS],
+    debt: &mut [u64; SEATS],
+    owed: &mut [u64; SEATS],
+)
+    requires { ⌜ Countable (now journal) used × (i < used) × SourceTallies (now journal) (now returned) (now drawn) (now money) i × DebitTallies (now journal) used (now paid) (now debt) (now owed) i ⌝ }
+    ensures { λ _. ⌜ SourceTallies (now (journal .entry)) (now (returned .exit)) (now (drawn .exit)) (now (money .exit)) (i + 1) × DebitTallies (now (journal .entry)) used (now (paid .exit)) (now (debt .exit)) (now (owed .exit)) (i + 1) ⌝ }
+{
+    let kind = kind_at(journal, i);
+    if (kind == PAYMENT) | (kind == CREDIT) {
+        add_source(journal, i, returned, drawn, money);
+        return;
+    }
+    add_debit(journal, used, i, paid, debt, owed);
 }
 
 // The used rows, each to its account's sums.
@@ -109,8 +133,7 @@ pub fn add_rows(
 {
     let mut i = 0;
     while i < used {
-        add_source(journal, used, i, returned, drawn, money);
-        add_debit(journal, used, i, paid, debt, owed);
+        add_row(journal, used, i, returned, drawn, money, paid, debt, owed);
         i += 1;
     }
 }

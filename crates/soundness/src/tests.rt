@@ -1,6 +1,5 @@
 // The words of the rules (lists' Tests) on values, without branches.
 ghost use mathlib.Core.Path.{_≡_};
-ghost use mathlib.Core.Bool.{cond};
 ghost use Rattle.lists.specs.Tests.{_from_to_, _implies_};
 
 pub fn between(low: u64, x: u64, high: u64) -> bool
@@ -13,10 +12,4 @@ pub fn implies(first: bool, second: bool) -> bool
     ensures { λ r. ⌜ r ≡ (first implies second) ⌝ }
 {
     !first | second
-}
-
-pub fn choose(test: bool, yes: bool, no: bool) -> bool
-    ensures { λ r. ⌜ r ≡ cond test yes no ⌝ }
-{
-    (test & yes) | (!test & no)
 }

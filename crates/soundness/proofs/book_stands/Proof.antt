@@ -1,3 +1,4 @@
+-- `book_stands` meets its contract: the first pass that finds something decides; rows that stand can be counted.
 use Rattle.soundness.proofs.SoundParts.{countable}
 use Rattle.soundness.specs.Clauses.{rowsStand, passagesDiffer, feesFew, bookStands}
 use Rattle.records.specs.Encoding.{rowsOf, accountsOf}

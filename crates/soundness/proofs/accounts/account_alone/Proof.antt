@@ -1,3 +1,4 @@
+-- `account_alone` meets its contract: five tests, from the left.
 use Rattle.soundness.specs.Accounts.{accountAlone}
 use Rattle.lists.proofs.TestLaws.{all-left}
 use mathlib.Core.List.{[], _∷_}

@@ -1,3 +1,4 @@
+-- `account_stands` meets its contract: both groups of tests, on the account that is read.
 use Rattle.soundness.specs.Accounts.{accountStands}
 use borrow.Author.Needs.{needs}
 use Rattle.soundness.proofs.accounts.account_stands.Statement.{statement}

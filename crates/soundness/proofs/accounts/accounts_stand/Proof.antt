@@ -1,3 +1,4 @@
+-- `accounts_stand` meets its contract: the sums are those of the definitions.
 use Rattle.soundness.proofs.AccountLaws.{all-stand}
 use Rattle.soundness.proofs.TallyLaws.{tallied-none}
 use Rattle.soundness.specs.Tallies.{returnOf, drawnOf, moneyOf, paidOf, debtOf, owedOf}

@@ -1,3 +1,4 @@
+-- `all_agree` meets its contract: the invariant is that every account passed stands; the measure is the accounts left.
 use borrow.Author.Needs.{needs}
 use Rattle.soundness.specs.Accounts.{accountStands, sumsAt, allAgree}
 use Rattle.lists.proofs.ListLaws.{every-tabulate, every-fails}

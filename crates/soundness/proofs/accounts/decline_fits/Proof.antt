@@ -1,3 +1,4 @@
+-- `decline_fits` meets its contract: it is the clause.
 use Rattle.rules.specs.Soundness.{declineFits}
 use Rattle.soundness.proofs.accounts.decline_fits.Statement.{statement}
 use Rattle.soundness.proofs.accounts.decline_fits.Tie as tie

@@ -1,3 +1,4 @@
+-- `request_fits` meets its contract: it is the clause.
 use Rattle.rules.specs.Soundness.{requestFits}
 use borrow.Author.Needs.{needs}
 use Rattle.soundness.proofs.accounts.request_fits.Statement.{statement}

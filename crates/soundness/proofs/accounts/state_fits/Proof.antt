@@ -1,3 +1,4 @@
+-- `state_fits` meets its contract: it is the clause.
 use Rattle.rules.specs.Soundness.{stateFits}
 use Rattle.soundness.proofs.accounts.state_fits.Statement.{statement}
 use Rattle.soundness.proofs.accounts.state_fits.Tie as tie

@@ -1,3 +1,4 @@
+-- `sums_agree` meets its contract: four tests, from the left.
 use Rattle.soundness.specs.Accounts.{sumsAgree}
 use Rattle.lists.proofs.TestLaws.{all-left}
 use lib.Dec.{eqb}

@@ -1,3 +1,4 @@
+-- `top_up_fits` meets its contract: it is the clause.
 use Rattle.rules.specs.Soundness.{topUpFits}
 use borrow.Author.Needs.{needs}
 use Rattle.soundness.proofs.accounts.top_up_fits.Statement.{statement}

@@ -1,3 +1,4 @@
+-- `unused_zero` meets its contract: it is the clause.
 use Rattle.rules.specs.Soundness.{unusedZero}
 use borrow.Author.Needs.{needs}
 use Rattle.soundness.proofs.accounts.unused_zero.Statement.{statement}

@@ -1,3 +1,4 @@
+-- `count_fee` meets its contract: a fee adds one to the count of the row that it names, and no other row adds any.
 use Rattle.soundness.proofs.FeeLaws.{fee-not, fee-far, fee-counted, fee-fits}
 use mathlib.Core.Path.{sym, _∙_}
 use native.Mathlib.Omega.{arith}

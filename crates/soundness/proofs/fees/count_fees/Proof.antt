@@ -1,3 +1,4 @@
+-- `count_fees` meets its contract: the invariant is that the counts are of the rows passed; the measure is the rows left.
 use borrow.Author.Needs.{needs}
 use Rattle.soundness.specs.Tallies.{Tallied, feeOf}
 use mathlib.Core.Path.{_≡_}

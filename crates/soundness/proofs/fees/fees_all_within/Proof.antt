@@ -1,3 +1,4 @@
+-- `fees_all_within` meets its contract: the invariant is that every row passed is within; the measure is the rows left.
 use borrow.Author.Needs.{needs}
 use Rattle.soundness.specs.Tallies.{feesWithin, feesAllWithin}
 use Rattle.lists.proofs.ListLaws.{every-tabulate, every-fails}

@@ -1,3 +1,4 @@
+-- `fees_few` meets its contract: the counts are those of the definition.
 use Rattle.soundness.proofs.FeeLaws.{fees-counted}
 use Rattle.soundness.proofs.TallyLaws.{tallied-none}
 use Rattle.soundness.specs.Tallies.{feeOf}

@@ -1,3 +1,4 @@
+-- `day_fits` meets its contract: it is the clause.
 use Rattle.rules.specs.Opening.{dayFits}
 use borrow.Author.Needs.{needs}
 use Rattle.soundness.proofs.header.day_fits.Statement.{statement}

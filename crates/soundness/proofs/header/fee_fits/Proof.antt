@@ -1,3 +1,4 @@
+-- `fee_fits` meets its contract: it is the clause on the word that is read.
 use borrow.Author.Needs.{needs}
 use Rattle.soundness.proofs.header.fee_fits.Statement.{statement}
 use Rattle.soundness.proofs.header.fee_fits.Tie as tie

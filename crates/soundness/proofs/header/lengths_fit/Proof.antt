@@ -1,3 +1,4 @@
+-- `lengths_fit` meets its contract: it is the clause on the tables' lengths.
 use Rattle.rules.specs.Tables.{lengthsFit, wholeRecords}
 use borrow.Author.Needs.{needs}
 use Rattle.soundness.proofs.header.lengths_fit.Statement.{statement}

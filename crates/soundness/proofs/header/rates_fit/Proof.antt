@@ -1,3 +1,4 @@
+-- `rates_fit` meets its contract: six words, each tested.
 use Rattle.rules.specs.Tables.{scheduleFrom}
 use Rattle.rules.specs.Schedule.{ratesFit}
 use borrow.Author.Needs.{needs}

@@ -1,3 +1,4 @@
+-- `schedule_fits` meets its contract: ten words, each tested.
 use Rattle.rules.specs.Tables.{scheduleFrom}
 use Rattle.rules.specs.Schedule.{scheduleFits}
 use borrow.Author.Needs.{needs}

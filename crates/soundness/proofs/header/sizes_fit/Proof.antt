@@ -1,3 +1,4 @@
+-- `sizes_fit` meets its contract: it is the clause.
 use Rattle.rules.specs.Opening.{sizesFit}
 use borrow.Author.Needs.{needs}
 use Rattle.soundness.proofs.header.sizes_fit.Statement.{statement}

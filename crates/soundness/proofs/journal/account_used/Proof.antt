@@ -1,3 +1,4 @@
+-- `account_used` meets its contract: it is the clause on the account that is looked up.
 use Rattle.rules.specs.Soundness.{accountUsed}
 use borrow.Author.Needs.{needs}
 use Rattle.soundness.proofs.journal.account_used.Statement.{statement}

@@ -1,3 +1,4 @@
+-- `later_rows_zero` meets its contract: the invariant is that the words from here on decide; the measure is the rows left.
 use borrow.Author.Needs.{needs}
 use Rattle.soundness.proofs.JournalLaws.{rest-more, rest-none}
 use Rattle.soundness.specs.Clauses.{emptyRow, restZero}

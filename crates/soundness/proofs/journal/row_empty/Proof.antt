@@ -1,3 +1,4 @@
+-- `row_empty` meets its contract: ten tests, from the left.
 use mathlib.Core.List.{[], _∷_}
 use Rattle.lists.proofs.TestLaws.{all-left}
 use Rattle.soundness.specs.Clauses.{emptyRow}

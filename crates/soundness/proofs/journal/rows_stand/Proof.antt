@@ -1,3 +1,4 @@
+-- `rows_stand` meets its contract: the invariant is that every row passed stands; the measure is the rows left.
 use borrow.Author.Needs.{needs}
 use Rattle.soundness.specs.Clauses.{rowStands, rowsStand}
 use Rattle.lists.proofs.ListLaws.{every-tabulate, every-fails}

@@ -1,3 +1,4 @@
+-- `mix` meets its contract: a remainder is below its divisor.
 use Rattle.soundness.specs.Trees.{mixOf}
 use mathlib.Core.Path.{refl}
 use native.Mathlib.Omega.{arith}

@@ -1,3 +1,4 @@
+-- `passages_differ` meets its contract: the invariant is that the trees hold the rows passed; the measure is the rows left.
 use borrow.Author.Needs.{needs}
 use Rattle.soundness.proofs.PassageLaws.{clean-differ}
 use Rattle.soundness.proofs.TreeLaws.{grown-none}

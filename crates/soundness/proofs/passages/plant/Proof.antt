@@ -1,3 +1,4 @@
+-- `plant` meets its contract: a row that is no toll leaves the trees; a toll grows them by its cell, or clashes.
 use Rattle.soundness.proofs.TreeLaws.{grown-skip, grown-add, taken-same}
 use mathlib.Core.Bool.{true≢false, false≢true}
 use mathlib.Core.Path.{sym, _∙_}

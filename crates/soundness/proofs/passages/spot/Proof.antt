@@ -1,3 +1,4 @@
+-- `spot` meets its contract: the invariant is the way down; the cells on it only grow, so the measure is the cells above.
 use borrow.Author.Needs.{needs}
 use Rattle.soundness.proofs.TreeLaws.{Way, way-start, way-row, way-next, way-taken, way-free}
 use lib.ListN.{getD}

@@ -1,3 +1,4 @@
+-- `amount_fits` meets its contract: it is the clause.
 use Rattle.rules.specs.Soundness.{amountFits}
 use borrow.Author.Needs.{needs}
 use Rattle.soundness.proofs.row.amount_fits.Statement.{statement}

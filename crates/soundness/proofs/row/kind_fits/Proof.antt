@@ -1,3 +1,4 @@
+-- `kind_fits` meets its contract: it is the clause.
 use Rattle.rules.specs.Soundness.{kindFits}
 use borrow.Author.Needs.{needs}
 use Rattle.soundness.proofs.row.kind_fits.Statement.{statement}

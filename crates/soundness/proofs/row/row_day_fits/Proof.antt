@@ -1,3 +1,4 @@
+-- `row_day_fits` meets its contract: it is the clause.
 use Rattle.rules.specs.Soundness.{rowDayFits}
 use borrow.Author.Needs.{needs}
 use Rattle.soundness.proofs.row.row_day_fits.Statement.{statement}

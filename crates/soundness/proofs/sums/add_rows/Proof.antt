@@ -1,3 +1,4 @@
+-- `add_rows` meets its contract: the invariant is that the sums are of the rows passed; the measure is the rows left.
 use borrow.Author.Needs.{needs}
 use Rattle.soundness.specs.Tallies.{SourceTallies, DebitTallies}
 use mathlib.Core.Path.{_≡_}
@@ -15,15 +16,10 @@ abbrev μ-loop : tie.MeasureT-loop
 loop-holds : tie.Need-loop-holds Inv-loop μ-loop
 loop-holds c = (omega arith, c .pre .1, c .pre .2)
 
-add-source-requires : tie.Need-add-source-requires Inv-loop μ-loop
-add-source-requires c κs =
-    let a = c .before .before .before .before in
-    (a .before .pre .0, c .before .before .before .loop-test .taken, a .loop .inv .1)
-
-add-debit-requires : tie.Need-add-debit-requires Inv-loop μ-loop
-add-debit-requires c κs =
-    let a = c .before .before .before .before .before .before .before .before in
-    (a .before .pre .0, omega arith, a .loop .inv .2)
+add-row-requires : tie.Need-add-row-requires Inv-loop μ-loop
+add-row-requires c κs =
+    let a = c .before .before .before .before .before .before .before in
+    (a .before .pre .0, omega arith, a .loop .inv .1, a .loop .inv .2)
 
 add-i : tie.Need-add-i Inv-loop μ-loop
 add-i c = search needs
@@ -32,7 +28,7 @@ loop-less : tie.Need-loop-less Inv-loop μ-loop
 loop-less c = search needs
 
 loop-again : tie.Need-loop-again Inv-loop μ-loop
-loop-again c = (omega arith, c .before .before .before .before .add-source .ensures, c .add-debit .ensures)
+loop-again c = (omega arith, c .add-row .ensures .0, c .add-row .ensures .1)
 
 returns : tie.Need-returns Inv-loop μ-loop
 returns c =
@@ -42,13 +38,4 @@ returns c =
 pub add-rows-spec : {M : Type 1} → statement M
 add-rows-spec =
     tie.close
-    (tie.spec
-    Inv-loop
-    μ-loop
-    loop-holds
-    add-source-requires
-    add-debit-requires
-    add-i
-    loop-less
-    loop-again
-    returns)
+    (tie.spec Inv-loop μ-loop loop-holds add-row-requires add-i loop-less loop-again returns)

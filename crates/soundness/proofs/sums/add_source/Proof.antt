@@ -1,6 +1,11 @@
-use Rattle.soundness.proofs.SumsLaws.{returned, share-return, share-drawn, share-money, one-small, settled-small, remaining-small, share-asked, share-added}
+-- `add_source` meets its contract: each of three sums takes the row's share, and the bounds keep it from wrapping.
+use Rattle.soundness.proofs.SumsLaws.{returnedCheck, share-return, share-drawn, share-money, one-small, settled-small, remaining-small, share-asked, share-added, whole}
 use Rattle.soundness.specs.Tallies.{returnOf, drawnOf, moneyOf}
 use Rattle.rules.specs.Rows.{remaining, source}
+use Prim.Native.Nat.{_+_}
+use native.Mathlib.Omega.{arith}
+use mathlib.Core.Bool.{true}
+use mathlib.Core.Path.{_≡_}
 use borrow.Author.Needs.{needs}
 use Rattle.soundness.proofs.sums.add_source.Statement.{statement}
 use Rattle.soundness.proofs.sums.add_source.Tie as tie
@@ -13,47 +18,45 @@ part-requires c κs = search needs
 
 add-requires : tie.Need-add-requires
 add-requires c κs =
-    let s = c .before .before .before .before .before .before .before in
-    let r = c .before .before .before .before .before .before in
-    share-asked returnOf returned (λ r. 1) share-return (s .args .journal .now) (s .args .returned .now) (s .args .i) (s .pre .2 .returns) (s .args .used) (s .pre .0) (s .pre .1)
-    (r .read-row .result) (r .read-row .ensures) (c .part .result) (c .part .ensures) (one-small (s .args .journal .now) (s .args .used) (s .pre .0))
-
-part-requires-2 : tie.Need-part-requires-2
-part-requires-2 c κs = search needs
+    let s = c .before .before .before .before .before in
+    let r = c .before .before .before .before in
+    let e : source (r .read-row .result) ≡ true = rw (r .read-row .ensures) (s .pre .1) in
+    share-asked returnOf returnedCheck (λ r. 1) share-return (s .args .journal .now) (s .args .returned .now) (s .args .i) (s .pre .2 .returns) (s .args .i + 1) (s .pre .0) (omega arith)
+    (r .read-row .result) (r .read-row .ensures) (c .part .result) (c .part .ensures) (one-small (s .args .journal .now) (s .args .i + 1) (s .pre .0))
 
 add-requires-2 : tie.Need-add-requires-2
 add-requires-2 c κs =
+    let s = c .before .before .before .before .before .before .before in
+    let r = c .before .before .before .before .before .before in
+    let e : source (r .read-row .result) ≡ true = rw (r .read-row .ensures) (s .pre .1) in
+    share-asked drawnOf source (λ r. r .settled) share-drawn (s .args .journal .now) (s .args .drawn .now) (s .args .i) (s .pre .2 .draws) (s .args .i + 1) (s .pre .0) (omega arith)
+    (r .read-row .result) (r .read-row .ensures) (r .read-row .result .settled) (whole _ (r .read-row .result .settled) e) (settled-small (s .args .journal .now) (s .args .i + 1) (s .pre .0))
+
+sub-add : tie.Need-sub-add
+sub-add c =
     let s = c .before .before .before .before .before .before .before .before .before .before in
-    let r = c .before .before .before .before .before .before .before .before .before in
-    share-asked drawnOf source (λ r. r .settled) share-drawn (s .args .journal .now) (s .args .drawn .now) (s .args .i) (s .pre .2 .draws) (s .args .used) (s .pre .0) (s .pre .1)
-    (r .read-row .result) (r .read-row .ensures) (c .part2 .result) (c .part2 .ensures) (settled-small (s .args .journal .now) (s .args .used) (s .pre .0))
-
-sub-part : tie.Need-sub-part
-sub-part c =
-    let s = c .before .before .before .before .before .before .before .before .before .before .before .before .before in
-    rw (c .before .before .before .before .before .before .before .before .before .before .before .before .read-row .ensures) (s .pre .0 .settled (s .args .i) (s .pre .1))
-
-part-requires-3 : tie.Need-part-requires-3
-part-requires-3 c κs = search needs
+    rw (c .before .before .before .before .before .before .before .before .before .read-row .ensures) (s .pre .0 .settled (s .args .i) (omega arith))
 
 add-requires-3 : tie.Need-add-requires-3
 add-requires-3 c κs =
-    let s = c .before .before .before .before .before .before .before .before .before .before .before .before .before .before in
-    let r = c .before .before .before .before .before .before .before .before .before .before .before .before .before in
-    share-asked moneyOf source remaining share-money (s .args .journal .now) (s .args .money .now) (s .args .i) (s .pre .2 .moneys) (s .args .used) (s .pre .0) (s .pre .1)
-    (r .read-row .result) (r .read-row .ensures) (c .part3 .result) (c .part3 .ensures) (remaining-small (s .args .journal .now) (s .args .used) (s .pre .0))
+    let s = c .before .before .before .before .before .before .before .before .before .before in
+    let r = c .before .before .before .before .before .before .before .before .before in
+    let e : source (r .read-row .result) ≡ true = rw (r .read-row .ensures) (s .pre .1) in
+    share-asked moneyOf source remaining share-money (s .args .journal .now) (s .args .money .now) (s .args .i) (s .pre .2 .moneys) (s .args .i + 1) (s .pre .0) (omega arith)
+    (r .read-row .result) (r .read-row .ensures) (remaining (r .read-row .result)) (whole _ (remaining (r .read-row .result)) e) (remaining-small (s .args .journal .now) (s .args .i + 1) (s .pre .0))
 
 returns : tie.Need-returns
 returns c =
-    let s = c .before .before .before .before .before .before .before .before .before .before .before .before .before .before .before in
-    let r = c .before .before .before .before .before .before .before .before .before .before .before .before .before .before in
+    let s = c .before .before .before .before .before .before .before .before .before .before .before in
+    let r = c .before .before .before .before .before .before .before .before .before .before in
+    let e : source (r .read-row .result) ≡ true = rw (r .read-row .ensures) (s .pre .1) in
     record {
-      returns = share-added returnOf returned (λ r. 1) share-return (s .args .journal .now) (s .args .returned .now) (s .args .i) (s .pre .2 .returns) (s .args .used) (s .pre .0) (s .pre .1)
-          (r .read-row .result) (r .read-row .ensures) (c .before .before .before .before .before .before .before .before .part .result) (c .before .before .before .before .before .before .before .before .part .ensures) _ (c .before .before .before .before .before .before .before .add .ensures);
-      draws = share-added drawnOf source (λ r. r .settled) share-drawn (s .args .journal .now) (s .args .drawn .now) (s .args .i) (s .pre .2 .draws) (s .args .used) (s .pre .0) (s .pre .1)
-          (r .read-row .result) (r .read-row .ensures) (c .before .before .before .before .before .part2 .result) (c .before .before .before .before .before .part2 .ensures) _ (c .before .before .before .before .add2 .ensures);
-      moneys = share-added moneyOf source remaining share-money (s .args .journal .now) (s .args .money .now) (s .args .i) (s .pre .2 .moneys) (s .args .used) (s .pre .0) (s .pre .1)
-          (r .read-row .result) (r .read-row .ensures) (c .before .part3 .result) (c .before .part3 .ensures) _ (c .add3 .ensures);
+      returns = share-added returnOf returnedCheck (λ r. 1) share-return (s .args .journal .now) (s .args .returned .now) (s .args .i) (s .pre .2 .returns) (s .args .i + 1) (s .pre .0) (omega arith)
+          (r .read-row .result) (r .read-row .ensures) (c .before .before .before .before .before .before .part .result) (c .before .before .before .before .before .before .part .ensures) _ (c .before .before .before .before .before .add .ensures);
+      draws = share-added drawnOf source (λ r. r .settled) share-drawn (s .args .journal .now) (s .args .drawn .now) (s .args .i) (s .pre .2 .draws) (s .args .i + 1) (s .pre .0) (omega arith)
+          (r .read-row .result) (r .read-row .ensures) (r .read-row .result .settled) (whole _ (r .read-row .result .settled) e) _ (c .before .before .before .add2 .ensures);
+      moneys = share-added moneyOf source remaining share-money (s .args .journal .now) (s .args .money .now) (s .args .i) (s .pre .2 .moneys) (s .args .i + 1) (s .pre .0) (omega arith)
+          (r .read-row .result) (r .read-row .ensures) (remaining (r .read-row .result)) (whole _ (remaining (r .read-row .result)) e) _ (c .add3 .ensures);
     }
 
 pub add-source-spec : {M : Type 1} → statement M
@@ -63,9 +66,7 @@ add-source-spec =
     read-row-requires
     part-requires
     add-requires
-    part-requires-2
     add-requires-2
-    sub-part
-    part-requires-3
+    sub-add
     add-requires-3
     returns)

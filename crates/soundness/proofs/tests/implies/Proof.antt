@@ -1,3 +1,4 @@
+-- `implies` meets its contract: by the cases of the first test.
 use Rattle.lists.proofs.TestLaws.{or-implies}
 use Rattle.soundness.proofs.tests.implies.Statement.{statement}
 use Rattle.soundness.proofs.tests.implies.Tie as tie

@@ -1,3 +1,4 @@
+-- `account_numbered` meets its contract: a number past the table names none; another names the account before it, counted from 0.
 use Rattle.lists.proofs.ListLaws.{numbered-at, numbered-past}
 use Rattle.rules.specs.Book.{unused}
 use Rattle.records.specs.Encoding.{accountAt}

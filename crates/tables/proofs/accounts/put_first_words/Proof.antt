@@ -1,3 +1,4 @@
+-- `put_first_words` meets its contract: four stores, in the layout's order.
 use Rattle.tables.specs.Changes.{putAll}
 use Rattle.records.specs.Encoding.{accountWords}
 use borrow.Author.Needs.{needs}

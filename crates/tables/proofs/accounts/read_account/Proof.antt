@@ -1,3 +1,4 @@
+-- `read_account` meets its contract: seven words, read in the layout's order.
 use Rattle.records.specs.Encoding.{accountFrom}
 use borrow.Author.Needs.{needs}
 use Rattle.tables.proofs.accounts.read_account.Statement.{statement}

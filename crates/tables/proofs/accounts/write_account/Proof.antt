@@ -1,3 +1,4 @@
+-- `write_account` meets its contract: seven words put from the account's first are that account, and no other account has one of them.
 use Rattle.tables.proofs.ChangeLaws.{account-changed}
 use Rattle.tables.specs.Changes.{putAll}
 use Rattle.records.specs.Encoding.{accountWords}

@@ -1,3 +1,4 @@
+-- `kind_at` meets its contract: the word is the row's field.
 use Rattle.records.specs.Encoding.{rowFrom}
 use borrow.Author.Needs.{needs}
 use Rattle.tables.proofs.rows.kind_at.Statement.{statement}

@@ -1,3 +1,4 @@
+-- `put_first_words` meets its contract: five stores, in the layout's order.
 use Rattle.tables.specs.Changes.{putAll}
 use Rattle.records.specs.Encoding.{rowWords}
 use borrow.Author.Needs.{needs}

@@ -1,3 +1,4 @@
+-- `put_settled` meets its contract: one word of the row is put, and no other row has it.
 use Rattle.tables.proofs.ChangeLaws.{settled-changed}
 use borrow.Author.Needs.{needs}
 use Rattle.tables.proofs.rows.put_settled.Statement.{statement}

@@ -1,3 +1,4 @@
+-- `read_row` meets its contract: ten words, read in the layout's order.
 use Rattle.records.specs.Encoding.{rowFrom}
 use borrow.Author.Needs.{needs}
 use Rattle.tables.proofs.rows.read_row.Statement.{statement}

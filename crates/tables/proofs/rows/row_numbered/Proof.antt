@@ -1,3 +1,4 @@
+-- `row_numbered` meets its contract: a number past the used rows names none; another names the row before it, counted from 0.
 use Rattle.lists.proofs.ListLaws.{numbered-at, numbered-past}
 use Rattle.rules.specs.Rows.{blank}
 use Rattle.records.specs.Encoding.{rowAt}

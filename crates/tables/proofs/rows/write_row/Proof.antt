@@ -1,3 +1,4 @@
+-- `write_row` meets its contract: ten words put from the row's first are that row, and no other row has one of them.
 use Rattle.tables.proofs.ChangeLaws.{row-changed}
 use Rattle.tables.specs.Changes.{putAll}
 use Rattle.records.specs.Encoding.{rowWords}

@@ -1,3 +1,4 @@
+-- `get` meets its contract: the word that was read is natural's argument.
 use Rattle.records.specs.Encoding.{natOf, word}
 use borrow.Author.Needs.{needs, sfits-of}
 use mir.Facts.{toZ-ofZ}

@@ -1,3 +1,4 @@
+-- `minus` meets its contract: the difference of two numbers that a word holds fits a word.
 use Rattle.tables.proofs.WordLaws.{difference-fits}
 use Rattle.rules.specs.Book.{less}
 use mir.Facts.{toZ-ofZ}

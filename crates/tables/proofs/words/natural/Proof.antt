@@ -1,3 +1,4 @@
+-- `natural` meets its contract: each way through the test is the definition's; a signed local is its bits, read back.
 use Rattle.tables.proofs.WordLaws.{is-negative, not-negative, cast-fits}
 use mir.Facts.{toZ-ofZ}
 use Rattle.tables.proofs.words.natural.Statement.{statement}

@@ -1,3 +1,4 @@
+-- `put` meets its contract: a number below 2 ^ 63 is itself as a signed word.
 use mir.ValLaws.{toZ-pos}
 use mir.Syntax.{w64}
 use borrow.Author.Needs.{needs}
