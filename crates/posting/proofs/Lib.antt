@@ -1,0 +1,7 @@
+pub mod AmountLaws
+pub mod BookLaws
+pub mod RateLaws
+pub mod TopUpLaws
+pub mod WrittenLaws
+pub mod RefusalLaws
+pub mod AddedLaws
