@@ -159,3 +159,10 @@ append-at P (x ∷ xs) ys d f g zero h = f 0 (omega arith)
 append-at P (x ∷ xs) ys d f g (suc k) h =
     append-at (λ j y. P (suc j) y) xs ys d (λ j l. f (suc j) (omega arith))
     (λ j l. let z : suc (length xs) + j ≡ suc (length xs + j) = omega arith in rw z at (g j l)) k (omega arith)
+
+-- ---- zeros
+
+pub zeros : (a h : ℕ) → _≡_ {A = ℕ} (getD (replicate a 0) h 0) 0
+zeros zero h = refl
+zeros (suc a) zero = refl
+zeros (suc a) (suc h) = zeros a h

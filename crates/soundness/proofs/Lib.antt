@@ -1,9 +1,1 @@
-pub mod RowLaws
-pub mod JournalLaws
-pub mod PassageLaws
-pub mod TreeLaws
-pub mod TallyLaws
-pub mod FeeLaws
-pub mod SumsLaws
-pub mod AccountLaws
 pub mod SoundParts

@@ -22,9 +22,12 @@ use Rattle.rules.specs.Opening.{dayFits, sizesFit}
 use Rattle.rules.specs.Soundness.{kindFits, mostOf, amountFits, settledFits, accountUsed, referenceFits, passageOnce, feesFit, rowSound, returnedFits, even, spent, closedClear, accountSound, sound}
 use Rattle.rules.specs.Tables.{Tables, accountsIn, roomIn, rowsUsed, scheduleFrom, bookOf, wholeRecords, lengthsFit, usedFits, laterRowsZero, soundTables}
 use Rattle.rules.proofs.StorableLaws.{mostOf-le, used-inside, between-le, schedule-storable}
-use Rattle.soundness.specs.Clauses.{ownWords, rowAlone, rowStands, rowsStand, passagesDiffer, feesFew, restZero, bookStands, tablesOn, Bounds}
-use Rattle.soundness.specs.Accounts.{accountAlone, sumsAgree, accountStands, sumsOf, allAgree, accountsStand}
-use Rattle.soundness.specs.Tallies.{Countable}
+use Rattle.sound_rows.specs.Clauses.{ownWords, rowAlone, rowStands, rowsStand, restZero, tablesOn, Bounds}
+use Rattle.sound_passages.specs.Trees.{passagesDiffer}
+use Rattle.sound_sums.specs.Tallies.{feesFew}
+use Rattle.soundness.specs.Book.{bookStands}
+use Rattle.sound_sums.specs.Accounts.{accountAlone, sumsAgree, accountStands, sumsOf, allAgree, accountsStand}
+use Rattle.sound_sums.specs.Tallies.{Countable}
 
 -- ---- rows and accounts
 

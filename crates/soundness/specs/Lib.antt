@@ -1,4 +1,1 @@
-pub mod Clauses
-pub mod Trees
-pub mod Tallies
-pub mod Accounts
+pub mod Book

@@ -1,22 +1,13 @@
 // The check of a whole book: whether three lent tables of any lengths and contents are sound, in time that grows with the rows and
-// accounts. Each clause of rules' Soundness is a function with that clause as its contract. Uses lists, records, rules and tables.
-mod tests; // tests.rt: conjunctions and cases without branches
-pub mod header; // header.rt: the lengths and the header
-mod row; // row.rt: a row by itself
-mod journal; // journal.rt: the rows' own clauses, and the words past the used rows
-mod passages; // passages.rt: passage numbers differ
-mod fees; // fees.rt: the fees of each toll
-mod sums; // sums.rt: the sums of each account
-mod accounts; // accounts.rt: the accounts
-
-use accounts::accounts_stand;
-use fees::fees_few;
-use header::day_fits;
-use header::lengths_fit;
-use header::schedule_fits;
-use journal::later_rows_zero;
-use journal::rows_stand;
-use passages::passages_differ;
+// accounts. Uses lists, records, rules, tables and the crates of its clauses.
+use sound_passages::passages::passages_differ;
+use sound_rows::header::day_fits;
+use sound_rows::header::lengths_fit;
+use sound_rows::header::schedule_fits;
+use sound_rows::journal::later_rows_zero;
+use sound_rows::journal::rows_stand;
+use sound_sums::accounts::accounts_stand;
+use sound_sums::fees::fees_few;
 use tables::layout::ACCOUNT_WIDTH;
 use tables::layout::DAY_PLACE;
 use tables::layout::HEADER_SCHEDULE;
@@ -30,7 +21,8 @@ ghost use lib.ListN.{length};
 ghost use Rattle.records.specs.Layout.{rowWidth};
 ghost use Rattle.records.specs.Encoding.{rowsOf, accountsOf};
 ghost use Rattle.rules.specs.Tables.{soundTables};
-ghost use Rattle.soundness.specs.Clauses.{tablesOn, Bounds, bookStands};
+ghost use Rattle.sound_rows.specs.Clauses.{tablesOn, Bounds};
+ghost use Rattle.soundness.specs.Book.{bookStands};
 
 // The used rows and the accounts, once the lengths and the header are found fit. Each pass starts only where the ones before it found
 // nothing, so the sums are of amounts that are known to be small.

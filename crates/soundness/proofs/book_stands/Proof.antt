@@ -1,6 +1,9 @@
 -- `book_stands` meets its contract: the first pass that finds something decides; rows that stand can be counted.
 use Rattle.soundness.proofs.SoundParts.{countable}
-use Rattle.soundness.specs.Clauses.{rowsStand, passagesDiffer, feesFew, bookStands}
+use Rattle.sound_rows.specs.Clauses.{rowsStand}
+use Rattle.sound_passages.specs.Trees.{passagesDiffer}
+use Rattle.sound_sums.specs.Tallies.{feesFew}
+use Rattle.soundness.specs.Book.{bookStands}
 use Rattle.records.specs.Encoding.{rowsOf, accountsOf}
 use Rattle.lists.specs.Tests.{allOf}
 use borrow.Author.Tests.{not-true, not-false}

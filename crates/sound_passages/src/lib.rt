@@ -1,0 +1,3 @@
+// The clause of soundness on passage numbers: no two tolls of the journal have the same, in time that grows with the rows. Uses lists,
+// records, rules and tables.
+pub mod passages; // passages.rt: passage numbers differ

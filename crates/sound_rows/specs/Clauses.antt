@@ -1,0 +1,59 @@
+-- The clauses of soundness on single rows, in the groups in which the code tests them.
+use mathlib.Core.Bool.{Bool}
+use Prim.Native.Nat.{ℕ, _+_, _*_, _≤_}
+use mathlib.Core.List.{List, [], _∷_}
+use lib.IntN.{ℤ}
+use lib.ListN.{length, drop}
+use lib.Dec.{eqb}
+use Rattle.lists.specs.Tests.{allOf}
+use Rattle.lists.specs.Lists.{every}
+use Rattle.records.specs.Layout.{rowWidth, accountWidth}
+use Rattle.rules.specs.Limits.{finalDay, longestStage, mostAccounts, mostRows}
+use Rattle.rules.specs.Rows.{Row}
+use Rattle.rules.specs.Book.{Account}
+use Rattle.rules.specs.Soundness.{kindFits, amountFits, settledFits, markFits, tollWordsFit, noReference, rowDayFits, dueFits, holdFits, accountUsed, referenceFits}
+use Rattle.rules.specs.Tables.{Tables, zeroWord}
+
+-- a row by itself: the words that differ from kind to kind, and all
+unfoldable pub ownWords : ℕ → ℕ → Row → Bool
+ownWords today L r = allOf
+    (markFits r ∷ tollWordsFit r ∷ noReference r ∷ rowDayFits today r ∷ dueFits today L r ∷ holdFits today L r ∷ [])
+
+unfoldable pub rowAlone : ℕ → ℕ → Row → Bool
+rowAlone today L r = allOf (kindFits r ∷ amountFits r ∷ settledFits r ∷ ownWords today L r ∷ [])
+
+-- and with the account and the row that it names
+unfoldable pub rowStands : List Account → List Row → ℕ → ℕ → ℕ → Row → Bool
+rowStands xs rows today L n r = allOf (rowAlone today L r ∷ accountUsed xs r ∷ referenceFits rows n r ∷ [])
+
+unfoldable pub rowsStand : List Account → List Row → ℕ → ℕ → Bool
+rowsStand xs rows today L = every (rowStands xs rows today L) rows
+
+-- what the lengths and the header have shown before any row is read
+pub record Bounds (accounts journal : List ℤ) (count used today stage : ℕ) : Type 0 where
+  pub room : used * rowWidth ≤ length journal
+  pub few : used ≤ mostRows
+  pub seats : count * accountWidth ≤ length accounts
+  pub fewer : count ≤ mostAccounts
+  pub day : today ≤ finalDay
+  pub length : stage ≤ longestStage
+
+-- ---- "later rows .. are all 0"
+
+unfoldable pub emptyRow : Row → Bool
+emptyRow r = allOf
+    (eqb (r .kind) 0 ∷ eqb (r .account) 0 ∷ eqb (r .day) 0 ∷ eqb (r .amount) 0 ∷ eqb (r .settled) 0
+    ∷ eqb (r .mark) 0 ∷ eqb (r .due) 0 ∷ eqb (r .dispute) 0 ∷ eqb (r .hold) 0 ∷ eqb (r .reference) 0 ∷ [])
+
+unfoldable pub restZero : List ℤ → ℕ → Bool
+restZero journal used = every zeroWord (drop (used * rowWidth) journal)
+
+-- ---- the lent tables
+
+-- the three lent tables
+abbrev pub tablesOn : List ℤ → List ℤ → List ℤ → Tables
+tablesOn h a j = record { header = h; accounts = a; journal = j }
+
+-- ten words of a schedule from place p on
+abbrev pub ScheduleIn : List ℤ → ℕ → Type 0
+ScheduleIn t p = p + 10 ≤ length t

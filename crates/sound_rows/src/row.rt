@@ -1,0 +1,222 @@
+// A row by itself: each clause of rules' Soundness that looks at one row and the day. Each test returns at once, so that a sound
+// row costs one well-predicted branch a test; tolls and other rows part at once, since they share few tests.
+use super::tests::between;
+use super::tests::implies;
+use records::Row;
+use tables::codes::CARD;
+use tables::codes::CHECK_RETURNED;
+use tables::codes::HELD;
+use tables::codes::LAST_STAGE;
+use tables::codes::PAYMENT;
+use tables::codes::REFUND;
+use tables::codes::TOLL;
+use tables::codes::UPHELD;
+use tables::limits::HIGHEST_CREDIT;
+use tables::limits::HIGHEST_FEE;
+use tables::limits::HIGHEST_PASSAGE;
+use tables::limits::HIGHEST_PAYMENT;
+use tables::limits::HIGHEST_RATE;
+use tables::limits::HIGHEST_REFUND;
+ghost use mathlib.Core.Path.{_≡_};
+ghost use Prim.Native.Nat.{ℕ, _≤_};
+ghost use Rattle.rules.specs.Limits.{finalDay, longestStage};
+ghost use Rattle.rules.specs.Rows.{Toll};
+ghost use Rattle.rules.specs.Soundness.{kindFits, mostOf, amountFits, settledFits, markFits, tollWordsFit, noReference, rowDayFits, dueFits, holdFits};
+ghost use Rattle.sound_rows.specs.Clauses.{ownWords, rowAlone};
+
+// The last day of a hold is its 29th after the start: the tick to the 30th ends it.
+const HOLD_LASTS: u64 = 29;
+
+// ---- every row
+
+fn kind_fits(r: Row) -> bool
+    ensures { λ b. ⌜ b ≡ kindFits r ⌝ }
+{
+    between(TOLL, r.kind, REFUND)
+}
+
+fn most_of(kind: u64) -> u64
+    ensures { λ n. ⌜ n ≡ mostOf kind ⌝ }
+{
+    match kind {
+        1 => HIGHEST_RATE,
+        2 => HIGHEST_FEE,
+        3 => HIGHEST_PAYMENT,
+        4 => HIGHEST_PAYMENT,
+        5 => HIGHEST_CREDIT,
+        6 => HIGHEST_REFUND,
+        _ => 0,
+    }
+}
+
+fn amount_fits(r: Row) -> bool
+    ensures { λ b. ⌜ b ≡ amountFits r ⌝ }
+{
+    between(1, r.amount, most_of(r.kind))
+}
+
+fn settled_fits(r: Row) -> bool
+    ensures { λ b. ⌜ b ≡ settledFits r ⌝ }
+{
+    if r.settled > r.amount {
+        return false;
+    }
+    if r.kind != REFUND {
+        return true;
+    }
+    r.settled == r.amount
+}
+
+fn row_day_fits(today: u64, r: Row) -> bool
+    ensures { λ b. ⌜ b ≡ rowDayFits today r ⌝ }
+{
+    between(1, r.day, today)
+}
+
+// ---- a toll
+
+fn stage_fits(r: Row) -> bool
+    requires { ⌜ r .kind ≡ Toll ⌝ }
+    ensures { λ b. ⌜ b ≡ markFits r ⌝ }
+{
+    r.mark <= LAST_STAGE
+}
+
+fn toll_words_fit(r: Row) -> bool
+    requires { ⌜ r .kind ≡ Toll ⌝ }
+    ensures { λ b. ⌜ b ≡ tollWordsFit r ⌝ }
+{
+    if r.dispute > UPHELD {
+        return false;
+    }
+    between(1, r.reference, HIGHEST_PASSAGE)
+}
+
+fn due_fits(today: u64, stage: u64, r: Row) -> bool
+    requires { ⌜ (r .kind ≡ Toll) × (today ≤ finalDay) × (stage ≤ longestStage) ⌝ }
+    ensures { λ b. ⌜ b ≡ dueFits today stage r ⌝ }
+{
+    if r.due > today + stage {
+        return false;
+    }
+    if r.settled >= r.amount {
+        return 1 <= r.due;
+    }
+    if r.dispute == HELD {
+        return 1 <= r.due;
+    }
+    if r.mark >= LAST_STAGE {
+        return 1 <= r.due;
+    }
+    today < r.due
+}
+
+// A hold that starts after today is met before the sums, so that none of them wraps.
+fn hold_fits(today: u64, stage: u64, r: Row) -> bool
+    requires { ⌜ (r .kind ≡ Toll) × (today ≤ finalDay) × (stage ≤ longestStage) ⌝ }
+    ensures { λ b. ⌜ b ≡ holdFits today stage r ⌝ }
+{
+    if r.dispute != HELD {
+        return r.hold == 0;
+    }
+    if r.hold > today {
+        return false;
+    }
+    let started = (1 <= r.hold) & (today <= r.hold + HOLD_LASTS) & (r.hold <= today);
+    let after = implies(r.mark < LAST_STAGE, r.hold < r.due);
+    started & (r.settled < r.amount) & (r.due <= r.hold + stage) & after
+}
+
+fn toll_fits(today: u64, stage: u64, r: Row) -> bool
+    requires { ⌜ (r .kind ≡ Toll) × (today ≤ finalDay) × (stage ≤ longestStage) ⌝ }
+    ensures { λ b. ⌜ b ≡ ownWords today stage r ⌝ }
+{
+    if !stage_fits(r) {
+        return false;
+    }
+    if !toll_words_fit(r) {
+        return false;
+    }
+    if !row_day_fits(today, r) {
+        return false;
+    }
+    if !due_fits(today, stage, r) {
+        return false;
+    }
+    hold_fits(today, stage, r)
+}
+
+// ---- another row
+
+fn method_fits(r: Row) -> bool
+    requires { ⌜ (r .kind ≡ Toll → ⊥) ⌝ }
+    ensures { λ b. ⌜ b ≡ markFits r ⌝ }
+{
+    if r.kind == PAYMENT {
+        return between(CARD, r.mark, CHECK_RETURNED);
+    }
+    r.mark == 0
+}
+
+fn no_toll_words(r: Row) -> bool
+    requires { ⌜ (r .kind ≡ Toll → ⊥) ⌝ }
+    ensures { λ b. ⌜ b ≡ tollWordsFit r ⌝ }
+{
+    (r.due == 0) & (r.dispute == 0) & (r.hold == 0)
+}
+
+fn no_reference(r: Row) -> bool
+    ensures { λ b. ⌜ b ≡ noReference r ⌝ }
+{
+    if r.kind == PAYMENT {
+        return r.reference == 0;
+    }
+    if r.kind == REFUND {
+        return r.reference == 0;
+    }
+    true
+}
+
+fn other_fits(today: u64, r: Row) -> bool
+    requires { ⌜ (r .kind ≡ Toll → ⊥) ⌝ }
+    ensures { λ b. ⌜ ((L : ℕ) → b ≡ ownWords today L r) ⌝ }
+{
+    if !method_fits(r) {
+        return false;
+    }
+    if !no_toll_words(r) {
+        return false;
+    }
+    if !no_reference(r) {
+        return false;
+    }
+    row_day_fits(today, r)
+}
+
+// ---- all that a row is tested for by itself
+
+fn own_words(today: u64, stage: u64, r: Row) -> bool
+    requires { ⌜ (today ≤ finalDay) × (stage ≤ longestStage) ⌝ }
+    ensures { λ b. ⌜ b ≡ ownWords today stage r ⌝ }
+{
+    if r.kind == TOLL {
+        return toll_fits(today, stage, r);
+    }
+    other_fits(today, r)
+}
+
+pub fn row_alone(today: u64, stage: u64, r: Row) -> bool
+    requires { ⌜ (today ≤ finalDay) × (stage ≤ longestStage) ⌝ }
+    ensures { λ b. ⌜ b ≡ rowAlone today stage r ⌝ }
+{
+    if !kind_fits(r) {
+        return false;
+    }
+    if !amount_fits(r) {
+        return false;
+    }
+    if !settled_fits(r) {
+        return false;
+    }
+    own_words(today, stage, r)
+}

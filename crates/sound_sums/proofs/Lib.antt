@@ -1,0 +1,4 @@
+pub mod TallyLaws
+pub mod FeeLaws
+pub mod SumsLaws
+pub mod AccountLaws

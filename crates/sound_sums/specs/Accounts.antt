@@ -1,0 +1,53 @@
+-- The clauses on accounts in the groups in which the code tests them.
+use mathlib.Core.Bool.{Bool, _&&_, _||_}
+use Prim.Native.Nat.{ℕ}
+use mathlib.Core.List.{List, [], _∷_}
+use lib.Dec.{eqb}
+use lib.ListN.{getD}
+use Rattle.lists.specs.Tests.{_is_, _implies_, allOf}
+use Rattle.lists.specs.Lists.{count, every}
+use Rattle.rules.specs.Rows.{Row}
+use Rattle.rules.specs.Settlement.{money, debt, used, paid, owed}
+use Rattle.rules.specs.Book.{Account, Closed}
+use Rattle.rules.specs.Soundness.{stateFits, unusedZero, requestFits, topUpFits, declineFits, returnedOf}
+use Rattle.sound_sums.specs.declared.accounts.Sums.{Sums}
+
+-- an account by itself
+unfoldable pub accountAlone : ℕ → Account → Bool
+accountAlone today x = allOf (stateFits x ∷ unusedZero x ∷ requestFits today x ∷ topUpFits x ∷ declineFits today x ∷ [])
+
+-- an account and the sums of its rows
+unfoldable pub sumsAgree : Account → Sums → Bool
+sumsAgree x s = allOf
+    (eqb (x .returned) (s .returned) ∷ eqb (s .drawn) (s .paid) ∷ (s .money is 0 || s .debt is 0)
+    ∷ (x .state is Closed implies s .money is 0 && s .owed is 0) ∷ [])
+
+unfoldable pub accountStands : ℕ → Sums → Account → Bool
+accountStands today s x = accountAlone today x && sumsAgree x s
+
+-- the sums of account n, in arrays and by the definitions
+unfoldable pub sumsAt : List ℕ → List ℕ → List ℕ → List ℕ → List ℕ → List ℕ → ℕ → Sums
+sumsAt returned drawn money paid debt owed n = record {
+  returned = getD returned n 0;
+  drawn = getD drawn n 0;
+  money = getD money n 0;
+  paid = getD paid n 0;
+  debt = getD debt n 0;
+  owed = getD owed n 0;
+}
+
+unfoldable pub sumsOf : List Row → ℕ → Sums
+sumsOf rows n = record {
+  returned = count (returnedOf n) rows;
+  drawn = used n rows;
+  money = money n rows;
+  paid = paid n rows;
+  debt = debt n rows;
+  owed = owed n rows;
+}
+
+unfoldable pub allAgree : ℕ → (ℕ → Sums) → List Account → Bool
+allAgree today sums xs = every (λ n x. accountStands today (sums n) x) xs
+
+unfoldable pub accountsStand : ℕ → List Row → List Account → Bool
+accountsStand today rows xs = allAgree today (sumsOf rows) xs

@@ -1,0 +1,176 @@
+// The accounts: each by itself, and against the sums of its rows.
+use super::sums::SEATS;
+use super::sums::add_rows;
+use records::Account;
+use sound_rows::tests::between;
+use sound_rows::tests::implies;
+use tables::accounts::read_account;
+use tables::codes::CLOSED;
+use tables::codes::OPEN;
+use tables::codes::PENDING;
+use tables::codes::UNUSED;
+use tables::limits::HIGHEST_TOP_UP;
+use tables::limits::MOST_DECLINES;
+ghost use mathlib.Core.Path.{_≡_};
+ghost use Prim.Native.Nat.{_+_, _*_, _≤_, _<_};
+ghost use lib.ListN.{length};
+ghost use Rattle.records.specs.Layout.{accountWidth};
+ghost use Rattle.records.specs.Encoding.{rowsOf, accountAt, accountsOf};
+ghost use Rattle.rules.specs.Limits.{mostAccounts};
+ghost use Rattle.rules.specs.Soundness.{stateFits, unusedZero, requestFits, topUpFits, declineFits};
+ghost use Rattle.sound_sums.specs.Tallies.{Countable};
+ghost use Rattle.sound_sums.specs.Accounts.{accountAlone, sumsAgree, sumsAt, accountStands, allAgree, accountsStand};
+
+// What an account's rows come to.
+pub struct Sums {
+    pub returned: u64,
+    pub drawn: u64,
+    pub money: u64,
+    pub paid: u64,
+    pub debt: u64,
+    pub owed: u64,
+}
+
+fn state_fits(x: Account) -> bool
+    ensures { λ b. ⌜ b ≡ stateFits x ⌝ }
+{
+    x.state <= CLOSED
+}
+
+fn unused_zero(x: Account) -> bool
+    ensures { λ b. ⌜ b ≡ unusedZero x ⌝ }
+{
+    let zero = (x.request == 0)
+        & (x.returned == 0)
+        & (x.threshold == 0)
+        & (x.topup == 0)
+        & (x.declines == 0)
+        & (x.declined == 0);
+    implies(x.state == UNUSED, zero)
+}
+
+fn request_fits(today: u64, x: Account) -> bool
+    ensures { λ b. ⌜ b ≡ requestFits today x ⌝ }
+{
+    implies(x.state == OPEN, x.request == 0)
+        & implies(PENDING <= x.state, between(1, x.request, today))
+}
+
+fn top_up_fits(x: Account) -> bool
+    ensures { λ b. ⌜ b ≡ topUpFits x ⌝ }
+{
+    let within = (x.threshold <= HIGHEST_TOP_UP)
+        & (x.topup <= HIGHEST_TOP_UP)
+        & (x.declines <= MOST_DECLINES);
+    let together = within
+        & implies(x.declines == 0, x.declined == 0)
+        & implies(x.declined == 0, x.declines == 0);
+    together & implies(x.topup == 0, (x.threshold == 0) & (x.declines == 0))
+}
+
+fn decline_fits(today: u64, x: Account) -> bool
+    ensures { λ b. ⌜ b ≡ declineFits today x ⌝ }
+{
+    x.declined <= today
+}
+
+// All that an account is tested for by itself.
+fn account_alone(today: u64, x: Account) -> bool
+    ensures { λ b. ⌜ b ≡ accountAlone today x ⌝ }
+{
+    state_fits(x)
+        & unused_zero(x)
+        & request_fits(today, x)
+        & top_up_fits(x)
+        & decline_fits(today, x)
+}
+
+// Its returned checks; used sources = settled debits; no unused money beside a debt; nothing left where it is closed.
+fn sums_agree(x: Account, s: Sums) -> bool
+    ensures { λ b. ⌜ b ≡ sumsAgree x s ⌝ }
+{
+    let spent = (s.money == 0) | (s.debt == 0);
+    let clear = implies(x.state == CLOSED, (s.money == 0) & (s.owed == 0));
+    (x.returned == s.returned) & (s.drawn == s.paid) & spent & clear
+}
+
+fn account_stands(accounts: &[i64], i: usize, today: u64, s: Sums) -> bool
+    requires { ⌜ i * accountWidth + accountWidth ≤ length (now accounts) ⌝ }
+    ensures { λ b. ⌜ b ≡ accountStands today s (accountAt (now (accounts .entry)) i) ⌝ }
+{
+    let x = read_account(accounts, i);
+    account_alone(today, x) & sums_agree(x, s)
+}
+
+fn all_agree(
+    accounts: &[i64],
+    count: usize,
+    today: u64,
+    returned: &[u64; SEATS],
+    drawn: &[u64; SEATS],
+    money: &[u64; SEATS],
+    paid: &[u64; SEATS],
+    debt: &[u64; SEATS],
+    owed: &[u64; SEATS],
+) -> bool
+    requires { ⌜ (count * accountWidth ≤ length (now accounts)) × (count ≤ mostAccounts) ⌝ }
+    ensures { λ b. ⌜ b ≡ allAgree today (sumsAt (now (returned .entry)) (now (drawn .entry)) (now (money .entry)) (now (paid .entry)) (now (debt .entry)) (now (owed .entry))) (accountsOf (now (accounts .entry)) count) ⌝ }
+{
+    let mut i = 0;
+    while i < count {
+        let n = i + 1;
+        let s = Sums {
+            returned: returned[n],
+            drawn: drawn[n],
+            money: money[n],
+            paid: paid[n],
+            debt: debt[n],
+            owed: owed[n],
+        };
+        if !account_stands(accounts, i, today, s) {
+            return false;
+        }
+        i += 1;
+    }
+    true
+}
+
+// The sums are 12 KiB of the stack.
+pub fn accounts_stand(
+    accounts: &[i64],
+    count: usize,
+    journal: &[i64],
+    used: usize,
+    today: u64,
+) -> bool
+    requires { ⌜ (count * accountWidth ≤ length (now accounts)) × (count ≤ mostAccounts) × Countable (now journal) used ⌝ }
+    ensures { λ b. ⌜ b ≡ accountsStand today (rowsOf (now (journal .entry)) used) (accountsOf (now (accounts .entry)) count) ⌝ }
+{
+    let mut returned = [0u64; SEATS];
+    let mut drawn = [0u64; SEATS];
+    let mut money = [0u64; SEATS];
+    let mut paid = [0u64; SEATS];
+    let mut debt = [0u64; SEATS];
+    let mut owed = [0u64; SEATS];
+    add_rows(
+        journal,
+        used,
+        &mut returned,
+        &mut drawn,
+        &mut money,
+        &mut paid,
+        &mut debt,
+        &mut owed,
+    );
+    all_agree(
+        accounts,
+        count,
+        today,
+        &returned,
+        &drawn,
+        &money,
+        &paid,
+        &debt,
+        &owed,
+    )
+}

@@ -1,0 +1,14 @@
+-- The clauses on the used rows and the accounts; SoundParts proves that with those on lengths and header they are rules' soundTables.
+use mathlib.Core.Bool.{Bool}
+use Prim.Native.Nat.{ℕ}
+use mathlib.Core.List.{List, [], _∷_}
+use Rattle.lists.specs.Tests.{allOf}
+use Rattle.rules.specs.Rows.{Row}
+use Rattle.rules.specs.Book.{Account}
+use Rattle.sound_rows.specs.Clauses.{rowsStand}
+use Rattle.sound_passages.specs.Trees.{passagesDiffer}
+use Rattle.sound_sums.specs.Tallies.{feesFew}
+use Rattle.sound_sums.specs.Accounts.{accountsStand}
+
+unfoldable pub bookStands : List Account → List Row → ℕ → ℕ → Bool
+bookStands xs rows today L = allOf (rowsStand xs rows today L ∷ passagesDiffer rows ∷ feesFew rows ∷ accountsStand today rows xs ∷ [])
