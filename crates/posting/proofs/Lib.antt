@@ -1,5 +1,6 @@
 pub mod AmountLaws
 pub mod BookLaws
+pub mod EventLaws
 pub mod RateLaws
 pub mod TopUpLaws
 pub mod WrittenLaws
