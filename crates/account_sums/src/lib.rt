@@ -1,5 +1,5 @@
-// What the rows come to for each account, in one pass: returned checks, used sources, unused money, settled debits, debts that
-// settlement may pay, and all that is unsettled.
+// What the rows come to for each account, in one pass, as arrays by account number: returned checks, used sources, unused money, settled
+// debits, debts that settlement may pay, and all that is unsettled. Uses lists, records, rules and tables.
 use tables::codes::CHECK_RETURNED;
 use tables::codes::CREDIT;
 use tables::codes::PAYMENT;
@@ -13,18 +13,18 @@ ghost use Prim.Native.Nat.{_+_, _^_, _<_};
 ghost use lib.ListN.{getD, set};
 ghost use Rattle.records.specs.Encoding.{rowAt};
 ghost use Rattle.rules.specs.Rows.{source};
-ghost use Rattle.sound_sums.specs.Tallies.{Countable, SourceTallies, DebitTallies};
+ghost use Rattle.account_sums.specs.Tallies.{Countable, SourceTallies, DebitTallies};
 
 // A sum for each account number, from 0 on.
 pub const SEATS: usize = MOST_ACCOUNTS + 1;
 
-fn part(test: bool, v: u64) -> u64
+pub fn part(test: bool, v: u64) -> u64
     ensures { λ r. ⌜ r ≡ cond test v 0 ⌝ }
 {
     if test { v } else { 0 }
 }
 
-fn add(sums: &mut [u64; SEATS], account: usize, v: u64)
+pub fn add(sums: &mut [u64; SEATS], account: usize, v: u64)
     requires { ⌜ (account < 257) × (getD (now sums) account 0 + v < 2 ^ 64) ⌝ }
     ensures { λ _. ⌜ now (sums .exit) ≡ set (now (sums .entry)) account (getD (now (sums .entry)) account 0 + v) ⌝ }
 {

@@ -17,8 +17,8 @@ use Rattle.records.specs.Encoding.{rowAt, rowsOf}
 use Rattle.rules.specs.Limits.{mostRows, highestRefund}
 use Rattle.rules.specs.Rows.{Row, Test, Payment, remaining, source, debit, held, sourceOf, debitOf, payable}
 use Rattle.rules.specs.Soundness.{kindFits, returnedOf}
-use Rattle.sound_sums.specs.Tallies.{Tallied, returnOf, drawnOf, moneyOf, paidOf, debtOf, owedOf, SourceTallies, DebitTallies, Countable}
-use Rattle.sound_sums.proofs.TallyLaws.{tallied-skip, tallied-add, tallied-small}
+use Rattle.account_sums.specs.Tallies.{Tallied, returnOf, drawnOf, moneyOf, paidOf, debtOf, owedOf, SourceTallies, DebitTallies, Countable}
+use Rattle.account_sums.proofs.TallyLaws.{tallied-skip, tallied-add, tallied-small}
 
 -- a row's share of its account's sum
 pub record Share (f : ℕ → Row → ℕ) (u : Test) (v : Row → ℕ) : Type 0 where

@@ -1,13 +1,13 @@
 -- `add_debit` meets its contract: each of three sums takes the row's share, and the bounds keep it from wrapping.
-use Rattle.sound_sums.proofs.SumsLaws.{share-paid, share-debt, share-owed, settled-small, remaining-small, share-asked, share-added, no-source-debit, whole}
-use Rattle.sound_sums.specs.Tallies.{paidOf, debtOf, owedOf}
+use Rattle.account_sums.proofs.SumsLaws.{share-paid, share-debt, share-owed, settled-small, remaining-small, share-asked, share-added, no-source-debit, whole}
+use Rattle.account_sums.specs.Tallies.{paidOf, debtOf, owedOf}
 use Rattle.rules.specs.Rows.{remaining, debit, held}
 use Rattle.records.specs.Encoding.{rowsOf}
 use mathlib.Core.Bool.{true, not, _&&_}
 use mathlib.Core.Path.{_≡_, _∙_}
 use borrow.Author.Needs.{needs}
-use Rattle.sound_sums.proofs.sums.add_debit.Statement.{statement}
-use Rattle.sound_sums.proofs.sums.add_debit.Tie as tie
+use Rattle.account_sums.proofs.add_debit.Statement.{statement}
+use Rattle.account_sums.proofs.add_debit.Tie as tie
 
 read-row-requires : tie.Need-read-row-requires
 read-row-requires c κs = search needs

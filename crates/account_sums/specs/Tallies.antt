@@ -19,22 +19,6 @@ pub record Tallied (f : ℕ → Row → ℕ) (size : ℕ) (t : List ℤ) (xs : L
   pub sized : length xs ≡ size
   pub each : (n : ℕ) → n < size → getD xs n 0 ≡ sumBy (f n) (rowsOf t i)
 
--- ---- the fees that name a row
-
--- "a toll of stage k is named by at most k - 1 fees (none at 0)"
-unfoldable pub feesFew : List Row → Bool
-feesFew rows = every (feesFit rows) rows
-
-unfoldable pub feeOf : ℕ → Row → ℕ
-feeOf n r = cond (feeNaming n r) 1 0
-
--- a row that c fees name
-unfoldable pub feesWithin : ℕ → Row → Bool
-feesWithin c r = toll r implies leb c (r .mark - 1)
-
-unfoldable pub feesAllWithin : List ℕ → List Row → Bool
-feesAllWithin counts rows = every (λ n r. feesWithin (getD counts n 0) r) rows
-
 -- ---- the sums of an account
 
 unfoldable pub returnOf : ℕ → Row → ℕ

@@ -13,7 +13,7 @@ use Rattle.lists.proofs.ListLaws.{zeros}
 use Rattle.lists.proofs.SumLaws.{sumBy-more, sumBy-small}
 use Rattle.records.specs.Encoding.{rowAt, rowsOf}
 use Rattle.rules.specs.Rows.{Row}
-use Rattle.sound_sums.specs.Tallies.{Tallied}
+use Rattle.account_sums.specs.Tallies.{Tallied}
 
 module _ (f : ℕ → Row → ℕ) (size : ℕ) (t : List ℤ) where
   pub tallied-none : Tallied f size t (replicate size 0) 0

@@ -1,11 +1,11 @@
 -- `add_rows` meets its contract: the invariant is that the sums are of the rows passed; the measure is the rows left.
 use borrow.Author.Needs.{needs}
-use Rattle.sound_sums.specs.Tallies.{SourceTallies, DebitTallies}
+use Rattle.account_sums.specs.Tallies.{SourceTallies, DebitTallies}
 use mathlib.Core.Path.{_≡_}
 use native.Mathlib.Omega.{arith}
 use Prim.Native.Nat.{_-_, _≤_}
-use Rattle.sound_sums.proofs.sums.add_rows.Statement.{statement}
-use Rattle.sound_sums.proofs.sums.add_rows.Tie as tie
+use Rattle.account_sums.proofs.add_rows.Statement.{statement}
+use Rattle.account_sums.proofs.add_rows.Tie as tie
 
 abbrev Inv-loop : tie.InvT-loop
 Inv-loop journal used returned₀ drawn₀ money₀ paid₀ debt₀ owed₀ i₀ returned drawn money paid debt owed i = (i ≤ used) × SourceTallies journal returned drawn money i × DebitTallies journal used paid debt owed i

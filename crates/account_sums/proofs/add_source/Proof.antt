@@ -1,14 +1,14 @@
 -- `add_source` meets its contract: each of three sums takes the row's share, and the bounds keep it from wrapping.
-use Rattle.sound_sums.proofs.SumsLaws.{returnedCheck, share-return, share-drawn, share-money, one-small, settled-small, remaining-small, share-asked, share-added, whole}
-use Rattle.sound_sums.specs.Tallies.{returnOf, drawnOf, moneyOf}
+use Rattle.account_sums.proofs.SumsLaws.{returnedCheck, share-return, share-drawn, share-money, one-small, settled-small, remaining-small, share-asked, share-added, whole}
+use Rattle.account_sums.specs.Tallies.{returnOf, drawnOf, moneyOf}
 use Rattle.rules.specs.Rows.{remaining, source}
 use Prim.Native.Nat.{_+_}
 use native.Mathlib.Omega.{arith}
 use mathlib.Core.Bool.{true}
 use mathlib.Core.Path.{_≡_}
 use borrow.Author.Needs.{needs}
-use Rattle.sound_sums.proofs.sums.add_source.Statement.{statement}
-use Rattle.sound_sums.proofs.sums.add_source.Tie as tie
+use Rattle.account_sums.proofs.add_source.Statement.{statement}
+use Rattle.account_sums.proofs.add_source.Tie as tie
 
 read-row-requires : tie.Need-read-row-requires
 read-row-requires c κs = search needs

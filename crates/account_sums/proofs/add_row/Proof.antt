@@ -1,5 +1,5 @@
 -- `add_row` meets its contract: a row is a source or a debit, and leaves the sums of the other side.
-use Rattle.sound_sums.proofs.SumsLaws.{countable-less, sources-skip, debits-skip}
+use Rattle.account_sums.proofs.SumsLaws.{countable-less, sources-skip, debits-skip}
 use Rattle.rules.specs.Rows.{source}
 use Rattle.records.specs.Encoding.{rowAt}
 use Prim.Native.Nat.{_+_}
@@ -7,8 +7,8 @@ use native.Mathlib.Omega.{arith}
 use mathlib.Core.Bool.{true, false}
 use mathlib.Core.Path.{_≡_}
 use borrow.Author.Needs.{needs}
-use Rattle.sound_sums.proofs.sums.add_row.Statement.{statement}
-use Rattle.sound_sums.proofs.sums.add_row.Tie as tie
+use Rattle.account_sums.proofs.add_row.Statement.{statement}
+use Rattle.account_sums.proofs.add_row.Tie as tie
 
 kind-at-requires : tie.Need-kind-at-requires
 kind-at-requires c κs = search needs
