@@ -7,8 +7,9 @@ use native.Mathlib.Decide.{decLt}
 use mathlib.Core.List.{List, [], _∷_, _++_, map, append-assoc, append-nil}
 use lib.ListN.{length, getD, length-append, length-map, List·getD-append, List·getD-map}
 use lib.Seq.{getD-append-add}
-use Rattle.lists.specs.Lists.{sumBy, gatherFrom, changeFrom}
+use Rattle.lists.specs.Lists.{sumBy, gatherFrom, changeFrom, tabulate}
 use Rattle.lists.proofs.SumLaws.{sumBy-append, sumBy-map}
+use Rattle.lists.proofs.ListLaws.{length-tabulate, tabulate-more}
 
 -- ---- gather
 
@@ -117,8 +118,14 @@ module _ {A B : Type 0} (h : ℕ → A → List B) where
       let z : i + 1 + length xs ≡ i + suc (length xs) = omega arith in
       rw (gather-snoc (i + 1) xs x, z) (sym (append-assoc (h i y) (gatherFrom h (i + 1) xs) (h (i + suc (length xs)) x)))
 
-  pub length-gather-snoc : (i : ℕ) (xs : List A) (x : A) → length (gatherFrom h i (xs ++ (x ∷ []))) ≡ length (gatherFrom h i xs) + length (h (i + length xs) x)
-  length-gather-snoc i xs x = rw (gather-snoc i xs x, length-append (gatherFrom h i xs) (h (i + length xs) x))
+-- of a tabulated list: its value n has number n + 1
+pub gather-tabulate : {A B : Type 0} (h : ℕ → A → List B) (g : ℕ → A) (n : ℕ) → gatherFrom h 1 (tabulate g (n + 1)) ≡ gatherFrom h 1 (tabulate g n) ++ h (n + 1) (g n)
+gather-tabulate h g n =
+    let l : 1 + length (tabulate g n) ≡ n + 1 = omega (arith, length-tabulate g n) in
+    rw (tabulate-more g n, gather-snoc h 1 (tabulate g n) (g n), l)
+
+pub length-gather-tabulate : {A B : Type 0} (h : ℕ → A → List B) (g : ℕ → A) (n : ℕ) → length (gatherFrom h 1 (tabulate g (n + 1))) ≡ length (gatherFrom h 1 (tabulate g n)) + length (h (n + 1) (g n))
+length-gather-tabulate h g n = rw (gather-tabulate h g n, length-append (gatherFrom h 1 (tabulate g n)) (h (n + 1) (g n)))
 
 pub gather-same : {A B : Type 0} (g h : ℕ → A → List B) (i : ℕ) (xs ys : List A) (d : A) → length xs ≡ length ys
     → ((n k : ℕ) → n ≡ i + k → k < length xs → g n (getD xs k d) ≡ h n (getD ys k d)) → gatherFrom g i xs ≡ gatherFrom h i ys
