@@ -1,7 +1,7 @@
 -- Events that change an account alone: rows do not concern them, and what they leave when they are accepted.
 use mathlib.Core.Path.{_≡_, refl, sym, _∙_}
-use mathlib.Core.Bool.{Bool, true, false, cond}
-use Prim.Native.Nat.{ℕ, _+_, _-_, _≤_, _<_}
+use mathlib.Core.Bool.{true, false, cond}
+use Prim.Native.Nat.{_+_, _-_, _≤_}
 use native.Mathlib.Omega.{arith}
 use mathlib.Core.List.{List, [], append-nil}
 use lib.ListN.{length}
@@ -9,7 +9,7 @@ use lib.IntN.{ℤ}
 use borrow.Author.Tests.{le-ltb}
 use Rattle.lists.specs.Tests.{_is_}
 use Rattle.lists.specs.Lists.{sumBy, count}
-use Rattle.rules.specs.Book.{Account, Instruction, Answer, Book, putAccount}
+use Rattle.rules.specs.Book.{Account, Instruction, Book, putAccount}
 use Rattle.rules.specs.Refusals.{changeOf, after, full, ceiling, answerNumber}
 use Rattle.rules.specs.Posting.{newRows, removesTopUp, acceptance}
 use Rattle.rules.specs.Tables.{Tables, accountsIn, rowsUsed, bookOf, soundTables}

@@ -1,7 +1,7 @@
 -- `request_refusal` meets its contract: each way through the tests is a case of the table.
 use borrow.Author.Needs.{needs}
 use borrow.Author.Tests.{eq-eqb, ne-eqb, not-true, not-false}
-use mathlib.Core.Path.{_≡_, refl, sym, _∙_}
+use mathlib.Core.Path.{refl, sym, _∙_}
 use mathlib.Core.Bool.{true, false}
 use Rattle.lists.specs.Tests.{first}
 use Rattle.posting.proofs.BookLaws.{account-read}
