@@ -7,3 +7,4 @@ pub mod TopUpLaws
 pub mod WrittenLaws
 pub mod RefusalLaws
 pub mod AddedLaws
+pub mod UsedRowsLaws
