@@ -21,7 +21,7 @@ use Rattle.rules.specs.Rows.{Row, Toll, toll, newRow, withDue, withReference}
 use Rattle.rules.specs.Settlement.{settle}
 use Rattle.rules.specs.Book.{Instruction, Unused, Closed, Book, account, addRow, withRows}
 use Rattle.rules.specs.Events.{tollRate, postToll}
-use Rattle.rules.specs.Refusals.{changeOf, after, tollForm, formOf, wellFormed, unknown, taken, onClosed, unclassed, misdated, duplicate, barred, noRow, untimely, lastDay, full, ceiling, refusals, answerNumber}
+use Rattle.rules.specs.Refusals.{changeOf, after, tollForm, formOf, wellFormed, unknown, taken, onClosed, unclassed, misdated, duplicate, barred, noRow, untimely, lastDay, full, refusals, answerNumber}
 use Rattle.rules.specs.Posting.{removesTopUp}
 use Rattle.rules.specs.Tables.{Tables, accountsIn, roomIn, rowsUsed, scheduleFrom, bookOf, soundTables}
 use Rattle.rules.proofs.StorableLaws.{between-le, day-le, stage-le, accounts-le}

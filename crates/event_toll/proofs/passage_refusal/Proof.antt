@@ -1,8 +1,7 @@
 -- `passage_refusal` meets its contract: each way through the tests is a case of the table.
 use borrow.Author.Needs.{needs}
 use borrow.Author.Tests.{eq-eqb, ne-eqb}
-use native.Mathlib.Omega.{arith}
-use mathlib.Core.Path.{_≡_, refl, sym, _∙_}
+use mathlib.Core.Path.{refl, sym, _∙_}
 use mathlib.Core.Bool.{true, false}
 use Rattle.lists.specs.Tests.{first}
 use Rattle.event_toll.proofs.TollLaws.{passage-by, row-lacks, row-suffices}

@@ -1,8 +1,7 @@
 -- `toll_refusal` meets its contract: each way through the tests is a case of the table.
 use borrow.Author.Needs.{needs}
 use borrow.Author.Tests.{eq-eqb, ne-eqb, not-true, not-false}
-use native.Mathlib.Omega.{arith}
-use mathlib.Core.Path.{_≡_, refl, sym, _∙_}
+use mathlib.Core.Path.{refl, sym, _∙_}
 use mathlib.Core.Bool.{true, false}
 use Rattle.rules.proofs.TableLaws.{header-length}
 use Rattle.posting.proofs.BookLaws.{account-read, used-room}
