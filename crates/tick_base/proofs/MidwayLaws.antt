@@ -8,7 +8,7 @@ use lib.ListN.{length, getD}
 use lib.Dec.{eqb, leb}
 use borrow.Author.Tests.{leb-true, eqb-true, le-leb, not-true}
 use Rattle.lists.specs.Tests.{_is_}
-use Rattle.lists.proofs.TestLaws.{and-left, and-right}
+use Rattle.lists.proofs.TestLaws.{and-left, allOf-at}
 use Rattle.lists.proofs.ListLaws.{tabulate-at, length-tabulate}
 use Rattle.records.specs.Layout.{headerWidth, dayPlace, usedPlace, headerSchedule, rowWidth, accountWidth}
 use Rattle.records.specs.Encoding.{word, rowAt, rowsOf, accountAt, accountsOf}
@@ -20,6 +20,7 @@ use Rattle.rules.specs.Soundness.{kindFits, mostOf, amountFits, accountUsed}
 use Rattle.rules.specs.Tables.{Tables, accountsIn, roomIn, rowsUsed, bookOf, wholeRecords, lengthsFit, usedFits, soundTables, scheduleFrom}
 use Rattle.rules.proofs.SoundnessLaws.{Near}
 use Rattle.rules.proofs.StorableLaws.{between-le, mostOf-le, used-inside, accounts-le, room-le}
+use Rattle.rules.proofs.TableLaws.{sound-book}
 use Rattle.preservation.proofs.SettledLaws.{settled-le}
 use Rattle.posting.proofs.WrittenLaws.{Written}
 use Rattle.account_sums.specs.Tallies.{Countable}
@@ -41,6 +42,12 @@ written-written t u v b c f g = record {
   longer = omega (arith, f .longer, f .used, g .longer);
   rest = λ k h. g .rest k h ∙ f .rest k (omega (arith, f .used, g .longer));
 }
+
+-- ---- sound tables are such
+
+pub sound-midway : (t : Tables) → soundTables t ≡ true → Midway (bookOf t .day) t
+unfolding soundTables
+sound-midway t s = let p = allOf-at _ s in record { lengths = p 0; used = p 1; near = sound-book t s .near }
 
 -- ---- what is read
 
