@@ -4,11 +4,12 @@ use mathlib.Core.Logic.{_≢_}
 use Prim.Native.Nat.{ℕ, zero, suc, _+_, _-_, _≤_, _<_}
 use native.Mathlib.Omega.{arith}
 use native.Mathlib.Decide.{decLt}
-use mathlib.Core.List.{List, [], _∷_, _++_, map}
+use mathlib.Core.List.{List, [], _∷_, _++_, map, append-assoc, append-nil}
 use lib.ListN.{length, getD, length-append, length-map, List·getD-append, List·getD-map}
 use lib.Seq.{getD-append-add}
-use Rattle.lists.specs.Lists.{sumBy, gatherFrom, changeFrom}
+use Rattle.lists.specs.Lists.{sumBy, gatherFrom, changeFrom, tabulate}
 use Rattle.lists.proofs.SumLaws.{sumBy-append, sumBy-map}
+use Rattle.lists.proofs.ListLaws.{length-tabulate, tabulate-more}
 
 -- ---- gather
 
@@ -106,3 +107,45 @@ module _ {A : Type 0} (f : A → A) (d : A) (rest : f d ≡ d) (xs more : List A
               let e′ : k ≡ length (map f xs) + j = omega arith in
               let l′ : length (map f xs) + j < length (map f xs) + length more = omega (arith, rw (length-append (map f xs) more) at h) in
               rw (e′, getD-append-add (map f xs) more j d) (b j e (omega arith))
+
+-- ---- one element more, and elements that add the same
+
+module _ {A B : Type 0} (h : ℕ → A → List B) where
+  pub gather-snoc : (i : ℕ) (xs : List A) (x : A) → gatherFrom h i (xs ++ (x ∷ [])) ≡ gatherFrom h i xs ++ h (i + length xs) x
+  unfolding gatherFrom
+  gather-snoc i [] x = let z : i + 0 ≡ i = omega arith in rw (append-nil (h i x), z)
+  gather-snoc i (y ∷ xs) x =
+      let z : i + 1 + length xs ≡ i + suc (length xs) = omega arith in
+      rw (gather-snoc (i + 1) xs x, z) (sym (append-assoc (h i y) (gatherFrom h (i + 1) xs) (h (i + suc (length xs)) x)))
+
+-- of a tabulated list: its value n has number n + 1
+pub gather-tabulate : {A B : Type 0} (h : ℕ → A → List B) (g : ℕ → A) (n : ℕ) → gatherFrom h 1 (tabulate g (n + 1)) ≡ gatherFrom h 1 (tabulate g n) ++ h (n + 1) (g n)
+gather-tabulate h g n =
+    let l : 1 + length (tabulate g n) ≡ n + 1 = omega (arith, length-tabulate g n) in
+    rw (tabulate-more g n, gather-snoc h 1 (tabulate g n) (g n), l)
+
+pub length-gather-tabulate : {A B : Type 0} (h : ℕ → A → List B) (g : ℕ → A) (n : ℕ) → length (gatherFrom h 1 (tabulate g (n + 1))) ≡ length (gatherFrom h 1 (tabulate g n)) + length (h (n + 1) (g n))
+length-gather-tabulate h g n = rw (gather-tabulate h g n, length-append (gatherFrom h 1 (tabulate g n)) (h (n + 1) (g n)))
+
+pub gather-same : {A B : Type 0} (g h : ℕ → A → List B) (i : ℕ) (xs ys : List A) (d : A) → length xs ≡ length ys
+    → ((n k : ℕ) → n ≡ i + k → k < length xs → g n (getD xs k d) ≡ h n (getD ys k d)) → gatherFrom g i xs ≡ gatherFrom h i ys
+unfolding gatherFrom
+gather-same g h i [] [] d l e = refl
+gather-same g h i [] (y ∷ ys) d l e = absurd (omega arith)
+gather-same g h i (x ∷ xs) [] d l e = absurd (omega arith)
+gather-same g h i (x ∷ xs) (y ∷ ys) d l e =
+    rw (e i 0 (omega arith) (omega arith), gather-same g h (i + 1) xs ys d (omega arith) (λ n k q r. e n (suc k) (omega arith) (omega arith)))
+
+-- what is added has the same length where what each element adds has
+pub length-gather-same : {A B C : Type 0} (g : ℕ → A → List B) (h : ℕ → A → List C) (i : ℕ) (xs : List A) (d : A)
+    → ((n k : ℕ) → n ≡ i + k → k < length xs → length (g n (getD xs k d)) ≡ length (h n (getD xs k d))) → length (gatherFrom g i xs) ≡ length (gatherFrom h i xs)
+unfolding gatherFrom
+length-gather-same g h i [] d e = refl
+length-gather-same g h i (x ∷ xs) d e =
+    omega (
+      arith,
+      length-append (g i x) (gatherFrom g (i + 1) xs),
+      length-append (h i x) (gatherFrom h (i + 1) xs),
+      e i 0 (omega arith) (omega arith),
+      length-gather-same g h (i + 1) xs d (λ n k q r. e n (suc k) (omega arith) (omega arith)),
+    )

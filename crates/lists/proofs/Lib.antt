@@ -4,3 +4,4 @@ pub mod ListLaws
 pub mod PairLaws
 pub mod CollectLaws
 pub mod GatherLaws
+pub mod ExistsLaws

@@ -3,7 +3,7 @@
 use mathlib.Core.Path.{_≡_, refl, sym, ap, _∙_}
 use mathlib.Core.Logic.{_≢_}
 use mathlib.Core.Bool.{true}
-use Prim.Native.Nat.{ℕ, zero, suc, _+_, _*_, _^_, _≤_, _<_}
+use Prim.Native.Nat.{ℕ, zero, suc, _+_, _^_, _≤_, _<_}
 use native.Mathlib.Omega.{arith}
 use native.Mathlib.Decide.{ℕ-discrete}
 use mathlib.Core.List.{List, [], _∷_, _++_, map}
@@ -15,14 +15,14 @@ use Rattle.records.specs.Encoding.{natOf, word, rowAt, rowsOf, accountsOf}
 use Rattle.lists.proofs.ListLaws.{tabulate-at}
 use Rattle.rules.specs.Rows.{Row, blank}
 use Rattle.rules.specs.Settlement.{settle}
-use Rattle.rules.specs.Book.{Account, Book, withRows, withAccounts}
+use Rattle.rules.specs.Book.{Account, withRows, withAccounts}
 use Rattle.rules.specs.Tables.{Tables, accountsIn, roomIn, rowsUsed, scheduleFrom, bookOf, soundTables}
 use Rattle.rules.proofs.SettlementLaws.{length-settle}
 use Rattle.rules.proofs.TableLaws.{sound-rows, header-length, journal-length}
 use Rattle.tables.specs.Changes.{RowChanged, RowsMapped}
 use Rattle.tables.proofs.ChangeLaws.{changed-rows, changed-append, mapped-all}
 use Rattle.settlement.specs.Settling.{Journal, Settled}
-use Rattle.posting.specs.Posts.{tablesAt, RowAdded}
+use Rattle.posting.specs.Posts.{tablesAt, RowRoom, RowAdded}
 use Rattle.posting.proofs.BookLaws.{day-read, used-read, room-read, schedule-read, row-holds}
 use Rattle.posting.proofs.WrittenLaws.{Written}
 
@@ -143,13 +143,23 @@ module _ (t : Tables) (s : soundTables t ≡ true) where
           u .words 11 (λ z. omega arith),
         )
 
+    -- there is a row for one more, and its day is the book's
+    pub used-rows-room : length rows < roomIn t → RowRoom h j
+    used-rows-room l = record {
+      header = u .header-size ∙ header-length t s;
+      room = rw (u .used, u .journal-size) (omega (arith, journal-length t s));
+    }
+
+    pub used-rows-day : word h dayPlace ≡ bookOf t .day
+    used-rows-day = u .words dayPlace (λ z. omega arith) ∙ day-read t s
+
     pub used-rows-written : (acc : List ℤ) (xs : List Account) → length acc ≡ length (t .accounts) → accountsOf acc (accountsIn t) ≡ xs
         → Written t (tablesAt h acc j) (withRows rows (withAccounts xs (bookOf t)))
     used-rows-written acc xs size held = record {
       header-size = u .header-size;
       accounts-size = size;
       journal-size = u .journal-size;
-      day = u .words dayPlace (λ z. omega arith) ∙ day-read t s;
+      day = used-rows-day;
       used = u .used;
       schedule = same-schedule ∙ schedule-read t s;
       accounts = held;

@@ -54,7 +54,7 @@ none-unsettled n (r ∷ rs) z = at (debitOf n r) (unsettled r) refl z (none-unse
     at true false q e ih = omega (arith, ih (omega arith), ltb-false (r .settled) (r .amount) q)
     at false u q e ih = omega (arith, ih (omega arith))
 
-none-owed : (n : ℕ) (rows : List Row) → not (exists (λ r. debitOf n r && unsettled r) rows) ≡ true → owed n rows ≡ 0
+pub none-owed : (n : ℕ) (rows : List Row) → not (exists (λ r. debitOf n r && unsettled r) rows) ≡ true → owed n rows ≡ 0
 unfolding exists
 none-owed n rows e = none-unsettled n rows (ltb-false 0 (count (λ r. debitOf n r && unsettled r) rows) (not-true _ e))
 
@@ -208,7 +208,7 @@ module _ (b : Book) where
         go true = settled-remaining (sourceOf n) (b .rows) fits
         go false = omega arith
 
-    money-closed : money n rows′ ≡ cond c 0 (money n (b .rows))
+    pub money-closed : money n rows′ ≡ cond c 0 (money n (b .rows))
     unfolding money only
     money-closed = sources-closed remaining n ∙ go c
       where

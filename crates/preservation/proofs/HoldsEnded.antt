@@ -136,7 +136,7 @@ shape-atDawn today xs rows n r s = go (holdEnds today r) refl
     go true e = shape-released today today xs rows n r (ending today r e .0) s
     go false e = s
 
-endHolds-near : (b : Book) → Near (b .day) b → b .day ≢ finalDay → Near (b .day) (endHolds (nextDay b))
+pub endHolds-near : (b : Book) → Near (b .day) b → b .day ≢ finalDay → Near (b .day) (endHolds (nextDay b))
 unfolding endHolds nextDay dayFits holdEnds
 endHolds-near b s ne =
     let f : Row → Row = atDawn (b .day + 1) in

@@ -73,7 +73,7 @@ spent-moved rows n e = go (eqb (money n rows) 0) refl e
     go false z e = omega (arith, eqb-true (debt n rows) 0 e)
 
 -- a row's account is one of the table's, and one side of it is spent
-row-spent : (b : Book) → Sound b → (i : ℕ) → i < length (b .rows) → moved (getD (b .rows) i blank .account) (b .rows) ≡ 0
+pub row-spent : (b : Book) → Sound b → (i : ℕ) → i < length (b .rows) → moved (getD (b .rows) i blank .account) (b .rows) ≡ 0
 unfolding accountUsed
 row-spent b s i l = go (getD (b .rows) i blank .account) (not-true _ (s .near .shape i l .account))
   where

@@ -28,14 +28,14 @@ use Rattle.preservation.proofs.FeeLaws.{ScheduleParts, schedule-parts, 
 
 -- ---- a row that rises
 
-record Rising (today : ℕ) (r : Row) : Type 0 where
-  toll : r .kind ≡ 1
-  free : heldToll r ≡ false
-  open-still : unsettled r ≡ true
-  under : r .mark < 4
-  due : r .due ≡ today
+pub record Rising (today : ℕ) (r : Row) : Type 0 where
+  pub toll : r .kind ≡ 1
+  pub free : heldToll r ≡ false
+  pub open-still : unsettled r ≡ true
+  pub under : r .mark < 4
+  pub due : r .due ≡ today
 
-rising : (today : ℕ) (r : Row) → rises today r ≡ true → Rising today r
+pub rising : (today : ℕ) (r : Row) → rises today r ≡ true → Rising today r
 unfolding rises
 rising today r e =
     let a1 : Bool = eqb (r .kind) 1 in

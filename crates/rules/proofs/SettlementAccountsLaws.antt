@@ -2,7 +2,7 @@
 use mathlib.Core.Path.{_≡_, refl, sym, ap, _∙_}
 use mathlib.Core.Logic.{_≢_}
 use mathlib.Core.Bool.{Bool, true, false, not, cond, _&&_}
-use Prim.Native.Nat.{ℕ, zero, suc, _≤_, _<_}
+use Prim.Native.Nat.{ℕ, zero, suc, _+_, _≤_, _<_}
 use native.Mathlib.Omega.{arith}
 use native.Mathlib.Decide.{ℕ-discrete}
 use mathlib.Core.List.{List, map}
@@ -14,7 +14,7 @@ use Rattle.lists.proofs.SumLaws.{sumBy-ext, sumBy-map}
 use Rattle.rules.specs.Rows.{Row, Test, blank, source, debit, held, rowNo, remaining, sourceOf, debitOf, payable}
 use Rattle.rules.specs.Settlement.{allocate, money, debt, moved, pay, settle, settleAccounts, used, paid, owed}
 use Rattle.rules.proofs.AllocationLaws.{bare, Steady, Apart, other-allocate}
-use Rattle.rules.proofs.SettlementLaws.{payable-pay, settle-spent, settle-same, settle-bare, settle-row, length-settle}
+use Rattle.rules.proofs.SettlementLaws.{payable-pay, money-settle, owed-settle, settle-spent, settle-same, settle-bare, settle-row, length-settle}
 
 -- ---- another account's sums stay
 
@@ -138,6 +138,39 @@ settleAccounts-still a (suc n) rows i e z = go (ℕ-discrete a (suc n)) (settleA
     go (no q) ih =
         let o : getD (settleAccounts n rows) i blank .account ≡ a = ap (λ (r : Row). r .account) ih ∙ e in
         settle-row (suc n) (settleAccounts n rows) i .others (ne-eqb (getD (settleAccounts n rows) i blank .account) (suc n) (λ w. q (sym o ∙ w))) ∙ ih
+
+-- what remains of account k + 1 on either side: what is moved is gone
+pub record Remains (m : ℕ) (rows rows′ : List Row) (v : ℕ) : Type 0 where
+  pub money : money m rows′ + v ≡ money m rows
+  pub owed : owed m rows′ + v ≡ owed m rows
+
+settleAccounts-beyond : (n : ℕ) (rows : List Row) (m : ℕ) → n < m → Remains m rows (settleAccounts n rows) 0 × (moved m (settleAccounts n rows) ≡ moved m rows)
+unfolding settleAccounts
+settleAccounts-beyond zero rows m h = (record { money = omega arith; owed = omega arith }, refl)
+settleAccounts-beyond (suc n) rows m h =
+    let ih = settleAccounts-beyond n rows m (omega arith) in
+    let ne : suc n ≢ m = λ e. omega arith in
+    let mo = money-other (suc n) m ne (settleAccounts n rows) in
+    let ow = owed-other (suc n) m ne (settleAccounts n rows) in
+    (record { money = omega (arith, ih .0 .money); owed = omega (arith, ih .0 .owed) }, moved-other (suc n) m ne (settleAccounts n rows) ∙ ih .1)
+
+pub settleAccounts-remains : (n : ℕ) (rows : List Row) (k : ℕ) → k < n → Remains (suc k) rows (settleAccounts n rows) (moved (suc k) rows)
+unfolding settleAccounts
+settleAccounts-remains zero rows k h = absurd (omega arith)
+settleAccounts-remains (suc n) rows k h = go (ℕ-discrete k n) (settleAccounts-remains n rows k)
+  where
+    go : Dec (k ≡ n) → (k < n → Remains (suc k) rows (settleAccounts n rows) (moved (suc k) rows)) → Remains (suc k) rows (settle (suc n) (settleAccounts n rows)) (moved (suc k) rows)
+    go (yes q) ih =
+        let f = settleAccounts-beyond n rows (suc n) (omega arith) in
+        let mo = money-settle (suc n) (settleAccounts n rows) in
+        let ow = owed-settle (suc n) (settleAccounts n rows) in
+        rw q (record { money = omega (arith, f .0 .money, f .1); owed = omega (arith, f .0 .owed, f .1) })
+    go (no q) ih =
+        let ne : suc n ≢ suc k = λ e. q (omega arith) in
+        let mo = money-other (suc n) (suc k) ne (settleAccounts n rows) in
+        let ow = owed-other (suc n) (suc k) ne (settleAccounts n rows) in
+        let i = ih (omega arith) in
+        record { money = omega (arith, i .money); owed = omega (arith, i .owed) }
 
 -- where no account has something to move, settlement is the identity; where one has, it is that account's
 pub settleAccounts-same : (n : ℕ) (rows : List Row) → ((m : ℕ) → 1 ≤ m → m ≤ n → moved m rows ≡ 0) → settleAccounts n rows ≡ rows

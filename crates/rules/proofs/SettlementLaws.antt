@@ -11,7 +11,7 @@ use borrow.Author.Tests.{eqb-true}
 use Rattle.lists.specs.Lists.{sumBy, only}
 use Rattle.lists.proofs.SumLaws.{sumBy-at-le}
 use Rattle.rules.specs.Rows.{Row, Test, blank, source, debit, heldToll, rowNo, held, sourceOf, debitOf, payable, remaining, settleMore}
-use Rattle.rules.specs.Settlement.{allocate, money, debt, moved, pay, settle, used, paid}
+use Rattle.rules.specs.Settlement.{allocate, money, debt, moved, pay, settle, used, paid, owed}
 use Rattle.rules.proofs.AllocationLaws.{bare, Steady, Apart, Within, within-self, settleMore-zero, settleMore-settleMore, share, allocate-zero, allocate-allocate, allocate-comm, remaining-allocate, settled-allocate, other-allocate, map-allocate, length-allocate, allocate-at, apart-remaining, share-le, share-other}
 
 -- ---- the two tests
@@ -204,7 +204,7 @@ settle-row a rows i =
 
 -- ---- used and paid: they grow alike
 
-debit-steady : (a : ℕ) → Steady (debitOf a)
+pub debit-steady : (a : ℕ) → Steady (debitOf a)
 unfolding debitOf
 debit-steady a r n = refl
 
@@ -216,7 +216,7 @@ source-debit a r = go (eqb (r .account) a) (source r) (debit r) (kinds-apart (r 
     go true s d e = e
     go false s d e = refl
 
-payable-debit : (rows : List Row) (a : ℕ) → Within (payable rows a) (debitOf a)
+pub payable-debit : (rows : List Row) (a : ℕ) → Within (payable rows a) (debitOf a)
 unfolding payable debitOf
 payable-debit rows a r = go (eqb (r .account) a) (debit r) (not (held rows r))
   where
@@ -245,6 +245,23 @@ paid-settle a rows =
     let p : ℕ = moved a rows in
     let e = settled-allocate u d (payable-debit rows a) (debit-steady a) p (allocate s p rows) in
     let f = other-allocate s d (λ r. r .settled) (source-debit a) (debit-steady a) p rows in
+    let g = other-allocate s u remaining (source-payable rows a) (payable-steady rows a) p rows in
+    omega arith
+
+-- what remains on either side
+pub money-settle : (a : ℕ) (rows : List Row) → money a (settle a rows) + moved a rows ≡ money a rows
+unfolding settle moved
+money-settle a rows = omega (arith, money-pay a (moved a rows) rows)
+
+pub owed-settle : (a : ℕ) (rows : List Row) → owed a (settle a rows) + moved a rows ≡ owed a rows
+unfolding owed settle pay moved debt
+owed-settle a rows =
+    let s : Test = sourceOf a in
+    let u : Test = payable rows a in
+    let d : Test = debitOf a in
+    let p : ℕ = moved a rows in
+    let e = remaining-allocate u d (payable-debit rows a) (debit-steady a) p (allocate s p rows) in
+    let f = other-allocate s d remaining (source-debit a) (debit-steady a) p rows in
     let g = other-allocate s u remaining (source-payable rows a) (payable-steady rows a) p rows in
     omega arith
 

@@ -9,7 +9,7 @@ use Rattle.lists.specs.Lists.{count}
 use Rattle.lists.proofs.ListLaws.{every-ext-tabulate}
 use Rattle.records.specs.Encoding.{rowsOf, accountAt, accountsOf}
 use Rattle.rules.specs.Settlement
-use Rattle.sound_sums.specs.Tallies.{returnOf, SourceTallies, DebitTallies}
+use Rattle.account_sums.specs.Tallies.{returnOf, SourceTallies, DebitTallies}
 use Rattle.sound_sums.specs.Accounts.{sumsAt, sumsOf, allAgree, accountsStand}
 
 module _ (t : List ℤ) (n : ℕ) (returned drawn money paid debt owed : List ℕ) (s : SourceTallies t returned drawn money n) (d : DebitTallies t n paid debt owed n) where

@@ -16,9 +16,10 @@ use Rattle.lists.proofs.ListLaws.{every-ext-tabulate}
 use Rattle.records.specs.Encoding.{rowAt, rowsOf}
 use Rattle.rules.specs.Rows.{Row, Fee, toll, feeNaming}
 use Rattle.rules.specs.Soundness.{feesFit}
-use Rattle.sound_sums.specs.Tallies.{feesFew}
-use Rattle.sound_sums.specs.Tallies.{Tallied, feeOf, feesWithin, feesAllWithin}
-use Rattle.sound_sums.proofs.TallyLaws.{tallied-skip, tallied-add, tallied-small}
+use Rattle.sound_sums.specs.Fees.{feesFew}
+use Rattle.account_sums.specs.Tallies.{Tallied}
+use Rattle.sound_sums.specs.Fees.{feeOf, feesWithin, feesAllWithin}
+use Rattle.account_sums.proofs.TallyLaws.{tallied-skip, tallied-add, tallied-small}
 
 not-fee : (n : ℕ) (r : Row) → (r .kind ≡ Fee → ⊥) → feeOf n r ≡ 0
 unfolding feeOf feeNaming

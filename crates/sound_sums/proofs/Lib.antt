@@ -1,4 +1,2 @@
-pub mod TallyLaws
 pub mod FeeLaws
-pub mod SumsLaws
 pub mod AccountLaws

@@ -1,2 +1,2 @@
-pub mod Tallies
+pub mod Fees
 pub mod Accounts

@@ -1,6 +1,6 @@
 // The accounts: each by itself, and against the sums of its rows.
-use super::sums::SEATS;
-use super::sums::add_rows;
+use account_sums::SEATS;
+use account_sums::add_rows;
 use records::Account;
 use sound_rows::tests::between;
 use sound_rows::tests::implies;
@@ -18,7 +18,7 @@ ghost use Rattle.records.specs.Layout.{accountWidth};
 ghost use Rattle.records.specs.Encoding.{rowsOf, accountAt, accountsOf};
 ghost use Rattle.rules.specs.Limits.{mostAccounts};
 ghost use Rattle.rules.specs.Soundness.{stateFits, unusedZero, requestFits, topUpFits, declineFits};
-ghost use Rattle.sound_sums.specs.Tallies.{Countable};
+ghost use Rattle.account_sums.specs.Tallies.{Countable};
 ghost use Rattle.sound_sums.specs.Accounts.{accountAlone, sumsAgree, sumsAt, accountStands, allAgree, accountsStand};
 
 // What an account's rows come to.

@@ -16,8 +16,9 @@ ghost use Rattle.records.specs.Encoding.{rowAt, rowsOf};
 ghost use Rattle.rules.specs.Limits.{mostRows};
 ghost use Rattle.rules.specs.Rows.{toll};
 ghost use Rattle.tables.specs.Changes.{RowIn};
-ghost use Rattle.sound_sums.specs.Tallies.{feesFew};
-ghost use Rattle.sound_sums.specs.Tallies.{Tallied, feeOf, feesWithin, feesAllWithin};
+ghost use Rattle.sound_sums.specs.Fees.{feesFew};
+ghost use Rattle.account_sums.specs.Tallies.{Tallied};
+ghost use Rattle.sound_sums.specs.Fees.{feeOf, feesWithin, feesAllWithin};
 
 // A count for each row number, from 0 on.
 const COUNTS: usize = MOST_ROWS + 1;

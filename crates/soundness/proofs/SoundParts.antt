@@ -24,10 +24,10 @@ use Rattle.rules.specs.Tables.{Tables, accountsIn, roomIn, rowsUsed, scheduleFr
 use Rattle.rules.proofs.StorableLaws.{mostOf-le, used-inside, between-le, schedule-storable}
 use Rattle.sound_rows.specs.Clauses.{ownWords, rowAlone, rowStands, rowsStand, restZero, tablesOn, Bounds}
 use Rattle.sound_passages.specs.Trees.{passagesDiffer}
-use Rattle.sound_sums.specs.Tallies.{feesFew}
+use Rattle.sound_sums.specs.Fees.{feesFew}
 use Rattle.soundness.specs.Book.{bookStands}
 use Rattle.sound_sums.specs.Accounts.{accountAlone, sumsAgree, accountStands, sumsOf, allAgree, accountsStand}
-use Rattle.sound_sums.specs.Tallies.{Countable}
+use Rattle.account_sums.specs.Tallies.{Countable}
 
 -- ---- rows and accounts
 

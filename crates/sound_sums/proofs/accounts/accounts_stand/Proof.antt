@@ -1,7 +1,7 @@
 -- `accounts_stand` meets its contract: the sums are those of the definitions.
 use Rattle.sound_sums.proofs.AccountLaws.{all-stand}
-use Rattle.sound_sums.proofs.TallyLaws.{tallied-none}
-use Rattle.sound_sums.specs.Tallies.{returnOf, drawnOf, moneyOf, paidOf, debtOf, owedOf}
+use Rattle.account_sums.proofs.TallyLaws.{tallied-none}
+use Rattle.account_sums.specs.Tallies.{returnOf, drawnOf, moneyOf, paidOf, debtOf, owedOf}
 use Rattle.records.specs.Encoding.{rowsOf}
 use mathlib.Core.Path.{_∙_}
 use borrow.Author.Needs.{needs}

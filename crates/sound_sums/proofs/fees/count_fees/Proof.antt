@@ -1,6 +1,7 @@
 -- `count_fees` meets its contract: the invariant is that the counts are of the rows passed; the measure is the rows left.
 use borrow.Author.Needs.{needs}
-use Rattle.sound_sums.specs.Tallies.{Tallied, feeOf}
+use Rattle.account_sums.specs.Tallies.{Tallied}
+use Rattle.sound_sums.specs.Fees.{feeOf}
 use mathlib.Core.Path.{_≡_}
 use native.Mathlib.Omega.{arith}
 use Prim.Native.Nat.{_-_, _≤_}

@@ -1,6 +1,6 @@
 -- `fees_all_within` meets its contract: the invariant is that every row passed is within; the measure is the rows left.
 use borrow.Author.Needs.{needs}
-use Rattle.sound_sums.specs.Tallies.{feesWithin, feesAllWithin}
+use Rattle.sound_sums.specs.Fees.{feesWithin, feesAllWithin}
 use Rattle.lists.proofs.ListLaws.{every-tabulate, every-fails}
 use Rattle.records.specs.Encoding.{rowAt}
 use borrow.Author.Tests.{not-true, not-false}

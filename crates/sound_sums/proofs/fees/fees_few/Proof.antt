@@ -1,7 +1,7 @@
 -- `fees_few` meets its contract: the counts are those of the definition.
 use Rattle.sound_sums.proofs.FeeLaws.{fees-counted}
-use Rattle.sound_sums.proofs.TallyLaws.{tallied-none}
-use Rattle.sound_sums.specs.Tallies.{feeOf}
+use Rattle.account_sums.proofs.TallyLaws.{tallied-none}
+use Rattle.sound_sums.specs.Fees.{feeOf}
 use mathlib.Core.Path.{_∙_}
 use borrow.Author.Needs.{needs}
 use Rattle.sound_sums.proofs.fees.fees_few.Statement.{statement}

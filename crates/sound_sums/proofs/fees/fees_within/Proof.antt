@@ -1,6 +1,6 @@
 -- `fees_within` meets its contract: no fee is always few; otherwise fewer than the stage.
 use Rattle.sound_sums.proofs.FeeLaws.{fees-none, fewer}
-use Rattle.sound_sums.specs.Tallies.{feesWithin}
+use Rattle.sound_sums.specs.Fees.{feesWithin}
 use mathlib.Core.Path.{_∙_}
 use borrow.Author.Needs.{needs}
 use Rattle.sound_sums.proofs.fees.fees_within.Statement.{statement}

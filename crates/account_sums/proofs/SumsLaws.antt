@@ -1,0 +1,179 @@
+-- Laws of the sums of each account: every share is of the form "a row of the account that passes a test counts so much".
+use Prim.Native.Nat.{ℕ, zero, suc, _+_, _*_, _-_, _^_, _≤_, _<_}
+use native.Mathlib.Omega.{arith}
+use native.Mathlib.Decide.{ℕ-discrete}
+use mathlib.Core.Path.{_≡_, refl, sym, ap, _∙_}
+use mathlib.Core.Logic.{_≢_}
+use mathlib.Core.Bool.{Bool, true, false, cond, not, _&&_, _||_, and-assoc, and-false, true≢false, false≢true}
+use mathlib.Core.List.{List}
+use lib.Dec.{eqb, leb}
+use borrow.Author.Tests.{eq-eqb, ne-eqb, eqb-false, leb-true}
+use lib.IntN.{ℤ}
+use lib.ListN.{getD, set}
+use Rattle.lists.specs.Tests.{_is_}
+use Rattle.lists.specs.Lists.{only}
+use Rattle.lists.proofs.TestLaws.{and-left, and-right}
+use Rattle.records.specs.Encoding.{rowAt, rowsOf}
+use Rattle.rules.specs.Limits.{mostRows, highestRefund}
+use Rattle.rules.specs.Rows.{Row, Test, Payment, remaining, source, debit, held, sourceOf, debitOf, payable}
+use Rattle.rules.specs.Soundness.{kindFits, returnedOf}
+use Rattle.account_sums.specs.Tallies.{Tallied, returnOf, drawnOf, moneyOf, paidOf, debtOf, owedOf, SourceTallies, DebitTallies, Countable}
+use Rattle.account_sums.proofs.TallyLaws.{tallied-skip, tallied-add, tallied-small}
+
+-- a row's share of its account's sum
+pub record Share (f : ℕ → Row → ℕ) (u : Test) (v : Row → ℕ) : Type 0 where
+  pub form : (n : ℕ) (r : Row) → f n r ≡ cond (eqb (r .account) n && u r) (v r) 0
+
+part-le : (b : Bool) (n m : ℕ) → n ≤ m → cond b n 0 ≤ m
+part-le true n m h = h
+part-le false n m h = omega arith
+
+module _ (f : ℕ → Row → ℕ) (u : Test) (v : Row → ℕ) (share : Share f u v) where
+  share-own : (n : ℕ) (r : Row) → n ≡ r .account → f n r ≡ cond (u r) (v r) 0
+  share-own n r e = share .form n r ∙ rw (eq-eqb (r .account) n (sym e))
+
+  share-other : (n : ℕ) (r : Row) → n ≢ r .account → f n r ≡ 0
+  share-other n r q = share .form n r ∙ rw (ne-eqb (r .account) n (λ e. q (sym e)))
+
+  share-le : (n : ℕ) (r : Row) → f n r ≤ v r
+  share-le n r = rw (share .form n r) (go (eqb (r .account) n && u r))
+    where
+      go : (b : Bool) → cond b (v r) 0 ≤ v r
+      go true = omega arith
+      go false = omega arith
+
+  -- a row that fails the test leaves the sums
+  pub share-skipped : (t : List ℤ) (xs : List ℕ) (i : ℕ) → Tallied f 257 t xs i → u (rowAt t i) ≡ false → Tallied f 257 t xs (i + 1)
+  share-skipped t xs i s e = tallied-skip f 257 t xs i s (λ n b. share .form n (rowAt t i) ∙ rw (e, and-false))
+
+  -- row i is added: r is the row, w its share
+  module _ (t : List ℤ) (xs : List ℕ) (i : ℕ) (s : Tallied f 257 t xs i) (used : ℕ) (c : Countable t used) (h : i < used) (r : Row) (e : r ≡ rowAt t i) (w : ℕ) (q : w ≡ cond (u r) (v r) 0) where
+    pub share-asked : ((k : ℕ) → k < used → v (rowAt t k) ≤ highestRefund) → (r .account < 257) × (getD xs (r .account) 0 + w < 2 ^ 64)
+    share-asked small =
+        let a : r .account < 257 = rw e (omega (arith, c .account i h)) in
+        let b : w ≤ highestRefund = rw (q, e) (part-le (u (rowAt t i)) (v (rowAt t i)) highestRefund (small i h)) in
+        let few = c .few in
+        let sum = tallied-small f 257 t highestRefund xs i (r .account) s a (λ k d. omega (arith, share-le (r .account) (rowAt t k), small k (omega arith))) in
+        (a, omega arith)
+
+    pub share-added : (ys : List ℕ) → ys ≡ set xs (r .account) (getD xs (r .account) 0 + w) → Tallied f 257 t ys (i + 1)
+    share-added ys z =
+        let a : r .account < 257 = rw e (omega (arith, c .account i h)) in
+        rw z
+        (tallied-add f 257 t xs i (r .account) w s a (q ∙ rw (← e) (sym (share-own (r .account) r refl))) (λ m d. rw (← e) (share-other m r d)))
+
+-- ---- the six sums
+
+abbrev pub returnedCheck : Test
+returnedCheck r = r .kind is Payment && r .mark is 4
+
+pub share-return : Share returnOf returnedCheck (λ r. 1)
+unfolding returnOf returnedOf
+share-return = record { form = λ n r. rw (and-assoc (eqb (r .account) n) (r .kind is Payment) (r .mark is 4)) }
+
+pub share-drawn : Share drawnOf source (λ r. r .settled)
+unfolding only sourceOf
+share-drawn = record { form = λ n r. refl }
+
+pub share-money : Share moneyOf source remaining
+unfolding only sourceOf
+share-money = record { form = λ n r. refl }
+
+pub share-paid : Share paidOf debit (λ r. r .settled)
+unfolding only debitOf
+share-paid = record { form = λ n r. refl }
+
+pub share-debt : (rows : List Row) → Share (debtOf rows) (λ r. debit r && not (held rows r)) remaining
+unfolding only payable
+share-debt rows = record { form = λ n r. refl }
+
+pub share-owed : Share owedOf debit remaining
+unfolding only debitOf
+share-owed = record { form = λ n r. refl }
+
+-- ---- a row is a source or a debit
+
+pub source-no-debit : (r : Row) → source r ≡ true → debit r ≡ false
+source-no-debit r e =
+    elim (ℕ-discrete (r .kind) 4) [
+      | yes v ↦ rw v
+      | no v ↦ elim (ℕ-discrete (r .kind) 5) [
+        | yes w ↦ rw w
+        | no w ↦ absurd (false≢true (simp (ne-eqb (r .kind) 4 v, ne-eqb (r .kind) 5 w) at e))
+      ]
+    ]
+
+or-left : (a b : Bool) → a || b ≡ false → a ≡ false
+or-left true b e = e
+or-left false b e = refl
+
+or-right : (a b : Bool) → a || b ≡ false → b ≡ false
+or-right true b e = absurd (true≢false e)
+or-right false b e = e
+
+pub no-source-debit : (r : Row) → kindFits r ≡ true → source r ≡ false → debit r ≡ true
+unfolding kindFits
+no-source-debit r k e =
+    let low = leb-true 1 (r .kind) (and-left (leb 1 (r .kind)) (leb (r .kind) 6) k) in
+    let high = leb-true (r .kind) 6 (and-right (leb 1 (r .kind)) (leb (r .kind) 6) k) in
+    let p = eqb-false (r .kind) 4 (or-left (eqb (r .kind) 4) (eqb (r .kind) 5) e) in
+    let c = eqb-false (r .kind) 5 (or-right (eqb (r .kind) 4) (eqb (r .kind) 5) e) in
+    elim (ℕ-discrete (r .kind) 1) [
+      | yes v ↦ rw v
+      | no v ↦ elim (ℕ-discrete (r .kind) 2) [
+        | yes w ↦ rw w
+        | no w ↦ elim (ℕ-discrete (r .kind) 3) [
+          | yes x ↦ rw x
+          | no x ↦ let y : r .kind ≡ 6 = omega arith in rw y
+        ]
+      ]
+    ]
+
+pub no-source-return : (r : Row) → source r ≡ false → returnedCheck r ≡ false
+no-source-return r e = rw (or-left (eqb (r .kind) 4) (eqb (r .kind) 5) e)
+
+-- a share that the test does not cut
+pub whole : (b : Bool) (n : ℕ) → b ≡ true → n ≡ cond b n 0
+whole b n e = rw e
+
+pub sources-skip : (t : List ℤ) (returned drawn money : List ℕ) (i : ℕ) → source (rowAt t i) ≡ false → SourceTallies t returned drawn money i → SourceTallies t returned drawn money (i + 1)
+sources-skip t returned drawn money i e s =
+    record {
+      returns = share-skipped returnOf returnedCheck (λ r. 1) share-return t returned i (s .returns) (no-source-return (rowAt t i) e);
+      draws = share-skipped drawnOf source (λ r. r .settled) share-drawn t drawn i (s .draws) e;
+      moneys = share-skipped moneyOf source remaining share-money t money i (s .moneys) e;
+    }
+
+pub debits-skip : (t : List ℤ) (used : ℕ) (paid debt owed : List ℕ) (i : ℕ) → source (rowAt t i) ≡ true → DebitTallies t used paid debt owed i → DebitTallies t used paid debt owed (i + 1)
+debits-skip t used paid debt owed i e s =
+    let d = source-no-debit (rowAt t i) e in
+    record {
+      payments = share-skipped paidOf debit (λ r. r .settled) share-paid t paid i (s .payments) d;
+      debts = share-skipped (debtOf (rowsOf t used)) (λ r. debit r && not (held (rowsOf t used) r)) remaining (share-debt (rowsOf t used)) t debt i (s .debts) (rw d);
+      owings = share-skipped owedOf debit remaining share-owed t owed i (s .owings) d;
+    }
+
+-- ---- bounds
+
+pub countable-less : (t : List ℤ) (used n : ℕ) → Countable t used → n ≤ used → Countable t n
+countable-less t used n c h =
+    let r = c .room in
+    let f = c .few in
+    record {
+      room = omega arith;
+      few = omega arith;
+      kind = λ i q. c .kind i (omega arith);
+      account = λ i q. c .account i (omega arith);
+      amount = λ i q. c .amount i (omega arith);
+      settled = λ i q. c .settled i (omega arith);
+    }
+
+module _ (t : List ℤ) (used : ℕ) (c : Countable t used) where
+  pub one-small : (k : ℕ) → k < used → 1 ≤ highestRefund
+  one-small k h = omega arith
+
+  pub settled-small : (k : ℕ) → k < used → rowAt t k .settled ≤ highestRefund
+  settled-small k h = omega (arith, c .settled k h, c .amount k h)
+
+  pub remaining-small : (k : ℕ) → k < used → rowAt t k .amount - rowAt t k .settled ≤ highestRefund
+  remaining-small k h = omega (arith, c .amount k h)

@@ -1,0 +1,119 @@
+// What the rows come to for each account, in one pass, as arrays by account number: returned checks, used sources, unused money, settled
+// debits, debts that settlement may pay, and all that is unsettled. Uses lists, records, rules and tables.
+use tables::codes::CHECK_RETURNED;
+use tables::codes::CREDIT;
+use tables::codes::PAYMENT;
+use tables::limits::MOST_ACCOUNTS;
+use tables::row_tests::is_held;
+use tables::rows::kind_at;
+use tables::rows::read_row;
+ghost use mathlib.Core.Path.{_≡_};
+ghost use mathlib.Core.Bool.{true, false, cond};
+ghost use Prim.Native.Nat.{_+_, _^_, _<_};
+ghost use lib.ListN.{getD, set};
+ghost use Rattle.records.specs.Encoding.{rowAt};
+ghost use Rattle.rules.specs.Rows.{source};
+ghost use Rattle.account_sums.specs.Tallies.{Countable, SourceTallies, DebitTallies};
+
+// A sum for each account number, from 0 on.
+pub const SEATS: usize = MOST_ACCOUNTS + 1;
+
+pub fn part(test: bool, v: u64) -> u64
+    ensures { λ r. ⌜ r ≡ cond test v 0 ⌝ }
+{
+    if test { v } else { 0 }
+}
+
+pub fn add(sums: &mut [u64; SEATS], account: usize, v: u64)
+    requires { ⌜ (account < 257) × (getD (now sums) account 0 + v < 2 ^ 64) ⌝ }
+    ensures { λ _. ⌜ now (sums .exit) ≡ set (now (sums .entry)) account (getD (now (sums .entry)) account 0 + v) ⌝ }
+{
+    let old = sums[account];
+    sums[account] = old + v;
+}
+
+// Row i, a source.
+fn add_source(
+    journal: &[i64],
+    i: usize,
+    returned: &mut [u64; SEATS],
+    drawn: &mut [u64; SEATS],
+    money: &mut [u64; SEATS],
+)
+    requires { ⌜ Countable (now journal) (i + 1) × (source (rowAt (now journal) i) ≡ true) × SourceTallies (now journal) (now returned) (now drawn) (now money) i ⌝ }
+    ensures { λ _. ⌜ SourceTallies (now (journal .entry)) (now (returned .exit)) (now (drawn .exit)) (now (money .exit)) (i + 1) ⌝ }
+{
+    let r = read_row(journal, i);
+    let a = r.account as usize;
+    add(
+        returned,
+        a,
+        part((r.kind == PAYMENT) & (r.mark == CHECK_RETURNED), 1),
+    );
+    add(drawn, a, r.settled);
+    add(money, a, r.amount - r.settled);
+}
+
+// Row i, a debit.
+fn add_debit(
+    journal: &[i64],
+    used: usize,
+    i: usize,
+    paid: &mut [u64; SEATS],
+    debt: &mut [u64; SEATS],
+    owed: &mut [u64; SEATS],
+)
+    requires { ⌜ Countable (now journal) used × (i < used) × (source (rowAt (now journal) i) ≡ false) × DebitTallies (now journal) used (now paid) (now debt) (now owed) i ⌝ }
+    ensures { λ _. ⌜ DebitTallies (now (journal .entry)) used (now (paid .exit)) (now (debt .exit)) (now (owed .exit)) (i + 1) ⌝ }
+{
+    let r = read_row(journal, i);
+    let a = r.account as usize;
+    let left = r.amount - r.settled;
+    add(paid, a, r.settled);
+    add(debt, a, part(!is_held(journal, used, r), left));
+    add(owed, a, left);
+}
+
+// Row i to its account's sums.
+fn add_row(
+    journal: &[i64],
+    used: usize,
+    i: usize,
+    returned: &mut [u64; SEATS],
+    drawn: &mut [u64; SEATS],
+    money: &mut [u64; SEATS],
+    paid: &mut [u64; SEATS],
+    debt: &mut [u64; SEATS],
+    owed: &mut [u64; SEATS],
+)
+    requires { ⌜ Countable (now journal) used × (i < used) × SourceTallies (now journal) (now returned) (now drawn) (now money) i × DebitTallies (now journal) used (now paid) (now debt) (now owed) i ⌝ }
+    ensures { λ _. ⌜ SourceTallies (now (journal .entry)) (now (returned .exit)) (now (drawn .exit)) (now (money .exit)) (i + 1) × DebitTallies (now (journal .entry)) used (now (paid .exit)) (now (debt .exit)) (now (owed .exit)) (i + 1) ⌝ }
+{
+    let kind = kind_at(journal, i);
+    if (kind == PAYMENT) | (kind == CREDIT) {
+        add_source(journal, i, returned, drawn, money);
+        return;
+    }
+    add_debit(journal, used, i, paid, debt, owed);
+}
+
+// The used rows, each to its account's sums.
+pub fn add_rows(
+    journal: &[i64],
+    used: usize,
+    returned: &mut [u64; SEATS],
+    drawn: &mut [u64; SEATS],
+    money: &mut [u64; SEATS],
+    paid: &mut [u64; SEATS],
+    debt: &mut [u64; SEATS],
+    owed: &mut [u64; SEATS],
+)
+    requires { ⌜ Countable (now journal) used × SourceTallies (now journal) (now returned) (now drawn) (now money) 0 × DebitTallies (now journal) used (now paid) (now debt) (now owed) 0 ⌝ }
+    ensures { λ _. ⌜ SourceTallies (now (journal .entry)) (now (returned .exit)) (now (drawn .exit)) (now (money .exit)) used × DebitTallies (now (journal .entry)) used (now (paid .exit)) (now (debt .exit)) (now (owed .exit)) used ⌝ }
+{
+    let mut i = 0;
+    while i < used {
+        add_row(journal, used, i, returned, drawn, money, paid, debt, owed);
+        i += 1;
+    }
+}

@@ -1,0 +1,91 @@
+-- Event 1: which refusals concern it, and the book that it makes.
+use mathlib.Core.Path.{_≡_, refl, sym}
+use mathlib.Core.Bool.{Bool, true, false, not, _&&_, or-false}
+use Prim.Native.Nat.{_-_, _≤_}
+use native.Mathlib.Omega.{arith}
+use mathlib.Core.List.{List, [], _∷_}
+use lib.ListN.{length}
+use lib.IntN.{ℤ}
+use lib.Dec.{leb}
+use borrow.Author.Tests.{leb-true, not-false}
+use Rattle.records.specs.Encoding.{StorableAccount}
+use Rattle.records.specs.AccountOperations.{opened}
+use Rattle.lists.specs.Tests.{_is_, _from_to_, _implies_, first}
+use Rattle.lists.proofs.TestLaws.{and-left, and-right}
+use Rattle.rules.specs.Limits.{highestTopUp}
+use Rattle.rules.specs.Book.{Account, Instruction, Unused, Book, account, putAccount}
+use Rattle.rules.specs.Events.{openAccount}
+use Rattle.rules.specs.Refusals.{changeOf, zeroFrom-c, openForm, formOf, wellFormed, unknown, taken, onClosed, unclassed, misdated, duplicate, barred, noRow, untimely, lastDay, refusals, answerNumber}
+use Rattle.rules.specs.Posting.{removesTopUp}
+use Rattle.rules.specs.Tables.{Tables, accountsIn, rowsUsed, bookOf, soundTables}
+use Rattle.preservation.proofs.Accepted.{accepted}
+use Rattle.tables.specs.Changes.{AccountChanged}
+use Rattle.posting.specs.Posts.{tablesAt, acceptanceOf, Posts}
+use Rattle.posting.proofs.BookLaws.{count-read}
+use Rattle.posting.proofs.RefusalLaws.{ofKind, at-kind}
+use Rattle.posting.proofs.AccountEventLaws.{rows-fit, never-full, never-above, account-posts}
+use Rattle.event_accounts.specs.AccountEvents.{openRefusals}
+
+module _ (b : Book) (e : Instruction) (fit : length (b .rows) ≤ b .room) where
+  abbrev event1 : Instruction
+  event1 = ofKind 1 e
+
+  change-open : changeOf 1 b event1 .rows ≡ b .rows
+  unfolding changeOf openAccount
+  change-open = refl
+
+  answer-1 : answerNumber b event1 ≡ first (openRefusals b event1)
+  unfolding answerNumber refusals wellFormed formOf unknown taken onClosed unclassed misdated duplicate barred noRow untimely lastDay first openRefusals
+  answer-1 =
+      rw (never-full b event1 change-open fit, never-above b event1 change-open, or-false (not (e .account from 1 to length (b .accounts))))
+
+-- the number that event 1 gets
+pub answer-open : (b : Book) (e : Instruction) → length (b .rows) ≤ b .room → e .kind ≡ 1 → answerNumber b e ≡ first (openRefusals b e)
+answer-open b e h k = at-kind (λ x. answerNumber b x ≡ first (openRefusals b x)) e 1 k (answer-1 b e h)
+
+-- the same on sound tables, with what each test came to
+pub open-by : (t : Tables) → soundTables t ≡ true → (e : Instruction) → e .kind ≡ 1 → (f i u : Bool) → openForm e ≡ f
+    → e .account from 1 to accountsIn t ≡ i → account (bookOf t) (e .account) .state is Unused ≡ u
+    → first ((2, not f) ∷ (3, not i) ∷ (4, not u) ∷ []) ≡ answerNumber (bookOf t) e
+unfolding openRefusals
+open-by t s e k f i u x y v = rw (answer-open (bookOf t) e (rows-fit t s) k, x, ← count-read t s, y, v)
+
+-- ---- what an accepted event 1 leaves
+
+module _ (t : Tables) (s : soundTables t ≡ true) (e : Instruction) (k : e .kind ≡ 1) (q : 0 ≡ answerNumber (bookOf t) e) where
+  abbrev newAccount : Account
+  newAccount = opened (e .a) (e .b)
+
+  changed : changeOf (e .kind) (bookOf t) e ≡ putAccount (e .account) newAccount (bookOf t)
+  unfolding changeOf openAccount
+  changed = at-kind (λ x. changeOf (x .kind) (bookOf t) x ≡ putAccount (x .account) (opened (x .a) (x .b)) (bookOf t)) e 1 k refl
+
+  formed : openForm e ≡ true
+  unfolding wellFormed formOf
+  formed = at-kind (λ x. not (wellFormed x) ≡ false → openForm x ≡ true) e 1 k (λ w. not-false _ w) (accepted (bookOf t) e (sym q) .formed)
+
+  pub open-storable : StorableAccount newAccount
+  unfolding openForm
+  open-storable =
+      let threshold-part : Bool = leb (e .a) highestTopUp in
+      let amount-part : Bool = leb (e .b) highestTopUp in
+      let zero-part : Bool = e .b is 0 implies e .a is 0 in
+      let both = and-left (threshold-part && amount-part) zero-part (and-left (threshold-part && amount-part && zero-part) (zeroFrom-c e) formed) in
+      record {
+        state = omega arith;
+        request = omega arith;
+        returned = omega arith;
+        threshold = omega (arith, leb-true (e .a) highestTopUp (and-left threshold-part amount-part both));
+        topup = omega (arith, leb-true (e .b) highestTopUp (and-right threshold-part amount-part both));
+        declines = omega arith;
+        declined = omega arith;
+      }
+
+  pub open-posts : (acc : List ℤ) → AccountChanged (t .accounts) acc (e .account - 1) newAccount
+      → Posts t (tablesAt (t .header) acc (t .journal)) e (acceptanceOf (rowsUsed t) 0 0 0)
+  open-posts acc w =
+      let p = account-posts t s e (rw k) q newAccount changed acc w in
+      rw keeps-top-up at p
+    where
+      keeps-top-up : removesTopUp (bookOf t) e ≡ false
+      keeps-top-up = unfold removesTopUp in (rw k)

@@ -1,0 +1,81 @@
+-- Event 8: which refusals concern it, and the book that it makes.
+use mathlib.Core.Path.{_≡_, refl}
+use mathlib.Core.Bool.{Bool, true, false, not}
+use Prim.Native.Nat.{_-_, _≤_}
+use native.Mathlib.Omega.{arith}
+use mathlib.Core.List.{List, [], _∷_}
+use lib.ListN.{length}
+use lib.IntN.{ℤ}
+use Rattle.records.specs.Encoding.{StorableAccount}
+use Rattle.records.specs.AccountOperations.{closeRequestedOn}
+use Rattle.lists.specs.Tests.{_is_, first}
+use Rattle.rules.specs.Book.{Account, Instruction, Unused, Pending, Closed, Book, account, putAccount}
+use Rattle.rules.specs.Events.{requestClose}
+use Rattle.rules.specs.Refusals.{changeOf, requestForm, formOf, wellFormed, unknown, taken, onClosed, unclassed, misdated, duplicate, barred, noRow, untimely, lastDay, refusals, answerNumber}
+use Rattle.rules.specs.Posting.{removesTopUp}
+use Rattle.rules.specs.Tables.{Tables, rowsUsed, bookOf, soundTables}
+use Rattle.rules.proofs.StorableLaws.{day-le}
+use Rattle.rules.proofs.TableLaws.{sound-book}
+use Rattle.tables.specs.Changes.{AccountChanged}
+use Rattle.posting.specs.Posts.{tablesAt, acceptanceOf, Posts}
+use Rattle.posting.proofs.BookLaws.{account-holds}
+use Rattle.posting.proofs.RefusalLaws.{ofKind, at-kind, unknown-unused}
+use Rattle.posting.proofs.AccountEventLaws.{rows-fit, never-full, never-above, account-posts}
+use Rattle.event_accounts.specs.AccountEvents.{requestRefusals}
+
+module _ (b : Book) (e : Instruction) (fit : length (b .rows) ≤ b .room) where
+  abbrev event8 : Instruction
+  event8 = ofKind 8 e
+
+  change-request : changeOf 8 b event8 .rows ≡ b .rows
+  unfolding changeOf requestClose
+  change-request = refl
+
+  answer-8 : answerNumber b event8 ≡ first (requestRefusals b event8)
+  unfolding answerNumber refusals wellFormed formOf unknown taken onClosed unclassed misdated duplicate barred noRow untimely lastDay first requestRefusals
+  answer-8 = rw (never-full b event8 change-request fit, never-above b event8 change-request, unknown-unused b (e .account))
+
+-- the number that event 8 gets
+pub answer-request : (b : Book) (e : Instruction) → length (b .rows) ≤ b .room → e .kind ≡ 8 → answerNumber b e ≡ first (requestRefusals b e)
+answer-request b e h k = at-kind (λ x. answerNumber b x ≡ first (requestRefusals b x)) e 8 k (answer-8 b e h)
+
+-- the same on sound tables, with what each test came to
+pub request-by : (t : Tables) → soundTables t ≡ true → (e : Instruction) → e .kind ≡ 8 → (f u c p : Bool) → requestForm e ≡ f
+    → account (bookOf t) (e .account) .state is Unused ≡ u → account (bookOf t) (e .account) .state is Closed ≡ c → account (bookOf t) (e .account) .state is Pending ≡ p
+    → first ((2, not f) ∷ (3, u) ∷ (5, c) ∷ (11, p) ∷ []) ≡ answerNumber (bookOf t) e
+unfolding requestRefusals
+request-by t s e k f u c p x y v w = rw (answer-request (bookOf t) e (rows-fit t s) k, x, y, v, w)
+
+-- ---- what an accepted event 8 leaves
+
+module _ (t : Tables) (s : soundTables t ≡ true) (e : Instruction) where
+  abbrev pendingAccount : Account
+  pendingAccount = closeRequestedOn (bookOf t .day) (account (bookOf t) (e .account))
+
+  pub request-storable : StorableAccount pendingAccount
+  request-storable =
+      let x = account-holds t s (e .account) in
+      record {
+        state = omega arith;
+        request = omega (arith, day-le (bookOf t .day) (bookOf t) (sound-book t s .near));
+        returned = x .returned;
+        threshold = x .threshold;
+        topup = x .topup;
+        declines = x .declines;
+        declined = x .declined;
+      }
+
+  module _ (k : e .kind ≡ 8) (q : 0 ≡ answerNumber (bookOf t) e) where
+    changed : changeOf (e .kind) (bookOf t) e ≡ putAccount (e .account) pendingAccount (bookOf t)
+    unfolding changeOf requestClose
+    changed =
+        at-kind (λ x. changeOf (x .kind) (bookOf t) x ≡ putAccount (x .account) (closeRequestedOn (bookOf t .day) (account (bookOf t) (x .account))) (bookOf t)) e 8 k refl
+
+    pub request-posts : (acc : List ℤ) → AccountChanged (t .accounts) acc (e .account - 1) pendingAccount
+        → Posts t (tablesAt (t .header) acc (t .journal)) e (acceptanceOf (rowsUsed t) 0 0 0)
+    request-posts acc w =
+        let p = account-posts t s e (rw k) q pendingAccount changed acc w in
+        rw keeps-top-up at p
+      where
+        keeps-top-up : removesTopUp (bookOf t) e ≡ false
+        keeps-top-up = unfold removesTopUp in (rw k)

@@ -1,0 +1,91 @@
+-- Event 7, declined: the book that it makes, and whether the top-up is removed.
+use mathlib.Core.Path.{_≡_, refl, sym}
+use mathlib.Core.Logic.{_≢_}
+use mathlib.Core.Bool.{Bool, true, false, not, cond, _&&_}
+use Prim.Native.Nat.{_+_, _-_}
+use native.Mathlib.Omega.{arith}
+use mathlib.Core.List.{List}
+use lib.IntN.{ℤ}
+use lib.Dec.{leb}
+use borrow.Author.Tests.{leb-true, leb-false, ne-eqb, not-false}
+use Rattle.records.specs.Codes.{Yes}
+use Rattle.records.specs.Encoding.{StorableAccount}
+use Rattle.records.specs.AccountOperations.{lastDecline, declinedOn}
+use Rattle.records.specs.Updates.{withTopUp, withDeclines}
+use Rattle.lists.specs.Tests.{_is_}
+use Rattle.lists.proofs.TestLaws.{and-left, and-right}
+use Rattle.rules.specs.Book.{Account, Instruction, Book, account, putAccount}
+use Rattle.rules.specs.Events.{declineTopUp, topUpResult}
+use Rattle.rules.specs.Refusals.{changeOf, zeroFrom-c, resultForm, formOf, wellFormed, answerNumber}
+use Rattle.rules.specs.Posting.{removesTopUp}
+use Rattle.rules.specs.Tables.{Tables, rowsUsed, bookOf, soundTables}
+use Rattle.rules.proofs.StorableLaws.{day-le}
+use Rattle.rules.proofs.TableLaws.{sound-book}
+use Rattle.preservation.proofs.Accepted.{accepted}
+use Rattle.tables.specs.Changes.{AccountChanged}
+use Rattle.posting.specs.Posts.{tablesAt, acceptanceOf, Posts}
+use Rattle.posting.proofs.BookLaws.{account-holds}
+use Rattle.posting.proofs.RefusalLaws.{at-kind}
+use Rattle.posting.proofs.AccountEventLaws.{account-posts}
+
+module _ (t : Tables) (s : soundTables t ≡ true) (e : Instruction) where
+  abbrev b : Book
+  b = bookOf t
+
+  abbrev named : Account
+  named = account b (e .account)
+
+  abbrev declinedAccount : Account
+  declinedAccount = declinedOn (b .day) named
+
+  pub declined-storable : StorableAccount declinedAccount
+  unfolding declinedOn
+  declined-storable = go (lastDecline named) refl
+    where
+      go : (z : Bool) → leb 2 (named .declines) ≡ z → StorableAccount (cond z (withDeclines 0 0 (withTopUp 0 0 named)) (withDeclines (named .declines + 1) (b .day) named))
+      go true q =
+          let x = account-holds t s (e .account) in
+          record {
+            state = x .state;
+            request = x .request;
+            returned = x .returned;
+            threshold = omega arith;
+            topup = omega arith;
+            declines = omega arith;
+            declined = omega arith;
+          }
+      go false q =
+          let x = account-holds t s (e .account) in
+          record {
+            state = x .state;
+            request = x .request;
+            returned = x .returned;
+            threshold = x .threshold;
+            topup = x .topup;
+            declines = omega (arith, leb-false 2 (named .declines) q);
+            declined = omega (arith, day-le (b .day) b (sound-book t s .near));
+          }
+
+  module _ (k : e .kind ≡ 7) (q : 0 ≡ answerNumber b e) (n : e .b ≢ Yes) where
+    changed : changeOf (e .kind) b e ≡ putAccount (e .account) declinedAccount b
+    unfolding changeOf topUpResult declineTopUp
+    changed = rw (k, ne-eqb (e .b) Yes n)
+
+    formed : resultForm e ≡ true
+    unfolding wellFormed formOf
+    formed = at-kind (λ x. not (wellFormed x) ≡ false → resultForm x ≡ true) e 7 k (λ w. not-false _ w) (accepted b e (sym q) .formed)
+
+    result-0 : e .b ≡ 0
+    unfolding resultForm
+    result-0 =
+        let first-part : Bool = e .a is 0 in
+        let result-part : Bool = leb (e .b) 1 in
+        omega (arith, leb-true (e .b) 1 (and-right first-part result-part (and-left (first-part && result-part) (zeroFrom-c e) formed)), n)
+
+    removed : removesTopUp b e ≡ lastDecline named
+    unfolding removesTopUp
+    removed = rw (k, result-0)
+
+    pub declined-posts : (acc : List ℤ) → AccountChanged (t .accounts) acc (e .account - 1) declinedAccount
+        → Posts t (tablesAt (t .header) acc (t .journal)) e (acceptanceOf (rowsUsed t) 0 0 (cond (lastDecline named) 1 0))
+    declined-posts acc w = rw (← removed) (account-posts t s e (rw k) q declinedAccount changed acc w)

@@ -1,0 +1,115 @@
+-- Event 7, paid: the book that it makes.
+use mathlib.Core.Path.{_≡_, refl, sym, ap, _∙_}
+use mathlib.Core.Bool.{false}
+use Prim.Native.Nat.{ℕ, _+_, _-_, _≤_, _<_}
+use native.Mathlib.Omega.{arith}
+use mathlib.Core.List.{List, [], _∷_, _++_}
+use lib.ListN.{length, set, length-set}
+use lib.IntN.{ℤ}
+use borrow.Author.Tests.{ltb-false}
+use Rattle.records.specs.Encoding.{accountsOf, StorableRow, StorableAccount}
+use Rattle.records.specs.AccountOperations.{topUpPaid}
+use Rattle.lists.specs.Tests.{_is_}
+use Rattle.rules.specs.Settlement.{settle}
+use Rattle.rules.specs.Book.{Account, Instruction, Book, account, putAccount, addRow, withRows}
+use Rattle.rules.specs.Events.{payTopUp, topUpResult}
+use Rattle.rules.specs.Refusals.{changeOf, after, full}
+use Rattle.rules.specs.Posting.{removesTopUp}
+use Rattle.rules.specs.Tables.{Tables, accountsIn, roomIn, rowsUsed, bookOf}
+use Rattle.rules.proofs.StorableLaws.{day-le, accounts-le}
+use Rattle.rules.proofs.TableLaws.{sound-book}
+use Rattle.preservation.proofs.Accepted.{accepted}
+use Rattle.preservation.proofs.NamedLaws.{after-named}
+use Rattle.tables.specs.Changes.{AccountIn, AccountChanged}
+use Rattle.tables.proofs.ChangeLaws.{changed-accounts}
+use Rattle.settlement.specs.Settling.{Settled}
+use Rattle.posting.specs.Posts.{tablesAt, acceptanceOf, RowAdded, Posts}
+use Rattle.posting.proofs.BookLaws.{used-read, room-read, count-read, account-holds}
+use Rattle.posting.proofs.RefusalLaws.{length-after}
+use Rattle.posting.proofs.AddedLaws.{acceptance-plain, posts-accepted, row-written}
+use Rattle.posting.proofs.AccountEventLaws.{named-inside, named-in}
+use Rattle.event_topup.specs.TopUpResult.{PaidResult}
+use Rattle.event_topup.proofs.ResultLaws.{topUpRow}
+
+module _ (t : Tables) (e : Instruction) (p : PaidResult t e) where
+  abbrev b : Book
+  b = bookOf t
+
+  abbrev n : ℕ
+  n = e .account
+
+  abbrev paidAccount : Account
+  paidAccount = topUpPaid (account b n)
+
+  not-9 : e .kind is 9 ≡ false
+  not-9 = rw (p .kind)
+
+  -- the account that it names is one of the table's
+  pub paid-inside : (1 ≤ n) × (n ≤ accountsIn t)
+  paid-inside = named-inside t (p .sound) e not-9 (p .accepted)
+
+  pub paid-in : AccountIn (t .accounts) (n - 1)
+  paid-in = named-in t (p .sound) e not-9 (p .accepted)
+
+  changed : changeOf (e .kind) b e ≡ addRow (topUpRow b e) (putAccount n paidAccount b)
+  unfolding changeOf topUpResult payTopUp
+  changed = rw (p .kind, p .paid)
+
+  length-paid : length (after b e .rows) ≡ length (b .rows) + 1
+  length-paid = length-after b e (b .rows) (topUpRow b e ∷ []) (ap (λ (x : Book). x .rows) changed) refl
+
+  -- there is a row for it
+  pub paid-fits : rowsUsed t < roomIn t
+  unfolding full
+  paid-fits =
+      let r = ltb-false (b .room) (length (after b e .rows)) (accepted b e (sym (p .accepted)) .fits) in
+      omega (arith, length-paid, room-read t (p .sound), used-read t (p .sound))
+
+  pub paid-row-storable : StorableRow (topUpRow b e)
+  paid-row-storable =
+      let near = sound-book t (p .sound) .near in
+      record {
+        kind = omega arith;
+        account = omega (arith, paid-inside .1, count-read t (p .sound), accounts-le (b .day) b near);
+        day = omega (arith, day-le (b .day) b near);
+        amount = account-holds t (p .sound) n .topup;
+        settled = omega arith;
+        mark = omega arith;
+        due = omega arith;
+        dispute = omega arith;
+        hold = omega arith;
+        reference = omega arith;
+      }
+
+  pub paid-account-storable : StorableAccount paidAccount
+  paid-account-storable =
+      let x = account-holds t (p .sound) n in
+      record {
+        state = x .state;
+        request = x .request;
+        returned = x .returned;
+        threshold = x .threshold;
+        topup = x .topup;
+        declines = omega arith;
+        declined = omega arith;
+      }
+
+  after-paid : after b e ≡ withRows (settle n (b .rows ++ (topUpRow b e ∷ []))) (putAccount n paidAccount b)
+  after-paid =
+      after-named b e (sound-book t (p .sound)) (λ z. omega (arith, p .kind)) (accepted b e (sym (p .accepted))) (paid-inside .0)
+      (omega (arith, paid-inside .1, count-read t (p .sound))) (rw changed (length-set (b .accounts) (n - 1) paidAccount))
+      ∙ rw changed
+
+  pub paid-posts : (acc h j j″ : List ℤ) → AccountChanged (t .accounts) acc (n - 1) paidAccount → RowAdded (t .header) h (t .journal) j (topUpRow b e)
+      → Settled j j″ (rowsUsed t + 1) n → Posts t (tablesAt h acc j″) e (acceptanceOf (rowsUsed t) 1 0 0)
+  paid-posts acc h j j″ v w d =
+      posts-accepted t (tablesAt h acc j″) (p .sound) e (acceptanceOf (rowsUsed t) 1 0 0) (p .accepted)
+      (rw (used-read t (p .sound)) (acceptance-plain b e 1 length-paid not-9 keeps-top-up))
+      (rw after-paid
+      (row-written t (p .sound) h j j″ acc (topUpRow b e) n (set (b .accounts) (n - 1) paidAccount) w d paid-fits (v .size) account-put))
+    where
+      keeps-top-up : removesTopUp b e ≡ false
+      keeps-top-up = unfold removesTopUp in (rw (p .kind, p .paid))
+
+      account-put : accountsOf acc (accountsIn t) ≡ set (b .accounts) (n - 1) paidAccount
+      account-put = changed-accounts (t .accounts) acc (n - 1) paidAccount v (accountsIn t) (omega (arith, paid-inside .0, paid-inside .1)) ∙ (unfold bookOf in refl)

@@ -1,0 +1,116 @@
+-- `pay_top_up` meets its contract: the account is put back, the payment posted and settled.
+use borrow.Author.Needs.{needs}
+use native.Mathlib.Omega.{arith}
+use Rattle.rules.proofs.TableLaws.{header-length, journal-length}
+use Rattle.posting.proofs.BookLaws.{account-read, day-read, used-small}
+use Rattle.posting.proofs.AddedLaws.{added-journal}
+use Rattle.event_topup.proofs.PaidLaws.{paid-inside, paid-in, paid-fits, paid-row-storable, paid-account-storable, paid-posts}
+use Rattle.event_topup.proofs.pay_top_up.Statement.{statement}
+use Rattle.event_topup.proofs.pay_top_up.Tie as tie
+
+get-requires : tie.Need-get-requires
+get-requires c κs = omega (arith, header-length _ (c .before .pre .sound))
+
+account-numbered-requires : tie.Need-account-numbered-requires
+account-numbered-requires c κs = search needs
+
+pay-top-up-requires : tie.Need-pay-top-up-requires
+pay-top-up-requires c κs = search needs
+
+sub-write-account : tie.Need-sub-write-account
+sub-write-account c = paid-inside _ _ (c .before .before .before .before .before .before .before .pre) .0
+
+write-account-requires : tie.Need-write-account-requires
+write-account-requires c κs =
+    let y = c .before .before in
+    let x = y .before in
+    let a = x .before .before .before .before in (
+      paid-in _ _ (a .pre),
+      rw (y .pay-top-up .ensures, x .account-numbered .ensures, account-read _ (a .pre .sound) (a .args .e .account)) (paid-account-storable _ (a .args .e) (a .pre)),
+    )
+
+get-requires-2 : tie.Need-get-requires-2
+get-requires-2 c κs = omega (arith, header-length _ (c .before .before .before .before .before .before .before .before .before .before .pre .sound))
+
+new-row-requires : tie.Need-new-row-requires
+new-row-requires c κs = search needs
+
+add-row-requires : tie.Need-add-row-requires
+add-row-requires c κs =
+    let r = c .before .before in
+    let d = r .before in
+    let x = d .before .before .before .before .before .before .before in
+    let a = x .before .before .before .before in
+    let s = a .pre .sound in (
+      record { header = header-length _ s; room = omega (arith, paid-fits _ _ (a .pre), journal-length _ s) },
+      rw (r .new-row .ensures, d .get2 .ensures, day-read _ s, x .account-numbered .ensures, account-read _ s (a .args .e .account)) (paid-row-storable _ (a .args .e) (a .pre)),
+    )
+
+add-settle : tie.Need-add-settle
+add-settle c =
+    let u = c .before .before .before .before .before .before .before .before .before .before .before .before .before .before .before .before .get .ensures in
+    omega (arith, used-small _ (c .before .before .before .before .before .before .before .before .before .before .before .before .before .before .before .before .before .before .pre .sound))
+
+settle-requires : tie.Need-settle-requires
+settle-requires c κs =
+    let w = c .before .before .before in
+    let r = w .before .before .before in
+    let d = r .before in
+    let x = d .before .before .before .before .before .before .before in
+    let g = x .before .before in
+    let a = g .before .before in
+    let s = a .pre .sound in
+    let e = rw (r .new-row .ensures, d .get2 .ensures, day-read _ s, x .account-numbered .ensures, account-read _ s (a .args .e .account)) at (w .add-row .ensures) in
+    rw (g .get .ensures) (added-journal _ s _ _ _ e (paid-fits _ _ (a .pre)) (paid-row-storable _ _ (a .pre) .amount))
+
+posted-requires : tie.Need-posted-requires
+posted-requires c κs =
+    let u = c .before .before .before .before .before .before .before .before .before .before .before .before .before .before .before .before .before .before .get .ensures in
+    omega (arith, used-small _ (c .before .before .before .before .before .before .before .before .before .before .before .before .before .before .before .before .before .before .before .before .pre .sound))
+
+same-length : tie.Need-same-length
+same-length c = search needs
+
+same-length-2 : tie.Need-same-length-2
+same-length-2 c = search needs
+
+same-length-3 : tie.Need-same-length-3
+same-length-3 c = search needs
+
+returns : tie.Need-returns
+returns c =
+    let z = c .before .before in
+    let w = z .before .before .before .before in
+    let r = w .before .before .before in
+    let d = r .before in
+    let v = d .before .before .before in
+    let y = v .before .before .before in
+    let x = y .before in
+    let g = x .before .before in
+    let a = g .before .before in
+    let s = a .pre .sound in
+    let m = account-read _ s (a .args .e .account) in
+    let changed = rw (y .pay-top-up .ensures, x .account-numbered .ensures, m) at (v .write-account .ensures) in
+    let added = rw (r .new-row .ensures, d .get2 .ensures, day-read _ s, x .account-numbered .ensures, m) at (w .add-row .ensures) in
+    let settled = rw (g .get .ensures) at (z .settle .ensures) in
+    rw (c .posted .ensures, g .get .ensures) (paid-posts _ _ (a .pre) _ _ _ _ changed added settled)
+
+pub pay-top-up-spec : {M : Type 1} → statement M
+pay-top-up-spec =
+    tie.close
+    (tie.spec
+    get-requires
+    account-numbered-requires
+    pay-top-up-requires
+    sub-write-account
+    write-account-requires
+    get-requires-2
+    new-row-requires
+    add-row-requires
+    add-settle
+    settle-requires
+    posted-requires
+    same-length
+    same-length-2
+    same-length-3
+    returns)

@@ -1,0 +1,199 @@
+-- The refunds of a tick can be told from the book before it: an account closes with money left just if its days are over, none of its
+-- tolls stays held, and its money exceeds what it owes.
+use mathlib.Core.Path.{_≡_, refl, sym, ap, _∙_}
+use mathlib.Core.Logic.{_≢_}
+use mathlib.Core.Bool.{Bool, true, false, not, cond, _&&_, _||_, true≢false, false≢true}
+use Prim.Native.Nat.{ℕ, zero, suc, _+_, _≤_, _<_, min}
+use native.Mathlib.Omega.{arith}
+use native.Mathlib.Decide.{ℕ-discrete}
+use mathlib.Core.List.{List}
+use lib.ListN.{length, getD}
+use lib.Dec.{eqb, leb, ltb}
+use borrow.Author.Tests.{eqb-true, eq-eqb, ne-eqb, lt-ltb, le-ltb, ltb-true, ltb-false, not-true, not-false}
+use Rattle.lists.specs.Lists.{sumBy, only, exists}
+use Rattle.lists.proofs.TestLaws.{and-left, and-right, and-false}
+use Rattle.lists.proofs.SumLaws.{sumBy-at-le, sumBy-ext, sumBy-ext-at, sumBy-map}
+use Rattle.lists.proofs.ExistsLaws.{exists-none, none-exists}
+use Rattle.rules.specs.Limits.{closingDays, finalDay}
+use Rattle.rules.specs.Rows.{Row, blank, rowNo, remaining, debit, held, heldToll, unsettled, debitOf, payable}
+use Rattle.rules.specs.Settlement.{money, debt, moved, owed}
+use Rattle.rules.specs.Book.{Account, unused, Pending, Book, settled}
+use Rattle.rules.specs.Events.{release}
+use Rattle.rules.specs.Tick.{nextDay, holdEnds, endHolds, beforeRaising, raiseTolls, closes}
+use Rattle.rules.proofs.AllocationLaws.{bare}
+use Rattle.rules.proofs.SettlementAccountsLaws.{Remains, settleAccounts-remains}
+use Rattle.rules.proofs.SoundnessLaws.{Near, Sound}
+use Rattle.preservation.proofs.FeeLaws.{Named, fee-at}
+use Rattle.preservation.proofs.DisputeKept.{HeldToll, held-is}
+use Rattle.preservation.proofs.HoldsEnded.{endHolds-near, beforeRaising-near}
+use Rattle.preservation.proofs.ClosingLaws.{none-owed}
+use Rattle.tick_rules.specs.Ticks.{staysHeld, willRefund}
+use Rattle.tick_rules.proofs.FreedLaws.{atDawn, dawn-keeps, today, dawn, dawn-rows, dawn-length, dawn-at, dawn-account}
+use Rattle.tick_rules.proofs.RisingLaws.{Grown, settleAccounts-row, money-dawn, dusk, dusk-rows, dusk-length}
+use Rattle.tick_rules.proofs.LateLaws.{late, money-late, owed-grows, clear-late}
+
+-- a debit of account n that is unsettled is owed
+owes : (n : ℕ) (rows : List Row) (k : ℕ) → k < length rows → debitOf n (getD rows k blank) ≡ true → unsettled (getD rows k blank) ≡ true → 0 < owed n rows
+unfolding owed only
+owes n rows k l d u =
+    let f = sumBy-at-le (only (debitOf n) remaining) rows k blank l in
+    omega (arith, rw d at f, ltb-true (getD rows k blank .settled) (getD rows k blank .amount) u)
+
+toll-debit : (n : ℕ) (r : Row) → r .account ≡ n → r .kind ≡ 1 → debitOf n r ≡ true
+unfolding debitOf
+toll-debit n r a k = rw (a, k, eq-eqb n n refl)
+
+none-unsettled : (n : ℕ) (rows : List Row) → owed n rows ≡ 0 → exists (λ r. debitOf n r && unsettled r) rows ≡ false
+none-unsettled n rows z = none-exists (λ r. debitOf n r && unsettled r) rows blank (λ k l. go k l (debitOf n (getD rows k blank)) (unsettled (getD rows k blank)) refl refl)
+  where
+    go : (k : ℕ) → k < length rows → (d u : Bool) → debitOf n (getD rows k blank) ≡ d → unsettled (getD rows k blank) ≡ u → d && u ≡ false
+    go k l true true e f = absurd (omega (arith, owes n rows k l e f))
+    go k l true false e f = refl
+    go k l false u e f = refl
+
+module _ (b : Book) (s : Sound b) (ne : b .day ≢ finalDay) (j : ℕ) (h : j < length (b .accounts)) where
+  abbrev n : ℕ
+  n = suc j
+
+  owed-dawn : owed n (dawn b) ≡ owed n (b .rows)
+  unfolding owed only debitOf release
+  owed-dawn =
+      let f : Row → ℕ = only (debitOf n) remaining in
+      rw (dawn-rows b) (sumBy-map f (atDawn (today b)) (b .rows) ∙ sumBy-ext (λ r. f (atDawn (today b) r)) f (b .rows) (dawn-keeps f (today b) (λ r. refl)))
+
+  -- settlement takes as much from both sides
+  remains : Remains n (dawn b) (dusk b s) (moved n (dawn b))
+  remains = rw (dusk-rows b s) (settleAccounts-remains (length (b .accounts)) (dawn b) j h)
+
+  abbrev settledBook : Book
+  settledBook = beforeRaising b
+
+  near-dusk : Near (b .day) settledBook
+  near-dusk = beforeRaising-near b (s .near) ne
+
+  -- ---- from the late book to the one before
+
+  -- a toll that stays held is held and unsettled at dusk
+  held-owes : (k : ℕ) → k < length (b .rows) → staysHeld (today b) n (getD (b .rows) k blank) ≡ true → 0 < owed n (dusk b s)
+  unfolding staysHeld
+  held-owes k l e =
+      let r : Row = getD (b .rows) k blank in
+      let z : Row = getD (dusk b s) k blank in
+      let a : r .account ≡ n = eqb-true (r .account) n (and-left (eqb (r .account) n) _ e) in
+      let f = and-right (eqb (r .account) n) (heldToll r && not (holdEnds (today b) r)) e in
+      let ht : heldToll r ≡ true = and-left (heldToll r) (not (holdEnds (today b) r)) f in
+      let stays : holdEnds (today b) r ≡ false = not-true _ (and-right (heldToll r) (not (holdEnds (today b) r)) f) in
+      let d : getD (dawn b) k blank ≡ r = dawn-at b k ∙ rw stays in
+      let same : bare z ≡ bare r = rw (← d, dusk-rows b s) (settleAccounts-row (length (b .accounts)) (dawn b) k .kept) in
+      let lz : k < length (dusk b s) = omega (arith, dusk-length b s) in
+      let hz : heldToll z ≡ true = ap (λ (x : Row). heldToll x) same ∙ ht in
+      let kind : z .kind ≡ 1 = eqb-true (z .kind) 1 (and-left (eqb (z .kind) 1) (eqb (z .dispute) 1) hz) in
+      let disp : z .dispute ≡ 1 = eqb-true (z .dispute) 1 (and-right (eqb (z .kind) 1) (eqb (z .dispute) 1) hz) in
+      let w : HeldToll (settledBook .day) (settledBook .schedule .stage) z = held-is (settledBook .day) (settledBook .schedule .stage) z kind disp (near-dusk .live k lz .hold) in
+      let acc : z .account ≡ n = ap (λ (x : Row). x .account) same ∙ a in
+      owes n (dusk b s) k lz (toll-debit n z acc kind) (w .open-still)
+
+  abbrev lateRows : List Row
+  lateRows = late settledBook
+
+  told-after : not (exists (λ r. debitOf n r && unsettled r) lateRows) ≡ true → ltb 0 (money n lateRows) ≡ true
+      → (not (exists (staysHeld (today b) n) (b .rows)) ≡ true) × (ltb (owed n (b .rows)) (money n (b .rows)) ≡ true)
+  told-after q m =
+      let o : owed n lateRows ≡ 0 = none-owed n lateRows q in
+      let z : owed n (dusk b s) ≡ 0 = omega (arith, owed-grows settledBook n) in
+      let p : 0 < money n (dusk b s) = omega (arith, money-late settledBook n, ltb-true 0 (money n lateRows) m) in (
+        rw (none-exists (staysHeld (today b) n) (b .rows) blank (λ k l. none k l z (staysHeld (today b) n (getD (b .rows) k blank)) refl)),
+        lt-ltb (owed n (b .rows)) (money n (b .rows)) (omega (arith, remains .money, remains .owed, owed-dawn, money-dawn b n)),
+      )
+    where
+      none : (k : ℕ) → k < length (b .rows) → owed n (dusk b s) ≡ 0 → (v : Bool) → staysHeld (today b) n (getD (b .rows) k blank) ≡ v → v ≡ false
+      none k l z true e = absurd (omega (arith, held-owes k l e))
+      none k l z false e = refl
+
+  -- ---- from the book before to the late one
+
+  module _ (q : not (exists (staysHeld (today b) n) (b .rows)) ≡ true) where
+    -- no toll of the account is held at dawn
+    free-dawn : (k : ℕ) → k < length (b .rows) → getD (b .rows) k blank .account ≡ n → heldToll (getD (dawn b) k blank) ≡ false
+    unfolding staysHeld
+    free-dawn k l a = rw (dawn-at b k) (go (holdEnds (today b) (getD (b .rows) k blank)) (heldToll (getD (b .rows) k blank)) refl refl)
+      where
+        r : Row
+        r = getD (b .rows) k blank
+
+        go : (v w : Bool) → holdEnds (today b) r ≡ v → heldToll r ≡ w → heldToll (cond v (release (today b) r) r) ≡ false
+        go true w e f = unfold release in (and-false (eqb (r .kind) 1))
+        go false true e f =
+            let x : eqb (r .account) n && (heldToll r && not (holdEnds (today b) r)) ≡ false = exists-none (staysHeld (today b) n) (b .rows) blank (not-true _ q) k l in
+            absurd (true≢false (rw (eq-eqb (r .account) n a, e, f) at x))
+        go false false e f = f
+
+    free-number : (i : ℕ) → i ≤ length (b .rows) → rowNo (dawn b) i .account ≡ n → heldToll (rowNo (dawn b) i) ≡ false
+    free-number zero l e = refl
+    free-number (suc k) l e = free-dawn k l (sym (dawn-account b k) ∙ e)
+
+    -- so all its debits are payable
+    all-payable : (k : ℕ) → k < length (dawn b) → only (payable (dawn b) n) remaining (getD (dawn b) k blank) ≡ only (debitOf n) remaining (getD (dawn b) k blank)
+    unfolding only payable debitOf held
+    all-payable k l = go (ℕ-discrete (getD (dawn b) k blank .account) n)
+      where
+        r : Row
+        r = getD (dawn b) k blank
+
+        free : r .account ≡ n → heldToll r || eqb (r .kind) 2 && heldToll (rowNo (dawn b) (r .reference)) ≡ false
+        free a = rw (free-dawn k (omega (arith, dawn-length b)) (sym (dawn-account b k) ∙ a)) (fee (eqb (r .kind) 2) refl)
+          where
+            fee : (v : Bool) → eqb (r .kind) 2 ≡ v → v && heldToll (rowNo (dawn b) (r .reference)) ≡ false
+            fee true e =
+                let f : Named (dawn b) (suc k) r = fee-at (b .day) (endHolds (nextDay b)) (endHolds-near b (s .near) ne) k l (eqb-true (r .kind) 2 e) in
+                free-number (r .reference) (omega (arith, f .before, dawn-length b)) (f .account ∙ a)
+            fee false e = refl
+
+        go : Dec (r .account ≡ n) → cond (eqb (r .account) n && (debit r && not (heldToll r || eqb (r .kind) 2 && heldToll (rowNo (dawn b) (r .reference))))) (remaining r) 0 ≡ cond (eqb (r .account) n && debit r) (remaining r) 0
+        go (yes a) = rw (free a) (rest (eqb (r .account) n) (debit r))
+          where
+            rest : (x d : Bool) → cond (x && (d && true)) (remaining r) 0 ≡ cond (x && d) (remaining r) 0
+            rest true true = refl
+            rest true false = refl
+            rest false d = refl
+        go (no a) = rw (ne-eqb (r .account) n a)
+
+    debt-dawn : debt n (dawn b) ≡ owed n (dawn b)
+    unfolding debt owed
+    debt-dawn = sumBy-ext-at (only (payable (dawn b) n) remaining) (only (debitOf n) remaining) blank (dawn b) all-payable
+
+    told-before : ltb (owed n (b .rows)) (money n (b .rows)) ≡ true → (not (exists (λ r. debitOf n r && unsettled r) lateRows) ≡ true) × (ltb 0 (money n lateRows) ≡ true)
+    unfolding moved
+    told-before m =
+        let l = ltb-true (owed n (b .rows)) (money n (b .rows)) m in
+        let v : min (money n (dawn b)) (debt n (dawn b)) ≡ owed n (b .rows) = omega (arith, debt-dawn, owed-dawn, money-dawn b n) in
+        let z : owed n (dusk b s) ≡ 0 = omega (arith, remains .owed, owed-dawn) in
+        let p : 0 < money n (dusk b s) = omega (arith, remains .money, money-dawn b n) in (
+          rw (none-unsettled n lateRows (clear-late settledBook n z)),
+          lt-ltb 0 (money n lateRows) (omega (arith, money-late settledBook n)),
+        )
+
+  -- ---- the two tests are one
+
+  told : not (exists (λ r. debitOf n r && unsettled r) lateRows) && ltb 0 (money n lateRows)
+      ≡ not (exists (staysHeld (today b) n) (b .rows)) && ltb (owed n (b .rows)) (money n (b .rows))
+  told =
+      go (not (exists (λ r. debitOf n r && unsettled r) lateRows)) (ltb 0 (money n lateRows)) (not (exists (staysHeld (today b) n) (b .rows))) (ltb (owed n (b .rows)) (money n (b .rows)))
+      told-after told-before
+    where
+      go : (q m q′ m′ : Bool) → (q ≡ true → m ≡ true → (q′ ≡ true) × (m′ ≡ true)) → (q′ ≡ true → m′ ≡ true → (q ≡ true) × (m ≡ true)) → q && m ≡ q′ && m′
+      go true true q′ m′ f g = let t = f refl refl in rw (t .0, t .1)
+      go true false true true f g = absurd (false≢true (g refl refl .1))
+      go true false true false f g = refl
+      go true false false m′ f g = refl
+      go false m true true f g = absurd (false≢true (g refl refl .0))
+      go false m true false f g = refl
+      go false m false m′ f g = refl
+
+  pub refund-told : (x : Account) → closes (raiseTolls settledBook) n x && ltb 0 (money n lateRows) ≡ willRefund b n x
+  unfolding closes willRefund raiseTolls beforeRaising settled endHolds nextDay
+  refund-told x = regroup (eqb (x .state) Pending && leb (x .request + closingDays) (b .day + 1)) _ _ _ _ told
+    where
+      regroup : (p q m q′ m′ : Bool) → q && m ≡ q′ && m′ → p && q && m ≡ p && q′ && m′
+      regroup true q m q′ m′ e = e
+      regroup false q m q′ m′ e = refl
