@@ -2,6 +2,7 @@ pub mod AmountLaws
 pub mod BookLaws
 pub mod EventLaws
 pub mod AccountEventLaws
+pub mod PutRowLaws
 pub mod RateLaws
 pub mod TopUpLaws
 pub mod WrittenLaws
