@@ -1,6 +1,7 @@
 pub mod AmountLaws
 pub mod BookLaws
 pub mod EventLaws
+pub mod HeaderLaws
 pub mod AccountEventLaws
 pub mod PutRowLaws
 pub mod RateLaws

@@ -24,6 +24,7 @@ use Rattle.tables.proofs.ChangeLaws.{changed-rows, changed-append, mapped-all}
 use Rattle.settlement.specs.Settling.{Journal, Settled}
 use Rattle.posting.specs.Posts.{tablesAt, RowRoom, RowAdded}
 use Rattle.posting.proofs.BookLaws.{day-read, used-read, room-read, schedule-read, row-holds}
+use Rattle.posting.proofs.HeaderLaws.{schedule-same}
 use Rattle.posting.proofs.WrittenLaws.{Written}
 
 -- h and j are t's header and journal, but with just these rows used
@@ -128,20 +129,7 @@ module _ (t : Tables) (s : soundTables t ≡ true) where
 
   module _ (h j : List ℤ) (rows : List Row) (u : UsedRows t h j rows) where
     same-schedule : scheduleFrom h headerSchedule ≡ scheduleFrom (t .header) headerSchedule
-    unfolding scheduleFrom
-    same-schedule =
-        rw (
-          u .words 2 (λ z. omega arith),
-          u .words 3 (λ z. omega arith),
-          u .words 4 (λ z. omega arith),
-          u .words 5 (λ z. omega arith),
-          u .words 6 (λ z. omega arith),
-          u .words 7 (λ z. omega arith),
-          u .words 8 (λ z. omega arith),
-          u .words 9 (λ z. omega arith),
-          u .words 10 (λ z. omega arith),
-          u .words 11 (λ z. omega arith),
-        )
+    same-schedule = schedule-same (t .header) h (λ k l. u .words k (λ z. omega arith))
 
     -- there is a row for one more, and its day is the book's
     pub used-rows-room : length rows < roomIn t → RowRoom h j

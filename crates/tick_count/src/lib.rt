@@ -16,7 +16,8 @@ use tables::words::get;
 use tick_base::sums::add_remainders;
 ghost use mathlib.Core.Path.{_≡_};
 ghost use mathlib.Core.Bool.{true};
-ghost use Prim.Native.Nat.{_+_};
+ghost use Prim.Native.Nat.{_+_, _≤_};
+ghost use Rattle.rules.specs.Limits.{mostAccounts, mostRows};
 ghost use Rattle.rules.specs.Tables.{bookOf, soundTables};
 ghost use Rattle.tick_rules.specs.Ticks.{feesAdded, refundsAdded};
 ghost use Rattle.posting.specs.Posts.{tablesAt};
@@ -24,7 +25,7 @@ ghost use Rattle.posting.specs.Posts.{tablesAt};
 // The sums are 6 KiB of the stack.
 pub fn added_by_tick(header: &[i64], accounts: &[i64], journal: &[i64]) -> usize
     requires { ⌜ soundTables (tablesAt (now header) (now accounts) (now journal)) ≡ true ⌝ }
-    ensures { λ n. ⌜ n ≡ feesAdded (bookOf (tablesAt (now (header .entry)) (now (accounts .entry)) (now (journal .entry)))) + refundsAdded (bookOf (tablesAt (now (header .entry)) (now (accounts .entry)) (now (journal .entry)))) ⌝ }
+    ensures { λ n. ⌜ (n ≡ feesAdded (bookOf (tablesAt (now (header .entry)) (now (accounts .entry)) (now (journal .entry)))) + refundsAdded (bookOf (tablesAt (now (header .entry)) (now (accounts .entry)) (now (journal .entry))))) × (n ≤ mostRows + mostAccounts) ⌝ }
 {
     let used = get(header, USED_PLACE) as usize;
     let today = get(header, DAY_PLACE) + 1;
