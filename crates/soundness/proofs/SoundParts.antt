@@ -1,20 +1,20 @@
 -- The groups of clauses that the code tests are together rules' soundTables.
 use mathlib.Core.Path.{_≡_, refl, sym, ap, _∙_}
 use mathlib.Core.Bool.{Bool, true, false, _&&_, and-assoc, and-true, and-false}
-use Prim.Native.Nat.{ℕ, suc, _+_, _*_, _-_, _/_, _%_, _≤_, _<_, min}
+use Prim.Native.Nat.{ℕ, _+_, _/_, _≤_, _<_, min}
 use native.Mathlib.Omega.{arith}
 use mathlib.Core.List.{List, [], _∷_}
 use lib.IntN.{ℤ}
 use lib.ListN.{length, getD}
 use lib.Dec.{leb, eqb}
-use borrow.Author.Tests.{leb-true, eqb-true, le-leb, not-true}
-use Rattle.lists.specs.Tests.{_is_, _from_to_, _implies_, allOf}
+use borrow.Author.Tests.{leb-true, le-leb, not-true}
+use Rattle.lists.specs.Tests.{_is_, _implies_, allOf}
 use Rattle.lists.specs.Lists.{every}
 use Rattle.lists.proofs.TestLaws.{and-left, and-right, allOf-at}
 use Rattle.lists.proofs.ListLaws.{every-ext, every-and, tabulate-every, length-tabulate}
-use Rattle.records.specs.Layout.{headerWidth, dayPlace, usedPlace, headerSchedule, stagePlace, accountWidth, rowWidth}
+use Rattle.records.specs.Layout.{dayPlace, usedPlace, headerSchedule, stagePlace, accountWidth, rowWidth}
 use Rattle.records.specs.Encoding.{word, rowAt, rowsOf, accountAt, accountsOf}
-use Rattle.rules.specs.Limits.{finalDay, longestStage, mostAccounts, mostRows, highestRefund}
+use Rattle.rules.specs.Limits.{finalDay, longestStage, mostAccounts, highestRefund}
 use Rattle.rules.specs.Rows.{Row, Refund}
 use Rattle.rules.specs.Schedule.{scheduleFits}
 use Rattle.rules.specs.Book.{Account, Book}
@@ -23,6 +23,7 @@ use Rattle.rules.specs.Soundness.{kindFits, mostOf, amountFits, settledFits, ac
 use Rattle.rules.specs.Tables.{Tables, accountsIn, roomIn, rowsUsed, scheduleFrom, bookOf, wholeRecords, lengthsFit, usedFits, laterRowsZero, soundTables}
 use Rattle.rules.proofs.StorableLaws.{mostOf-le, used-inside, between-le, schedule-storable}
 use Rattle.sound_rows.specs.Clauses.{ownWords, rowAlone, rowStands, rowsStand, restZero, tablesOn, Bounds}
+use Rattle.sound_rows.proofs.LengthLaws.{lengths-known}
 use Rattle.sound_passages.specs.Trees.{passagesDiffer}
 use Rattle.sound_sums.specs.Fees.{feesFew}
 use Rattle.soundness.specs.Book.{bookStands}
@@ -48,46 +49,6 @@ accounts-parts b =
 pub book-parts : (b : Book) → every (rowSound b) (b .rows) && every (accountSound b) (b .accounts) ≡ bookStands (b .accounts) (b .rows) (b .day) (b .schedule .stage)
 unfolding bookStands allOf
 book-parts b = rw (rows-parts b, accounts-parts b, and-assoc, and-assoc, and-true)
-
--- ---- what the lengths tell
-
-pub record Lengths (header accounts journal : List ℤ) : Type 0 where
-  pub words : length header ≡ headerWidth
-  pub wholeAccounts : length accounts / accountWidth * accountWidth ≡ length accounts
-  pub wholeRows : length journal / rowWidth * rowWidth ≡ length journal
-  pub seats : length accounts / accountWidth ≤ mostAccounts
-  pub room : length journal / rowWidth ≤ mostRows
-
-module _ (h a j : List ℤ) (e : lengthsFit (tablesOn h a j) ≡ true) where
-  abbrev header-part : Bool
-  header-part = length h is headerWidth
-
-  abbrev accounts-part : Bool
-  accounts-part = length a % accountWidth is 0
-
-  abbrev journal-part : Bool
-  journal-part = length j % rowWidth is 0
-
-  abbrev seats-part : Bool
-  seats-part = length a / accountWidth from 1 to mostAccounts
-
-  abbrev room-part : Bool
-  room-part = length j / rowWidth from 1 to mostRows
-
-  pub lengths-known : Lengths h a j
-  unfolding lengthsFit wholeRecords sizesFit
-  lengths-known =
-      let w : header-part && accounts-part && journal-part ≡ true = and-left (header-part && accounts-part && journal-part) (seats-part && room-part) e in
-      let s : seats-part && room-part ≡ true = and-right (header-part && accounts-part && journal-part) (seats-part && room-part) e in
-      let x : length a % accountWidth ≡ 0 = eqb-true _ _ (and-right header-part accounts-part (and-left (header-part && accounts-part) journal-part w)) in
-      let y : length j % rowWidth ≡ 0 = eqb-true _ _ (and-right (header-part && accounts-part) journal-part w) in
-      record {
-        words = eqb-true _ _ (and-left header-part accounts-part (and-left (header-part && accounts-part) journal-part w));
-        wholeAccounts = omega arith;
-        wholeRows = omega arith;
-        seats = between-le 1 mostAccounts (length a / accountWidth) (and-left seats-part room-part s);
-        room = between-le 1 mostRows (length j / rowWidth) (and-right seats-part room-part s);
-      }
 
 -- ---- the tables
 
