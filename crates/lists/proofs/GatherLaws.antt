@@ -81,6 +81,26 @@ module _ {A : Type 0} (f : ℕ → A → A) where
   change-at i (x ∷ xs) d zero n e l = let z : n ≡ i = omega arith in rw z
   change-at i (x ∷ xs) d (suc k) n e l = change-at (i + 1) xs d k n (omega arith) (omega arith)
 
+  pub change-snoc : (i : ℕ) (xs : List A) (x : A) → changeFrom f i (xs ++ (x ∷ [])) ≡ changeFrom f i xs ++ (f (i + length xs) x ∷ [])
+  unfolding changeFrom
+  change-snoc i [] x = let z : i + 0 ≡ i = omega arith in rw z
+  change-snoc i (y ∷ xs) x =
+      let z : i + 1 + length xs ≡ i + suc (length xs) = omega arith in
+      rw (change-snoc (i + 1) xs x, z)
+
+  -- of a tabulated list: its value n has number n + 1
+  pub change-tabulate : (g : ℕ → A) (n : ℕ) → changeFrom f 1 (tabulate g (n + 1)) ≡ changeFrom f 1 (tabulate g n) ++ (f (n + 1) (g n) ∷ [])
+  change-tabulate g n =
+      let l : 1 + length (tabulate g n) ≡ n + 1 = omega (arith, length-tabulate g n) in
+      rw (tabulate-more g n, change-snoc 1 (tabulate g n) (g n), l)
+
+pub change-same : {A : Type 0} (f g : ℕ → A → A) (i : ℕ) (xs : List A) (d : A) → ((n k : ℕ) → n ≡ i + k → k < length xs → f n (getD xs k d) ≡ g n (getD xs k d))
+    → changeFrom f i xs ≡ changeFrom g i xs
+unfolding changeFrom
+change-same f g i [] d e = refl
+change-same f g i (x ∷ xs) d e =
+    rw (e i 0 (omega arith) (omega arith), change-same f g (i + 1) xs d (λ n k q r. e n (suc k) (omega arith) (omega arith)))
+
 -- ---- elements changed by f, and more elements after them
 
 module _ {A : Type 0} (f : A → A) (d : A) (rest : f d ≡ d) (xs more : List A) where
@@ -126,6 +146,16 @@ gather-tabulate h g n =
 
 pub length-gather-tabulate : {A B : Type 0} (h : ℕ → A → List B) (g : ℕ → A) (n : ℕ) → length (gatherFrom h 1 (tabulate g (n + 1))) ≡ length (gatherFrom h 1 (tabulate g n)) + length (h (n + 1) (g n))
 length-gather-tabulate h g n = rw (gather-tabulate h g n, length-append (gatherFrom h 1 (tabulate g n)) (h (n + 1) (g n)))
+
+-- the first elements add no more than all
+pub length-gather-le : {A B : Type 0} (h : ℕ → A → List B) (g : ℕ → A) (i n : ℕ) → i ≤ n → length (gatherFrom h 1 (tabulate g i)) ≤ length (gatherFrom h 1 (tabulate g n))
+length-gather-le h g i n l = let e : i + (n - i) ≡ n = omega arith in rw e at (go (n - i))
+  where
+    go : (m : ℕ) → length (gatherFrom h 1 (tabulate g i)) ≤ length (gatherFrom h 1 (tabulate g (i + m)))
+    go zero = let z : i + 0 ≡ i = omega arith in rw z (omega arith)
+    go (suc m) =
+        let z : i + suc m ≡ i + m + 1 = omega arith in
+        rw z (omega (arith, go m, length-gather-tabulate h g (i + m)))
 
 pub gather-same : {A B : Type 0} (g h : ℕ → A → List B) (i : ℕ) (xs ys : List A) (d : A) → length xs ≡ length ys
     → ((n k : ℕ) → n ≡ i + k → k < length xs → g n (getD xs k d) ≡ h n (getD ys k d)) → gatherFrom g i xs ≡ gatherFrom h i ys

@@ -6,12 +6,11 @@ use native.Mathlib.Omega.{arith}
 use native.Mathlib.Decide.{ℕ-discrete}
 use mathlib.Core.List.{List, [], _∷_, _++_}
 use lib.ListN.{length, getD, set, length-set, length-append}
-use lib.Seq.{getD-set-same, getD-set-other}
-use lib.IntN.{ℤ, pos}
+use lib.IntN.{ℤ}
 use lib.Dec.{eqb}
 use borrow.Author.Tests.{eq-eqb, eqb-true}
 use Rattle.records.specs.Layout.{dayPlace, usedPlace, headerSchedule}
-use Rattle.records.specs.Encoding.{natOf, word, rowAt, rowsOf, accountsOf}
+use Rattle.records.specs.Encoding.{word, rowAt, rowsOf, accountsOf}
 use Rattle.lists.specs.Tests.{_is_}
 use Rattle.rules.specs.Rows.{Row}
 use Rattle.rules.specs.Settlement.{settle}
@@ -28,6 +27,7 @@ use Rattle.tables.proofs.ChangeLaws.{changed-append}
 use Rattle.settlement.specs.Settling.{Journal, Settled}
 use Rattle.posting.specs.Posts.{tablesAt, acceptanceOf, RowAdded, Posts}
 use Rattle.posting.proofs.BookLaws.{day-read, used-read, room-read, schedule-read, journal-settles}
+use Rattle.posting.proofs.HeaderLaws.{schedule-same, word-put, word-others}
 use Rattle.posting.proofs.WrittenLaws.{Written, tables-written}
 
 -- ---- the answer
@@ -77,28 +77,13 @@ module _ (t : Tables) (s : soundTables t ≡ true) (h j j″ acc : List ℤ) (r 
   length-grown = length-settle a (bookOf t .rows ++ (r ∷ [])) ∙ length-append (bookOf t .rows) (r ∷ []) ∙ rw (← used-read t s)
 
   other-word : (k : ℕ) → (k ≡ usedPlace → ⊥) → word h k ≡ word (t .header) k
-  unfolding word
-  other-word k n = rw (w .header) (ap natOf (getD-set-other (t .header) usedPlace k _ (pos 0) n))
+  other-word k n = rw (w .header) (word-others (t .header) usedPlace _ k n)
 
   used-word : word h usedPlace ≡ rowsUsed t + 1
-  unfolding word natOf
-  used-word = rw (w .header) (ap natOf (getD-set-same (t .header) usedPlace _ (pos 0) (omega (arith, header-length t s))))
+  used-word = rw (w .header) (word-put (t .header) usedPlace _ (omega (arith, header-length t s)))
 
   same-schedule : scheduleFrom h headerSchedule ≡ scheduleFrom (t .header) headerSchedule
-  unfolding scheduleFrom
-  same-schedule =
-      rw (
-        other-word 2 (λ z. omega arith),
-        other-word 3 (λ z. omega arith),
-        other-word 4 (λ z. omega arith),
-        other-word 5 (λ z. omega arith),
-        other-word 6 (λ z. omega arith),
-        other-word 7 (λ z. omega arith),
-        other-word 8 (λ z. omega arith),
-        other-word 9 (λ z. omega arith),
-        other-word 10 (λ z. omega arith),
-        other-word 11 (λ z. omega arith),
-      )
+  same-schedule = schedule-same (t .header) h (λ k l. other-word k (λ z. omega arith))
 
   pub row-written : Written t (tablesAt h acc j″) grown
   row-written = record {

@@ -101,7 +101,7 @@ stageFee-le s p (suc (suc (suc zero))) = p .fee3
 stageFee-le s p (suc (suc (suc (suc zero)))) = p .fee4
 stageFee-le s p (suc (suc (suc (suc (suc j))))) = omega arith
 
-class-le : (axles height : ℕ) → class axles height ≤ 3
+pub class-le : (axles height : ℕ) → class axles height ≤ 3
 unfolding class classes first
 class-le axles height = go (leb axles 2 && leb height 90) (eqb axles 2 && ltb 90 height || eqb axles 3 || eqb axles 4) (leb 5 axles)
   where

@@ -43,7 +43,8 @@ toll-debit : (n : ℕ) (r : Row) → r .account ≡ n → r .kind ≡ 1 → debi
 unfolding debitOf
 toll-debit n r a k = rw (a, k, eq-eqb n n refl)
 
-none-unsettled : (n : ℕ) (rows : List Row) → owed n rows ≡ 0 → exists (λ r. debitOf n r && unsettled r) rows ≡ false
+-- where nothing is owed, no debit is unsettled
+pub none-unsettled : (n : ℕ) (rows : List Row) → owed n rows ≡ 0 → exists (λ r. debitOf n r && unsettled r) rows ≡ false
 none-unsettled n rows z = none-exists (λ r. debitOf n r && unsettled r) rows blank (λ k l. go k l (debitOf n (getD rows k blank)) (unsettled (getD rows k blank)) refl refl)
   where
     go : (k : ℕ) → k < length rows → (d u : Bool) → debitOf n (getD rows k blank) ≡ d → unsettled (getD rows k blank) ≡ u → d && u ≡ false

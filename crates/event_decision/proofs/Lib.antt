@@ -1,0 +1,3 @@
+pub mod FeeLaws
+pub mod AnswerLaws
+pub mod DecisionLaws

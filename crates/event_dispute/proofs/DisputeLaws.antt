@@ -1,0 +1,108 @@
+-- Event 5: which refusals concern it, and the row that it changes.
+use mathlib.Core.Path.{_≡_, refl, sym, _∙_}
+use mathlib.Core.Bool.{Bool, true, false, not, _&&_, _||_, or-false}
+use Prim.Native.Nat.{ℕ, _+_, _-_, _≤_, _<_}
+use native.Mathlib.Omega.{arith}
+use mathlib.Core.List.{List, [], _∷_}
+use lib.ListN.{length}
+use lib.IntN.{ℤ}
+use lib.Dec.{ltb}
+use Rattle.records.specs.Codes.{Never}
+use Rattle.records.specs.Layout.{dayPlace}
+use Rattle.records.specs.Encoding.{word, rowsOf, StorableRow}
+use Rattle.lists.specs.Tests.{_is_, first}
+use Rattle.rules.specs.Rows.{Row, Toll, rowNo, toll, unsettled}
+use Rattle.rules.specs.Book.{Instruction, Unused, Book, account, row, putRow}
+use Rattle.rules.specs.Events.{holdFrom, holdToll}
+use Rattle.rules.specs.Refusals.{changeOf, disputeForm, formOf, wellFormed, unknown, taken, onClosed, unclassed, misdated, duplicate, barred, noRow, untimely, lastDay, full, refusals, answerNumber}
+use Rattle.rules.specs.Tables.{Tables, rowsUsed, bookOf, soundTables}
+use Rattle.rules.proofs.StorableLaws.{day-le}
+use Rattle.rules.proofs.TableLaws.{sound-book, used-le}
+use Rattle.preservation.proofs.Accepted.{accepted}
+use Rattle.preservation.proofs.LookupLaws.{named-kind}
+use Rattle.tables.specs.Changes.{RowChanged}
+use Rattle.settlement.specs.Settling.{Journal, Settled}
+use Rattle.posting.specs.Posts.{tablesAt, acceptanceOf, Posts}
+use Rattle.posting.proofs.BookLaws.{day-read, row-holds}
+use Rattle.posting.proofs.RefusalLaws.{ofKind, at-kind, unknown-unused, rows-suffice}
+use Rattle.posting.proofs.PutRowLaws.{row-used, row-read-by, length-put, no-ceiling-put, put-settles, put-posts}
+use Rattle.event_dispute.specs.Dispute.{disputeRefusals}
+
+-- the row that event 5 leaves
+abbrev pub heldRow : Book → Instruction → Row
+heldRow b e = holdFrom (b .day) (row b (e .a))
+
+changed : (b : Book) (e : Instruction) → e .kind ≡ 5 → changeOf (e .kind) b e ≡ putRow (e .a) (heldRow b e) b
+unfolding changeOf holdToll
+changed b e k = at-kind (λ x. changeOf (x .kind) b x ≡ putRow (x .a) (heldRow b x) b) e 5 k refl
+
+module _ (b : Book) (e : Instruction) where
+  abbrev event5 : Instruction
+  event5 = ofKind 5 e
+
+  untimely-5 : untimely b event5 ≡ not (unsettled (row b (e .a))) || not (row b (e .a) .dispute is Never)
+  unfolding untimely
+  untimely-5 =
+      let x : Bool = not (unsettled (row b (e .a))) || not (row b (e .a) .dispute is Never) in
+      or-false (x || false || false) ∙ or-false (x || false) ∙ or-false x
+
+  answer-5 : ltb (b .room) (length (b .rows) + 0) ≡ false → answerNumber b event5 ≡ first (disputeRefusals b event5)
+  unfolding answerNumber refusals wellFormed formOf unknown taken onClosed unclassed misdated duplicate barred noRow lastDay full first disputeRefusals
+  answer-5 f =
+      let c = changed b event5 refl in
+      rw (length-put b event5 (e .a) _ c, no-ceiling-put b event5 (e .a) _ c, f, unknown-unused b (e .account), untimely-5)
+
+-- the number that event 5 gets, with what each test came to
+pub answer-by : (t : Tables) → soundTables t ≡ true → (e : Instruction) → e .kind ≡ 5 → (f u n c : Bool) → disputeForm e ≡ f
+    → account (bookOf t) (e .account) .state is Unused ≡ u → toll (row (bookOf t) (e .a)) && row (bookOf t) (e .a) .account is e .account ≡ n
+    → not (unsettled (row (bookOf t) (e .a))) || not (row (bookOf t) (e .a) .dispute is Never) ≡ c
+    → first ((2, not f) ∷ (3, u) ∷ (10, not n) ∷ (11, c) ∷ []) ≡ answerNumber (bookOf t) e
+unfolding disputeRefusals
+answer-by t s e k f u n c p q v w =
+    let a = at-kind (λ x. answerNumber (bookOf t) x ≡ first (disputeRefusals (bookOf t) x)) e 5 k (answer-5 (bookOf t) e (rows-suffice t s 0 (omega (arith, used-le t s)))) in
+    rw (a, p, q, v, w)
+
+-- the row that is written is that row
+pub held-row : (t : Tables) → soundTables t ≡ true → (e : Instruction) (used today : ℕ) (r x : Row) → used ≡ rowsUsed t → r ≡ rowNo (rowsOf (t .journal) used) (e .a)
+    → today ≡ word (t .header) dayPlace → x ≡ holdFrom today r → x ≡ heldRow (bookOf t) e
+held-row t s e used today r x u f d h = rw (row-read-by t s used (e .a) r u f, d, day-read t s) at h
+
+-- ---- what an accepted event 5 leaves
+
+module _ (t : Tables) (s : soundTables t ≡ true) (e : Instruction) (k : e .kind ≡ 5) (q : 0 ≡ answerNumber (bookOf t) e) where
+  abbrev b : Book
+  b = bookOf t
+
+  is-toll : row b (e .a) .kind ≡ Toll
+  unfolding noRow
+  is-toll = at-kind (λ x. noRow b x ≡ false → row b (x .a) .kind ≡ Toll) e 5 k (named-kind b (e .a) (e .account) 1) (accepted b e (sym q) .named)
+
+  has-kind : 0 < row b (e .a) .kind
+  has-kind = omega (arith, is-toll)
+
+  pub dispute-row : (1 ≤ e .a) × (e .a ≤ rowsUsed t)
+  dispute-row = row-used t s (e .a) has-kind
+
+  pub dispute-storable : StorableRow (heldRow b e)
+  unfolding holdFrom
+  dispute-storable =
+      let h = row-holds t s (e .a) in
+      record {
+        kind = h .kind;
+        account = h .account;
+        day = h .day;
+        amount = h .amount;
+        settled = h .settled;
+        mark = h .mark;
+        due = h .due;
+        dispute = omega arith;
+        hold = omega (arith, day-le (b .day) b (sound-book t s .near));
+        reference = h .reference;
+      }
+
+  module _ (j : List ℤ) (w : RowChanged (t .journal) j (e .a - 1) (heldRow b e)) where
+    pub dispute-settles : Journal j (rowsUsed t)
+    dispute-settles = put-settles t s e q (heldRow b e) (changed b e k) has-kind j w (dispute-storable .amount)
+
+    pub dispute-posts : (j″ : List ℤ) → Settled j j″ (rowsUsed t) (e .account) → Posts t (tablesAt (t .header) (t .accounts) j″) e (acceptanceOf (rowsUsed t) 0 0 0)
+    dispute-posts = put-posts t s e q (heldRow b e) (changed b e k) has-kind j w (λ z. omega arith) (λ z. omega arith)

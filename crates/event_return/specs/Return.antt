@@ -1,0 +1,56 @@
+-- The refusals that concern event 4, out of the table of all, in checking order; and what its steps need of the tables and leave.
+use mathlib.Core.Path.{_≡_}
+use mathlib.Core.Bool.{not, _&&_}
+use Prim.Native.Nat.{ℕ, _+_, _-_, _*_, _/_, _≤_}
+use mathlib.Core.List.{List, [], _∷_}
+use lib.ListN.{length}
+use lib.IntN.{ℤ}
+use lib.Dec.{ltb}
+use Rattle.records.specs.Codes.{Check, CheckReturned}
+use Rattle.records.specs.Layout.{accountWidth, rowWidth}
+use Rattle.records.specs.Encoding.{rowsOf, accountsOf, StorableRow, StorableAccount}
+use Rattle.records.specs.AccountOperations.{checkReturned}
+use Rattle.lists.specs.Tests.{_is_, Cases}
+use Rattle.rules.specs.Rows.{Payment, rowNo, withMark}
+use Rattle.rules.specs.Book.{Account, Instruction, Unused, Book, accountNo, account, row}
+use Rattle.rules.specs.Refusals.{returnForm}
+use Rattle.tables.specs.Changes.{RowChanged, AccountChanged}
+
+unfoldable pub returnRefusals : Book → Instruction → Cases
+returnRefusals b e =
+    (2, not (returnForm e))
+    ∷ (3, account b (e .account) .state is Unused)
+    ∷ (10, not (row b (e .a) .kind is Payment && row b (e .a) .account is e .account))
+    ∷ (11, not (row b (e .a) .mark is Check))
+    ∷ (13, ltb (b .room) (length (b .rows) + 2))
+    ∷ []
+
+-- ---- the account counts the return
+
+-- account n of a table
+abbrev pub accountIn : List ℤ → ℕ → Account
+accountIn t n = accountNo (accountsOf t (length t / accountWidth)) n
+
+-- account n is one of the table's, and a word holds its count
+pub record Counts (t : List ℤ) (n : ℕ) : Type 0 where
+  pub from : 1 ≤ n
+  pub to : n ≤ length t / accountWidth
+  pub holds : StorableAccount (checkReturned (accountIn t n))
+
+-- account n counts one returned check more
+abbrev pub Counted : List ℤ → List ℤ → ℕ → Type 0
+Counted t u n = AccountChanged t u (n - 1) (checkReturned (accountIn t n))
+
+-- ---- the payment is marked
+
+-- row n is a used one
+pub record Marks (t : List ℤ) (used n : ℕ) : Type 0 where
+  pub room : used * rowWidth ≤ length t
+  pub from : 1 ≤ n
+  pub to : n ≤ used
+  pub holds : StorableRow (rowNo (rowsOf t used) n)
+
+-- row n has the mark of a returned check, and m is its amount
+pub record Marked (t u : List ℤ) (used n m : ℕ) : Type 0 where
+  pub marked : RowChanged t u (n - 1) (withMark CheckReturned (rowNo (rowsOf t used) n))
+  pub amount : m ≡ rowNo (rowsOf t used) n .amount

@@ -1,0 +1,216 @@
+-- Event 2: which refusals concern it, and the book that it makes.
+use mathlib.Core.Path.{_≡_, refl, sym, ap, _∙_}
+use mathlib.Core.Logic.{_≢_}
+use mathlib.Core.Bool.{Bool, true, false, not, cond, _&&_, _||_}
+use Prim.Native.Nat.{ℕ, _+_, _≤_, _<_}
+use native.Mathlib.Omega.{arith}
+use mathlib.Core.List.{List, [], _∷_, _++_}
+use lib.ListN.{length}
+use lib.IntN.{ℤ}
+use lib.Dec.{leb, ltb}
+use borrow.Author.Tests.{leb-true, ltb-false, eqb-false, not-false, lt-ltb, le-ltb}
+use Rattle.records.specs.Layout.{dayPlace, headerSchedule, stagePlace}
+use Rattle.records.specs.Encoding.{word, rowAt, rowsOf, accountsOf, StorableRow}
+use Rattle.lists.specs.Tests.{_is_, _from_to_, first}
+use Rattle.lists.specs.Lists.{sumBy, count, exists}
+use Rattle.lists.proofs.TestLaws.{and-left, and-right}
+use Rattle.lists.proofs.ListLaws.{length-tabulate}
+use Rattle.rules.specs.Limits.{finalDay, highestRate, highestPassage, mostAxles, highestHeight, latestDays}
+use Rattle.rules.specs.Schedule.{class, rate}
+use Rattle.rules.specs.Rows.{Row, Toll, toll, newRow, withDue, withReference}
+use Rattle.rules.specs.Settlement.{settle}
+use Rattle.rules.specs.Book.{Instruction, Unused, Closed, Book, account, addRow, withRows}
+use Rattle.rules.specs.Events.{tollRate, postToll}
+use Rattle.rules.specs.Refusals.{changeOf, after, tollForm, formOf, wellFormed, unknown, taken, onClosed, unclassed, misdated, duplicate, barred, noRow, untimely, lastDay, full, refusals, answerNumber}
+use Rattle.rules.specs.Posting.{removesTopUp}
+use Rattle.rules.specs.Tables.{Tables, accountsIn, roomIn, rowsUsed, scheduleFrom, bookOf, soundTables}
+use Rattle.rules.proofs.StorableLaws.{between-le, day-le, stage-le, accounts-le}
+use Rattle.rules.proofs.TableLaws.{sound-book, sound-rows}
+use Rattle.preservation.proofs.Accepted.{Accepted, accepted}
+use Rattle.preservation.proofs.FeeLaws.{schedule-parts, class-le, rate-fits}
+use Rattle.preservation.proofs.NamedLaws.{after-named}
+use Rattle.settlement.specs.Settling.{Settled}
+use Rattle.posting.specs.Posts.{tablesAt, acceptanceOf, RowAdded, Posts}
+use Rattle.posting.proofs.BookLaws.{day-read, used-read, room-read}
+use Rattle.posting.proofs.EventLaws.{known-inside}
+use Rattle.posting.proofs.RefusalLaws.{ofKind, at-kind, unknown-unused, length-after, no-ceiling}
+use Rattle.posting.proofs.AddedLaws.{acceptance-plain, posts-accepted, row-written}
+use Rattle.event_toll.specs.Toll.{passageRefusals, tollRefusals}
+
+-- the row that event 2 adds
+abbrev pub tollRow : Book → Instruction → Row
+tollRow b e = withReference (e .a) (withDue (b .day + b .schedule .stage) (newRow Toll (e .account) (b .day) (tollRate (b .schedule) e)))
+
+-- ---- the number that event 2 gets
+
+module _ (b : Book) (e : Instruction) where
+  abbrev event2 : Instruction
+  event2 = ofKind 2 e
+
+  change-toll : changeOf 2 b event2 .rows ≡ b .rows ++ (tollRow b event2 ∷ [])
+  unfolding changeOf postToll
+  change-toll = refl
+
+  answer-2 : answerNumber b event2 ≡ first (tollRefusals b event2)
+  unfolding answerNumber refusals wellFormed formOf unknown taken onClosed unclassed misdated duplicate barred noRow untimely lastDay full first passageRefusals tollRefusals count sumBy
+  answer-2 =
+      let l = length-after b event2 (b .rows) (tollRow b event2 ∷ []) change-toll refl in
+      let z = no-ceiling b event2 (b .rows) (tollRow b event2 ∷ []) change-toll refl refl in
+      rw (l, z, unknown-unused b (e .account))
+
+pub answer-toll : (b : Book) (e : Instruction) → e .kind ≡ 2 → answerNumber b e ≡ first (tollRefusals b e)
+answer-toll b e k = at-kind (λ x. answerNumber b x ≡ first (tollRefusals b x)) e 2 k (answer-2 b e)
+
+-- the same with what each test came to, and with the number n that the passage gets
+pub answer-by : (b : Book) (e : Instruction) → e .kind ≡ 2 → (f u c : Bool) (n : ℕ) → tollForm e ≡ f → account b (e .account) .state is Unused ≡ u
+    → account b (e .account) .state is Closed ≡ c → n ≡ first (passageRefusals (b .day) (b .rows) (b .room) e)
+    → cond (not f) 2 (cond u 3 (cond c 5 n)) ≡ answerNumber b e
+unfolding tollRefusals first
+answer-by b e k f u c n p q v w = rw (answer-toll b e k, p, q, v, w)
+
+pub passage-by : (today : ℕ) (rows : List Row) (room : ℕ) (e : Instruction) (u d s r : Bool) → class (e .c) (e .d) is 0 ≡ u
+    → ltb today (e .b) || ltb (e .b + latestDays) today ≡ d → exists (λ x. toll x && x .reference is e .a) rows ≡ s → ltb room (length rows + 1) ≡ r
+    → first ((6, u) ∷ (7, d) ∷ (8, s) ∷ (13, r) ∷ []) ≡ first (passageRefusals today rows room e)
+unfolding passageRefusals
+passage-by today rows room e u d s r p q v w = rw (p, q, v, w)
+
+-- the same of the book, from what is read of its tables
+pub passage-read : (t : Tables) → soundTables t ≡ true → (e : Instruction)
+    → first (passageRefusals (word (t .header) dayPlace) (rowsOf (t .journal) (rowsUsed t)) (roomIn t) e) ≡ first (passageRefusals (bookOf t .day) (bookOf t .rows) (bookOf t .room) e)
+passage-read t s e = rw (day-read t s, sound-rows t s, room-read t s)
+
+-- a row more than there are, and one that there is
+module _ (j : List ℤ) (used room : ℕ) where
+  pub row-lacks : room ≤ used → ltb room (length (rowsOf j used) + 1) ≡ true
+  row-lacks h = rw (length-tabulate (rowAt j) used) (lt-ltb room (used + 1) (omega arith))
+
+  pub row-suffices : used < room → ltb room (length (rowsOf j used) + 1) ≡ false
+  row-suffices h = rw (length-tabulate (rowAt j) used) (le-ltb room (used + 1) (omega arith))
+
+-- ---- what the words of event 2 may be
+
+module _ (e : Instruction) (f : tollForm e ≡ true) where
+  abbrev p1 : Bool
+  p1 = e .a from 1 to highestPassage
+
+  abbrev p2 : Bool
+  p2 = e .b from 1 to finalDay
+
+  abbrev p3 : Bool
+  p3 = e .c from 1 to mostAxles
+
+  abbrev p4 : Bool
+  p4 = leb (e .d) highestHeight
+
+  abbrev p5 : Bool
+  p5 = e .e from 1 to 2
+
+  q4 : p1 && p2 && p3 && p4 ≡ true
+  unfolding tollForm
+  q4 = and-left (p1 && p2 && p3 && p4) p5 f
+
+  q2 : p1 && p2 ≡ true
+  q2 = and-left (p1 && p2) p3 (and-left (p1 && p2 && p3) p4 q4)
+
+  passage-le : e .a ≤ highestPassage
+  passage-le = between-le 1 highestPassage (e .a) (and-left p1 p2 q2)
+
+  pub day-within : e .b ≤ finalDay
+  day-within = between-le 1 finalDay (e .b) (and-right p1 p2 q2)
+
+  mode : (1 ≤ e .e) × (e .e ≤ 2)
+  unfolding tollForm
+  mode =
+      let q : p5 ≡ true = and-right (p1 && p2 && p3 && p4) p5 f in
+      (leb-true 1 (e .e) (and-left (leb 1 (e .e)) (leb (e .e) 2) q), leb-true (e .e) 2 (and-right (leb 1 (e .e)) (leb (e .e) 2) q))
+
+-- ---- what an accepted event 2 leaves
+
+module _ (t : Tables) (s : soundTables t ≡ true) (e : Instruction) (k : e .kind ≡ 2) (q : 0 ≡ answerNumber (bookOf t) e) where
+  abbrev b : Book
+  b = bookOf t
+
+  acc : Accepted b e
+  acc = accepted b e (sym q)
+
+  plain-kind : e .kind is 9 ≡ false
+  plain-kind = rw k
+
+  inside : (1 ≤ e .account) × (e .account ≤ length (b .accounts))
+  inside = known-inside b e plain-kind (acc .known)
+
+  changed : changeOf (e .kind) b e ≡ addRow (tollRow b e) b
+  unfolding changeOf postToll
+  changed = at-kind (λ x. changeOf (x .kind) b x ≡ addRow (tollRow b x) b) e 2 k refl
+
+  grows : length (after b e .rows) ≡ length (b .rows) + 1
+  grows = length-after b e (b .rows) (tollRow b e ∷ []) (ap (λ (x : Book). x .rows) changed) refl
+
+  -- there is a row for it
+  pub toll-fits : rowsUsed t < roomIn t
+  unfolding full
+  toll-fits =
+      let l = grows in
+      let r = ltb-false (b .room) (length (after b e .rows)) (acc .fits) in
+      omega (arith, room-read t s, used-read t s)
+
+  formed : tollForm e ≡ true
+  unfolding wellFormed formOf
+  formed = at-kind (λ x. not (wellFormed x) ≡ false → tollForm x ≡ true) e 2 k (λ w. not-false _ w) (acc .formed)
+
+  -- it has a class and a mode
+  pub rate-applies : (1 ≤ class (e .c) (e .d)) × (class (e .c) (e .d) ≤ 3) × (1 ≤ e .e) × (e .e ≤ 2)
+  unfolding unclassed
+  rate-applies =
+      let z : class (e .c) (e .d) is 0 ≡ false = at-kind (λ x. unclassed b x ≡ false → class (x .c) (x .d) is 0 ≡ false) e 2 k (λ w. w) (acc .classed) in
+      let n = eqb-false (class (e .c) (e .d)) 0 z in
+      let m = mode e formed in
+      (omega arith, class-le (e .c) (e .d), m .0, m .1)
+
+  amount-le : tollRate (b .schedule) e ≤ highestRate
+  unfolding tollRate
+  amount-le =
+      between-le 1 highestRate (tollRate (b .schedule) e)
+      (rate-fits (b .schedule .rates) (schedule-parts (b .schedule) (sound-book t s .near .schedule) .rates) (e .c) (e .d) (e .e) (mode e formed .1))
+
+  pub toll-storable : StorableRow (tollRow b e)
+  toll-storable =
+      let d = day-le (b .day) b (sound-book t s .near) in
+      let n = accounts-le (b .day) b (sound-book t s .near) in
+      record {
+        kind = omega arith;
+        account = omega (arith, inside .1);
+        day = omega arith;
+        amount = omega (arith, amount-le);
+        settled = omega arith;
+        mark = omega arith;
+        due = omega (arith, stage-le (b .day) b (sound-book t s .near));
+        dispute = omega arith;
+        hold = omega arith;
+        reference = omega (arith, passage-le e formed);
+      }
+
+  -- the row as it is read from the header
+  pub toll-read : (today stage n amount : ℕ) (r : Row) → today ≡ word (t .header) dayPlace → stage ≡ word (t .header) (headerSchedule + stagePlace) → n ≡ class (e .c) (e .d)
+      → amount ≡ rate (scheduleFrom (t .header) headerSchedule .rates) n (e .e) → r ≡ newRow Toll (e .account) today amount
+      → withReference (e .a) (withDue (today + stage) r) ≡ tollRow b e
+  unfolding tollRate bookOf scheduleFrom
+  toll-read today stage n amount r d l c a w = rw (w, a, c, d, l)
+
+  pub after-toll : after b e ≡ withRows (settle (e .account) (b .rows ++ (tollRow b e ∷ []))) b
+  after-toll =
+      let not-tick : e .kind ≢ 9 = λ z. omega arith in
+      after-named b e (sound-book t s) not-tick acc (inside .0) (inside .1) (rw changed) ∙ rw changed
+
+  pub toll-posts : (h j j″ : List ℤ) → RowAdded (t .header) h (t .journal) j (tollRow b e) → Settled j j″ (rowsUsed t + 1) (e .account)
+      → Posts t (tablesAt h (t .accounts) j″) e (acceptanceOf (rowsUsed t) 1 0 0)
+  toll-posts h j j″ w d =
+      posts-accepted t (tablesAt h (t .accounts) j″) s e (acceptanceOf (rowsUsed t) 1 0 0) q
+      (rw (used-read t s) (acceptance-plain b e 1 grows plain-kind keeps-top-up))
+      (rw after-toll (row-written t s h j j″ (t .accounts) (tollRow b e) (e .account) (b .accounts) w d toll-fits refl same-accounts))
+    where
+      keeps-top-up : removesTopUp b e ≡ false
+      keeps-top-up = unfold removesTopUp in (rw k)
+
+      same-accounts : accountsOf (t .accounts) (accountsIn t) ≡ b .accounts
+      same-accounts = unfold bookOf in refl

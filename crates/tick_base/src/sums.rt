@@ -1,0 +1,46 @@
+// What remains of each account's sources and debits, in one pass.
+use account_sums::SEATS;
+use account_sums::add;
+use account_sums::part;
+use tables::row_tests::is_source;
+use tables::row_tests::remaining_of;
+use tables::rows::read_row;
+ghost use mathlib.Core.Path.{_≡_};
+ghost use Prim.Native.Nat.{_+_, _<_};
+ghost use Rattle.account_sums.specs.Tallies.{Countable};
+ghost use Rattle.tick_base.specs.Remainders.{Remainders};
+
+// Row i, to its account's money or to what the account owes.
+fn add_remainder(
+    journal: &[i64],
+    used: usize,
+    i: usize,
+    money: &mut [u64; SEATS],
+    owed: &mut [u64; SEATS],
+)
+    requires { ⌜ Countable (now journal) used × (i < used) × Remainders (now journal) (now money) (now owed) i ⌝ }
+    ensures { λ _. ⌜ Remainders (now (journal .entry)) (now (money .exit)) (now (owed .exit)) (i + 1) ⌝ }
+{
+    let r = read_row(journal, i);
+    let a = r.account as usize;
+    let left = remaining_of(r);
+    let source = is_source(r);
+    add(money, a, part(source, left));
+    add(owed, a, part(!source, left));
+}
+
+pub fn add_remainders(
+    journal: &[i64],
+    used: usize,
+    money: &mut [u64; SEATS],
+    owed: &mut [u64; SEATS],
+)
+    requires { ⌜ Countable (now journal) used × Remainders (now journal) (now money) (now owed) 0 ⌝ }
+    ensures { λ _. ⌜ Remainders (now (journal .entry)) (now (money .exit)) (now (owed .exit)) used ⌝ }
+{
+    let mut i = 0;
+    while i < used {
+        add_remainder(journal, used, i, money, owed);
+        i += 1;
+    }
+}

@@ -1,0 +1,105 @@
+-- Laws behind the counts of a tick: the fees of a header, the rows that a toll brings, the shares of a row in the sums.
+use mathlib.Core.Path.{_≡_, refl, sym, ap, _∙_}
+use mathlib.Core.Bool.{Bool, true, false, not, cond, _&&_}
+use Prim.Native.Nat.{ℕ, zero, suc, _+_, _-_, _*_, _≤_, _<_}
+use native.Mathlib.Omega.{arith}
+use native.Mathlib.Decide.{decLt, ℕ-discrete}
+use mathlib.Core.List.{List, [], _∷_}
+use lib.IntN.{ℤ}
+use lib.ListN.{length, getD}
+use lib.Dec.{eqb, leb, ltb}
+use borrow.Author.Tests.{eq-eqb, ne-eqb, le-leb, lt-leb, lt-ltb, le-ltb, ltb-true}
+use Rattle.lists.specs.Tests.{_is_}
+use Rattle.lists.specs.Lists.{sumBy, exists, count, one, gather}
+use Rattle.lists.proofs.TestLaws.{and-false}
+use Rattle.lists.proofs.GatherLaws.{length-gather-same, length-gather-tabulate}
+use Rattle.lists.proofs.ListLaws.{tabulate-at, length-tabulate}
+use Rattle.records.specs.Layout.{dayPlace, headerSchedule}
+use Rattle.records.specs.Encoding.{word, rowAt, rowsOf, accountAt, accountsOf}
+use Rattle.rules.specs.Limits.{holdDays, closingDays, mostRows, highestRefund}
+use Rattle.rules.specs.Schedule.{Schedule, stageFee}
+use Rattle.rules.specs.Rows.{Row, blank, heldToll, source, debit}
+use Rattle.rules.specs.Soundness.{kindFits}
+use Rattle.rules.specs.Settlement.{money, owed}
+use Rattle.rules.specs.Book.{Account, Pending, unused, Book}
+use Rattle.rules.specs.Tick.{holdEnds, rises, feeRow}
+use Rattle.rules.specs.Tables.{Tables, accountsIn, rowsUsed, scheduleFrom, bookOf, soundTables}
+use Rattle.tick_rules.specs.Ticks.{staysHeld, willRefund, feesAdded, refundsAdded}
+use Rattle.preservation.proofs.TollsRaised.{rising}
+use Rattle.account_sums.specs.Tallies.{Tallied, moneyOf, owedOf}
+use Rattle.account_sums.proofs.SumsLaws.{Share, source-no-debit, no-source-debit}
+use Rattle.rules.proofs.TableLaws.{sound-book, sound-rows}
+use Rattle.rules.proofs.StorableLaws.{accounts-le}
+use Rattle.posting.proofs.BookLaws.{day-read, schedule-read}
+use Rattle.tick_base.specs.Remainders.{Remainders, daysOver}
+use Rattle.tick_count.specs.Counts.{staysOf, refundBy, refundAt}
+
+-- ---- the fee row of a toll
+
+-- one row or none, of whatever content
+one-length : (v : Bool) (r : Row) → length (one v r) ≡ length (one v blank)
+one-length true r = refl
+one-length false r = refl
+
+module _ (s : Schedule) (today n : ℕ) (r : Row) (fee : ℕ) (e : fee ≡ cond (rises today r) (stageFee s (r .mark + 1)) 0) where
+  pub fee-brought : (fee ≡ 0 → ⊥) → 1 ≡ length (feeRow s today n r)
+  unfolding feeRow
+  fee-brought q = sym (one-length (rises today r && ltb 0 (stageFee s (r .mark + 1))) _ ∙ go (rises today r) (stageFee s (r .mark + 1)) e)
+    where
+      go : (v : Bool) (f : ℕ) → fee ≡ cond v f 0 → length (one (v && ltb 0 f) blank) ≡ 1
+      go true f w = rw (lt-ltb 0 f (omega (arith, w))) refl
+      go false f w = absurd (q w)
+
+  pub fee-not-brought : fee ≡ 0 → 0 ≡ length (feeRow s today n r)
+  unfolding feeRow
+  fee-not-brought q = sym (one-length (rises today r && ltb 0 (stageFee s (r .mark + 1))) _ ∙ go (rises today r) (stageFee s (r .mark + 1)) e)
+    where
+      go : (v : Bool) (f : ℕ) → fee ≡ cond v f 0 → length (one (v && ltb 0 f) blank) ≡ 0
+      go true f w = rw (le-ltb 0 f (omega (arith, w))) refl
+      go false f w = refl
+
+-- ---- shares
+
+pub share-stays : (today : ℕ) → Share (staysOf today) (λ r. heldToll r && not (holdEnds today r)) (λ r. 1)
+unfolding staysOf staysHeld
+share-stays today = record { form = λ n r. refl }
+
+-- ---- the refunds counted are those of the definition
+
+module _ (b : Book) (t : List ℤ) (stays owed′ money′ : List ℕ) (n : ℕ) (rows : b .rows ≡ rowsOf t n)
+    (s : Tallied (staysOf (b .day + 1)) 257 t stays n) (r : Remainders t money′ owed′ n) (few : length (b .accounts) ≤ 256) where
+  at : (k : ℕ) → k < 257 → (x : Account) → refundBy (b .day + 1) (getD stays k 0) (getD owed′ k 0) (getD money′ k 0) x ≡ willRefund b k x
+  unfolding refundBy willRefund daysOver exists count staysOf money owed
+  at k h x = rw (s .each k h, r .moneys .each k h, r .owings .each k h, rows) (test (x .state is Pending && leb (x .request + closingDays) (b .day + 1)) (sumBy (staysOf (b .day + 1) k) (rowsOf t n)) (ltb (sumBy (owedOf k) (rowsOf t n)) (sumBy (moneyOf k) (rowsOf t n))))
+    where
+      zero-test : (m : ℕ) → eqb m 0 ≡ not (ltb 0 m)
+      zero-test zero = refl
+      zero-test (suc m) = rw (lt-ltb 0 (suc m) (omega arith)) (ne-eqb (suc m) 0 (λ q. omega arith))
+
+      test : (p : Bool) (m : ℕ) (q : Bool) → p && eqb m 0 && q ≡ p && not (ltb 0 m) && q
+      test p m q = rw (zero-test m)
+
+  pub refunds-counted : length (gather (refundAt (b .day + 1) stays owed′ money′) (b .accounts)) ≡ refundsAdded b
+  unfolding refundsAdded refundAt
+  refunds-counted =
+      length-gather-same (refundAt (b .day + 1) stays owed′ money′) (λ k x. one (willRefund b k x) blank) 1 (b .accounts) unused
+      (λ k j e h. rw (at k (omega arith) (getD (b .accounts) j unused)))
+
+-- ---- both counts, over sound tables
+
+module _ (t : Tables) (s : soundTables t ≡ true) (stays owed′ money′ : List ℕ) (h : Tallied (staysOf (word (t .header) dayPlace + 1)) 257 (t .journal) stays (rowsUsed t))
+    (r : Remainders (t .journal) money′ owed′ (rowsUsed t)) (fees refunds : ℕ)
+    (f : fees ≡ length (gather (feeRow (scheduleFrom (t .header) headerSchedule) (word (t .header) dayPlace + 1)) (rowsOf (t .journal) (rowsUsed t))))
+    (g : refunds ≡ length (gather (refundAt (word (t .header) dayPlace + 1) stays owed′ money′) (accountsOf (t .accounts) (accountsIn t)))) where
+  fees-told : fees ≡ feesAdded (bookOf t)
+  unfolding feesAdded
+  fees-told = rw (sound-rows t s, ← schedule-read t s, ← day-read t s) f
+
+  refunds-told : refunds ≡ refundsAdded (bookOf t)
+  refunds-told = g ∙ same ∙ refunds-counted (bookOf t) (t .journal) stays owed′ money′ (rowsUsed t) (sound-rows t s) (rw (day-read t s) at h) r (accounts-le (bookOf t .day) (bookOf t) (sound-book t s .near))
+    where
+      same : length (gather (refundAt (word (t .header) dayPlace + 1) stays owed′ money′) (accountsOf (t .accounts) (accountsIn t))) ≡ length (gather (refundAt (bookOf t .day + 1) stays owed′ money′) (bookOf t .accounts))
+      same = unfold bookOf in refl
+
+  pub rows-counted : fees + refunds ≡ feesAdded (bookOf t) + refundsAdded (bookOf t)
+  rows-counted = omega (arith, fees-told, refunds-told)

@@ -1,0 +1,107 @@
+// The first steps of a day tick: holds begun 30 days ago end as by verdict 0, then settlement of the accounts for which something can
+// have changed. Uses lists, records, rules, preservation, tick_rules, tables, account_sums, settlement, posting and
+// tick_base.
+use account_sums::SEATS;
+use account_sums::add;
+use account_sums::part;
+use posting::rows::released;
+use settlement::settle;
+use tables::layout::ACCOUNT_WIDTH;
+use tables::layout::DAY_PLACE;
+use tables::layout::USED_PLACE;
+use tables::rows::read_row;
+use tables::rows::write_row;
+use tables::words::get;
+use tick_base::days::hold_ends;
+ghost use mathlib.Core.Path.{_≡_};
+ghost use mathlib.Core.Bool.{true};
+ghost use Prim.Native.Nat.{_+_, _≤_, _<_};
+ghost use Rattle.records.specs.Encoding.{rowAt};
+ghost use Rattle.rules.specs.Limits.{mostAccounts};
+ghost use Rattle.rules.specs.Tables.{soundTables};
+ghost use Rattle.tick_rules.proofs.FreedLaws.{atDawn};
+ghost use Rattle.tables.specs.Changes.{RowIn, RowChanged, RowsMapped};
+ghost use Rattle.account_sums.specs.Tallies.{Tallied, Countable};
+ghost use Rattle.settlement.specs.Settling.{Journal};
+ghost use Rattle.posting.specs.Posts.{tablesAt};
+ghost use Rattle.tick_holds.specs.Holds.{endsOf, Ending, Dawning, SettledIf, SettledThose, DuskRows};
+
+// Row i, where its hold ends, is counted at its account.
+fn count_end(journal: &[i64], used: usize, i: usize, today: u64, ends: &mut [u64; SEATS])
+    requires { ⌜ Countable (now journal) used × (i < used) × Tallied (endsOf today) 257 (now journal) (now ends) i ⌝ }
+    ensures { λ _. ⌜ Tallied (endsOf today) 257 (now (journal .entry)) (now (ends .exit)) (i + 1) ⌝ }
+{
+    let r = read_row(journal, i);
+    add(ends, r.account as usize, part(hold_ends(r, today), 1));
+}
+
+// How many holds of each account end.
+fn count_ends(journal: &[i64], used: usize, today: u64, ends: &mut [u64; SEATS])
+    requires { ⌜ Countable (now journal) used × Tallied (endsOf today) 257 (now journal) (now ends) 0 ⌝ }
+    ensures { λ _. ⌜ Tallied (endsOf today) 257 (now (journal .entry)) (now (ends .exit)) used ⌝ }
+{
+    let mut i = 0;
+    while i < used {
+        count_end(journal, used, i, today, ends);
+        i += 1;
+    }
+}
+
+// Row i, released where its hold ends.
+fn end_hold(journal: &mut [i64], i: usize, today: u64)
+    requires { ⌜ RowIn (now journal) i × Ending today (rowAt (now journal) i) ⌝ }
+    ensures { λ _. ⌜ RowChanged (now (journal .entry)) (now (journal .exit)) i (atDawn today (rowAt (now (journal .entry)) i)) ⌝ }
+{
+    let r = read_row(journal, i);
+    if hold_ends(r, today) {
+        write_row(journal, i, released(r, today));
+    }
+}
+
+// The used rows, those whose hold ends released.
+fn end_holds(journal: &mut [i64], used: usize, today: u64)
+    requires { ⌜ Dawning (now journal) used today ⌝ }
+    ensures { λ _. ⌜ RowsMapped (atDawn today) (now (journal .entry)) (now (journal .exit)) used ⌝ }
+{
+    let mut i = 0;
+    while i < used {
+        end_hold(journal, i, today);
+        i += 1;
+    }
+}
+
+// The account, settled where a hold of it has ended.
+fn settle_if(journal: &mut [i64], used: usize, account: u64, freed: bool)
+    requires { ⌜ Journal (now journal) used ⌝ }
+    ensures { λ _. ⌜ SettledIf freed account (now (journal .entry)) (now (journal .exit)) used ⌝ }
+{
+    if freed {
+        settle(journal, used, account);
+    }
+}
+
+// Accounts 1 to `count`, those settled of which a hold has ended.
+fn settle_freed(journal: &mut [i64], used: usize, count: usize, ends: &[u64; SEATS])
+    requires { ⌜ Journal (now journal) used × (count ≤ mostAccounts) ⌝ }
+    ensures { λ _. ⌜ SettledThose (now (ends .entry)) count (now (journal .entry)) (now (journal .exit)) used ⌝ }
+{
+    let mut i = 0;
+    while i < count {
+        let n = i + 1;
+        settle_if(journal, used, n as u64, 0 < ends[n]);
+        i += 1;
+    }
+}
+
+// The holds that end at the tick to the next day, and the settlement that they allow.
+pub fn free_and_settle(header: &[i64], accounts: &[i64], journal: &mut [i64])
+    requires { ⌜ soundTables (tablesAt (now header) (now accounts) (now journal)) ≡ true ⌝ }
+    ensures { λ _. ⌜ DuskRows (tablesAt (now (header .entry)) (now (accounts .entry)) (now (journal .entry))) (now (journal .exit)) ⌝ }
+{
+    let used = get(header, USED_PLACE) as usize;
+    let today = get(header, DAY_PLACE) + 1;
+    let mut ends = [0u64; SEATS];
+    count_ends(journal, used, today, &mut ends);
+    end_holds(journal, used, today);
+    settle_freed(journal, used, accounts.len() / ACCOUNT_WIDTH, &ends);
+}
