@@ -1,0 +1,44 @@
+# The ledger as a C library. `make` proves and builds it, `make install` puts header, library and pkg-config file under PREFIX,
+# `make test` tests it from outside. Everything made stands in target/.
+
+PREFIX = /usr/local
+INCLUDEDIR = $(PREFIX)/include
+LIBDIR = $(PREFIX)/lib
+# Of the interface: rises with every change of the header.
+VERSION = 1.0.0
+RT = rt
+CC = cc
+CFLAGS = -O2 -std=c11 -Wall -Wextra -Wpedantic -Wconversion
+LIBRARY = target/staticlib/libtoll_ledger.a
+
+.PHONY: build install uninstall host test clean
+
+build:
+	$(RT) staticlib toll_ledger
+
+$(LIBRARY):
+	$(RT) staticlib toll_ledger
+
+# The example host, against the library as it stands here.
+host: target/host
+
+target/host: examples/host.c include/toll_ledger.h $(LIBRARY)
+	$(CC) $(CFLAGS) -Iinclude -o $@ examples/host.c $(LIBRARY)
+
+install: $(LIBRARY)
+	install -d '$(DESTDIR)$(INCLUDEDIR)' '$(DESTDIR)$(LIBDIR)/pkgconfig'
+	install -m 644 include/toll_ledger.h '$(DESTDIR)$(INCLUDEDIR)'
+	install -m 644 $(LIBRARY) '$(DESTDIR)$(LIBDIR)'
+	printf '%s\n' 'prefix=$(PREFIX)' 'includedir=$(INCLUDEDIR)' 'libdir=$(LIBDIR)' '' 'Name: toll_ledger' \
+	  'Description: The toll account ledger, proved' 'Version: $(VERSION)' 'Cflags: -I$${includedir}' \
+	  'Libs: -L$${libdir} -ltoll_ledger' > '$(DESTDIR)$(LIBDIR)/pkgconfig/toll_ledger.pc'
+
+uninstall:
+	rm -f '$(DESTDIR)$(INCLUDEDIR)/toll_ledger.h' '$(DESTDIR)$(LIBDIR)/libtoll_ledger.a' \
+	  '$(DESTDIR)$(LIBDIR)/pkgconfig/toll_ledger.pc'
+
+test: $(LIBRARY)
+	tests/run
+
+clean:
+	rm -rf target/tests target/host $(LIBRARY)
