@@ -193,9 +193,33 @@ impl Failure {
                 }
             }
             if Instant::now() >= end || (part == 1 && !shorter) {
+                self.shorten_batches(end);
                 return self;
             }
             part = if shorter { part } else { (part / 2).max(1) };
+        }
+    }
+
+    /// Leaves out events of batches that fail as batches alone.
+    fn shorten_batches(&mut self, end: Instant) {
+        for i in 0..self.calls.len() {
+            let mut event = 0;
+            while let Call::Batch { events, answers } = &self.calls[i] {
+                if event == events.len() || *answers < 5 || Instant::now() >= end {
+                    break;
+                }
+                let mut fewer = events.clone();
+                fewer.remove(event);
+                let mut calls = self.calls.clone();
+                calls[i] = Call::Batch { events: fewer, answers: answers - 5 };
+                match fails(&self.opening, &calls) {
+                    Some((length, difference)) if length == calls.len() => {
+                        self.calls = calls;
+                        self.difference = difference;
+                    }
+                    _ => event += 1,
+                }
+            }
         }
     }
 }
