@@ -17,9 +17,9 @@ use Rattle.rules.proofs.TableLaws.{sound-book, sound-rows}
 use Rattle.preservation.proofs.NamedLaws.{settled-unmoved}
 use Rattle.tables.specs.Changes.{AccountChanged}
 use Rattle.tables.proofs.ChangeLaws.{changed-accounts}
 use Rattle.posting.specs.Posts.{tablesAt}
 use Rattle.posting.proofs.BookLaws.{day-read, used-read, room-read, schedule-read}
-use Rattle.posting.proofs.WrittenLaws.{Written}
+use Rattle.posting_laws.proofs.WrittenLaws.{Written}
 
 -- ---- the account that an event other than a tick names is one of the table's, where refusal 3 does not apply
 

@@ -25,10 +25,10 @@ use Rattle.rules.proofs.TableLaws.{sound-book, sound-rows, tablesOf-bookOf, use
 use Rattle.preservation.proofs.SoundKept.{after-keeps-sound}
 use Rattle.tables.proofs.ChangeLaws.{changed-append}
 use Rattle.settlement.specs.Settling.{Journal, Settled}
 use Rattle.posting.specs.Posts.{tablesAt, acceptanceOf, RowAdded, Posts}
 use Rattle.posting.proofs.BookLaws.{day-read, used-read, room-read, schedule-read, journal-settles}
-use Rattle.posting.proofs.HeaderLaws.{schedule-same, word-put, word-others}
-use Rattle.posting.proofs.WrittenLaws.{Written, tables-written}
+use Rattle.posting_laws.proofs.HeaderLaws.{schedule-same, word-put, word-others}
+use Rattle.posting_laws.proofs.WrittenLaws.{Written, tables-written}
 
 -- ---- the answer
 

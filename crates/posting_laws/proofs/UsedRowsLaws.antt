@@ -22,10 +22,10 @@ use Rattle.rules.proofs.TableLaws.{sound-rows, header-length, journal-length}
 use Rattle.tables.specs.Changes.{RowChanged, RowsMapped}
 use Rattle.tables.proofs.ChangeLaws.{changed-rows, changed-append, mapped-all}
 use Rattle.settlement.specs.Settling.{Journal, Settled}
 use Rattle.posting.specs.Posts.{tablesAt, RowRoom, RowAdded}
 use Rattle.posting.proofs.BookLaws.{row-holds}
-use Rattle.posting.proofs.HeaderLaws.{schedule-same}
-use Rattle.posting.proofs.WrittenLaws.{Written}
+use Rattle.posting_laws.proofs.HeaderLaws.{schedule-same}
+use Rattle.posting_laws.proofs.WrittenLaws.{Written}
 
 -- h and j are t's header and journal, but with just these rows used
 pub record UsedRows (t : Tables) (h j : List ℤ) (rs : List Row) : Type 0 where

@@ -22,12 +22,12 @@ use Rattle.preservation.proofs.LookupLaws.{there}
 use Rattle.preservation.proofs.NamedLaws.{after-named}
 use Rattle.tables.specs.Changes.{RowChanged}
 use Rattle.settlement.specs.Settling.{Journal, Settled}
 use Rattle.posting.specs.Posts.{tablesAt, acceptanceOf, Posts}
 use Rattle.posting.proofs.BookLaws.{row-read, used-read}
-use Rattle.posting.proofs.RefusalLaws.{length-after, no-ceiling}
-use Rattle.posting.proofs.AddedLaws.{acceptance-plain, posts-accepted}
-use Rattle.posting.proofs.EventLaws.{known-inside}
-use Rattle.posting.proofs.UsedRowsLaws.{UsedRows, used-rows-before, used-rows-put, used-rows-settle, used-rows-written, used-rows-settles, small-before, small-put}
+use Rattle.posting_laws.proofs.RefusalLaws.{length-after, no-ceiling}
+use Rattle.posting_laws.proofs.AddedLaws.{acceptance-plain, posts-accepted}
+use Rattle.posting_laws.proofs.EventLaws.{known-inside}
+use Rattle.posting_laws.proofs.UsedRowsLaws.{UsedRows, used-rows-before, used-rows-put, used-rows-settle, used-rows-written, used-rows-settles, small-before, small-put}
 
 -- ---- a row that has a kind is a used one
 

@@ -17,11 +17,11 @@ use Rattle.rules.proofs.StorableLaws.{rows-le}
 use Rattle.rules.proofs.TableLaws.{sound-book, accounts-length}
 use Rattle.preservation.proofs.Accepted.{accepted}
 use Rattle.tables.specs.Changes.{AccountIn, AccountChanged}
 use Rattle.posting.specs.Posts.{tablesAt, acceptanceOf, Posts}
 use Rattle.posting.proofs.BookLaws.{count-read}
-use Rattle.posting.proofs.RefusalLaws.{length-after, no-ceiling}
-use Rattle.posting.proofs.AddedLaws.{posts-accepted}
-use Rattle.posting.proofs.EventLaws.{known-inside, account-written, after-account}
+use Rattle.posting_laws.proofs.RefusalLaws.{length-after, no-ceiling}
+use Rattle.posting_laws.proofs.AddedLaws.{posts-accepted}
+use Rattle.posting_laws.proofs.EventLaws.{known-inside, account-written, after-account}
 
 -- ---- 13 and 14: no row is added
 
