@@ -1,0 +1,37 @@
+-- The numbers that the calls give are small.
+use mathlib.Core.Bool.{Bool, true, false, not, cond}
+use mathlib.Core.Path.{_≡_}
+use Prim.Native.Nat.{ℕ, _+_, _^_, _≤_, _<_}
+use native.Mathlib.Omega.{arith}
+use mathlib.Core.List.{List, [], _∷_}
+use lib.IntN.{ℤ}
+use Rattle.lists.specs.Tests.{first}
+use Rattle.rules.specs.Book.{Book}
+use Rattle.rules.specs.Tables.{Tables}
+use Rattle.rules.specs.Calls.{openRefusals, openCall, questionRefusals, question, balanceCall, topUpDueCall}
+
+small-first : (m n : ℕ) (a b : Bool) → m + n ≤ 14 → first ((m, a) ∷ (n, b) ∷ []) ≤ 14
+unfolding first
+small-first m n true b h = omega arith
+small-first m n false true h = omega arith
+small-first m n false false h = omega arith
+
+pub open-small : (t : Tables) (w : List ℤ) → openCall t w .number ≤ 14
+unfolding openCall openRefusals
+open-small t w = small-first 1 2 _ _ (omega arith)
+
+question-small : (f : Book → ℕ → ℤ) (t : Tables) (a : ℤ) → question f t a .number ≤ 14
+unfolding question questionRefusals
+question-small f t a = small-first 1 3 _ _ (omega arith)
+
+pub balance-small : (t : Tables) (a : ℤ) → balanceCall t a .number ≤ 14
+unfolding balanceCall
+balance-small t a = question-small _ t a
+
+pub due-small : (t : Tables) (a : ℤ) → topUpDueCall t a .number ≤ 14
+unfolding topUpDueCall
+due-small t a = question-small _ t a
+
+-- so a signed word holds them
+pub small-fits : (n m : ℕ) → n ≡ m → m ≤ 14 → n < 2 ^ 63
+small-fits n m e h = omega arith
