@@ -25,9 +25,10 @@ use Rattle.rules.proofs.StorableLaws.{mostOf-le, used-inside, between-le, sched
 use Rattle.sound_header.specs.Clauses.{ownWords, rowAlone, rowStands, rowsStand, restZero, tablesAt, Bounds}
 use Rattle.sound_header.proofs.LengthLaws.{lengths-known}
 use Rattle.sound_passages.specs.Trees.{passagesDiffer}
-use Rattle.sound_sums.specs.Fees.{feesFew}
+use Rattle.sound_fees.specs.Fees.{feesFew}
 use Rattle.soundness.specs.Book.{bookStands}
-use Rattle.sound_sums.specs.Accounts.{accountAlone, sumsAgree, accountStands, sumsOf, allAgree, accountsStand}
+use Rattle.sound_sums.specs.Accounts.{sumsAgree, accountStands, sumsOf, allAgree, accountsStand}
+use Rattle.sound_accounts.specs.Alone.{accountAlone}
 use Rattle.account_sums.specs.Tallies.{Countable}
 
 -- ---- rows and accounts

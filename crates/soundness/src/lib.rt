@@ -1,5 +1,6 @@
 // The check of a whole book: whether three lent tables of any lengths and contents are sound, in time that grows with the rows and
 // accounts. Uses lists, records, rules, tables and the crates of its clauses.
+use sound_fees::fees_few;
 use sound_header::header::day_fits;
 use sound_header::header::lengths_fit;
 use sound_header::header::schedule_fits;
@@ -7,7 +8,6 @@ use sound_journal::later_rows_zero;
 use sound_journal::rows_stand;
 use sound_passages::passages::passages_differ;
 use sound_sums::accounts::accounts_stand;
-use sound_sums::fees::fees_few;
 use tables::layout::ACCOUNT_WIDTH;
 use tables::layout::DAY_PLACE;
 use tables::layout::HEADER_SCHEDULE;
