@@ -17,9 +17,11 @@ use Rattle.rules.specs.Soundness.{sound}
 use Rattle.rules.specs.Tick.{nextDay, endHolds, beforeRaising, raisedBy, rises}
 use Rattle.rules.specs.Refusals.{after, full, refusals, answerNumber}
 use Rattle.rules.specs.Posting.{newRows, acceptance, refusalBy, post, removesTopUp}
+use Rattle.rules.specs.Tables.{Tables, bookOf, soundTables}
 use Rattle.rules.proofs.PostingLaws.{post-refused, post-accepted}
-use Rattle.rules.proofs.SoundnessLaws.{sound-facts}
+use Rattle.rules.proofs.SoundnessLaws.{sound-facts, facts-sound}
 use Rattle.rules.proofs.StorableLaws.{room-le, rows-le}
+use Rattle.rules.proofs.TableLaws.{sound-book}
 use Rattle.preservation.proofs.Accepted.{accepted}
 use Rattle.preservation.proofs.SettledLaws.{length-settled}
 use Rattle.answering.specs.Answers.{StorableAnswer}
@@ -100,3 +102,9 @@ module _ (b : Book) (s : sound b ≡ true) where
       go : (t : Bool) → eqb (answerNumber b e) 0 ≡ t → SmallAnswer (post b e .answer)
       go true q = rw (post-accepted b e q) (acceptance-small e (eqb-true (answerNumber b e) 0 q))
       go false q = rw (post-refused b e q) (refusal-small (answerNumber b e) (number-le b e))
+
+-- ---- on tables
+
+-- the answer of an event on sound tables can be stored
+pub answer-storable : (t : Tables) → soundTables t ≡ true → (e : Instruction) (x : Answer) → x ≡ post (bookOf t) e .answer → StorableAnswer x
+answer-storable t s e x q = rw q (small-storable (post (bookOf t) e .answer) (answer-small (bookOf t) (facts-sound (bookOf t) (sound-book t s)) e))
