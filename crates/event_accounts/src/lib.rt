@@ -1,8 +1,8 @@
 // Events 1 and 8, which change an account alone. Uses lists, records, rules, preservation, tables, settlement and posting.
+use forms::open_form;
+use forms::request_form;
 use posting::answers::posted;
 use posting::answers::refused;
-use posting::forms::open_form;
-use posting::forms::request_form;
 use records::Account;
 use records::Answer;
 use records::Instruction;

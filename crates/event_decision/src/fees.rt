@@ -1,7 +1,7 @@
 // The fees of a toll: summed with it, and settled whole.
 use records::Row;
+use row_tests::remaining_of;
 use tables::codes::FEE;
-use tables::row_tests::remaining_of;
 use tables::rows::put_settled;
 use tables::rows::read_row;
 use tables::rows::row_numbered;

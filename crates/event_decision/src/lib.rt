@@ -3,15 +3,16 @@ pub mod fees; // fees.rt: the fees of a toll, summed and settled
 
 use self::fees::settle_fees;
 use self::fees::with_fees;
+use forms::decision_form;
 use posting::answers::posted;
 use posting::answers::refused;
-use posting::forms::decision_form;
 use posting::rows::add_row;
 use posting::rows::new_row;
 use posting::rows::released;
 use records::Answer;
 use records::Instruction;
 use records::Row;
+use row_tests::held_toll;
 use settlement::settle;
 use tables::accounts::account_numbered;
 use tables::codes::CREDIT;
@@ -22,7 +23,6 @@ use tables::layout::ACCOUNT_WIDTH;
 use tables::layout::DAY_PLACE;
 use tables::layout::ROW_WIDTH;
 use tables::layout::USED_PLACE;
-use tables::row_tests::held_toll;
 use tables::rows::row_numbered;
 use tables::rows::write_row;
 use tables::words::get;

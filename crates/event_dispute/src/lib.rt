@@ -1,7 +1,7 @@
 // Event 5: a dispute. Uses lists, records, rules, preservation, tables, settlement and posting.
+use forms::dispute_form;
 use posting::answers::posted;
 use posting::answers::refused;
-use posting::forms::dispute_form;
 use records::Answer;
 use records::Instruction;
 use records::Row;

@@ -1,7 +1,7 @@
 // Event 3: a payment. Uses lists, records, rules, preservation, tables, settlement and posting.
+use forms::payment_form;
 use posting::answers::posted;
 use posting::answers::refused;
-use posting::forms::payment_form;
 use posting::rows::add_row;
 use posting::rows::new_row;
 use records::Answer;

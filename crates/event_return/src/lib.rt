@@ -1,7 +1,7 @@
 // Event 4: a returned check. Uses lists, records, rules, preservation, tables, settlement and posting.
+use forms::return_form;
 use posting::answers::posted;
 use posting::answers::refused;
-use posting::forms::return_form;
 use posting::rows::add_row;
 use posting::rows::new_row;
 use records::Answer;

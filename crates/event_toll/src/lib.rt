@@ -1,11 +1,11 @@
 // Event 2: a toll. Uses lists, records, rules, preservation, tables, settlement and posting.
+use forms::toll_form;
 use posting::answers::posted;
 use posting::answers::refused;
-use posting::forms::toll_form;
 use posting::rows::add_row;
 use posting::rows::new_row;
-use posting::schedule::class_of;
-use posting::schedule::rate_of;
+use rates::class_of;
+use rates::rate_of;
 use records::Answer;
 use records::Instruction;
 use settlement::settle;

@@ -1,7 +1,7 @@
 // Event 7: the result of a top-up. Uses lists, records, rules, preservation, tables, settlement and posting.
+use forms::result_form;
 use posting::answers::posted;
 use posting::answers::refused;
-use posting::forms::result_form;
 use posting::rows::add_row;
 use posting::rows::new_row;
 use posting::sums::top_up_due;

@@ -5,3 +5,4 @@ pub mod PairLaws
 pub mod CollectLaws
 pub mod GatherLaws
 pub mod ExistsLaws
+pub mod PassLaws

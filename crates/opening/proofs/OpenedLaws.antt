@@ -22,8 +22,8 @@ use Rattle.rules.specs.Opening.{opening, dayFits}
 use Rattle.rules.specs.Tables.{Tables, accountsIn, roomIn, scheduleFrom, scheduleWords, headerWords, tablesOf, lengthsFit}
 use Rattle.rules.specs.Calls.{openRefusals, openedBook, openCall}
 use Rattle.rules.proofs.StorableLaws.{between-le, StorableSchedule, schedule-storable}
-use Rattle.sound_rows.specs.Clauses.{tablesOn}
-use Rattle.sound_rows.proofs.LengthLaws.{lengths-known}
+use Rattle.sound_header.specs.Clauses.{tablesOn}
+use Rattle.sound_header.proofs.LengthLaws.{lengths-known}
 use Rattle.opening.specs.Opens.{openingFits, Opens}
 
 -- ---- words copied

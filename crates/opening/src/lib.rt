@@ -1,8 +1,8 @@
 // Opening: lent tables of any contents become the book of a first day and a schedule, all else 0. Uses lists, records, rules, tables and
 // sound_rows.
-use sound_rows::header::day_fits;
-use sound_rows::header::lengths_fit;
-use sound_rows::header::schedule_fits;
+use sound_header::header::day_fits;
+use sound_header::header::lengths_fit;
+use sound_header::header::schedule_fits;
 use tables::layout::DAY_PLACE;
 use tables::layout::FIRST_DAY_PLACE;
 use tables::layout::HEADER_SCHEDULE;
@@ -20,7 +20,7 @@ ghost use lib.ListN.{length, getD, set, replicate};
 ghost use Rattle.records.specs.Layout.{headerWidth, firstDayPlace, openingSchedule};
 ghost use Rattle.records.specs.Encoding.{word};
 ghost use Rattle.rules.specs.Tables.{scheduleFrom, scheduleWords};
-ghost use Rattle.sound_rows.specs.Clauses.{tablesOn};
+ghost use Rattle.sound_header.specs.Clauses.{tablesOn};
 ghost use Rattle.opening.specs.Opens.{openingFits, Opens};
 
 // The first day and the schedule: eleven words, each in its range.

@@ -4,7 +4,6 @@ pub mod EventLaws
 pub mod HeaderLaws
 pub mod AccountEventLaws
 pub mod PutRowLaws
-pub mod RateLaws
 pub mod TopUpLaws
 pub mod WrittenLaws
 pub mod RefusalLaws

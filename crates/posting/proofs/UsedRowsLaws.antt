@@ -139,8 +139,12 @@ rows-before t =
     }
 
 module _ (t : Tables) (h j : List ℤ) (rows : List Row) (u : UsedRows t h j rows) where
-  same-schedule : scheduleFrom h headerSchedule ≡ scheduleFrom (t .header) headerSchedule
-  same-schedule = schedule-same (t .header) h (λ k l. u .words k (λ z. omega arith))
+  pub rows-row : (k : ℕ) → k < length rows → rowAt j k ≡ getD rows k blank
+  rows-row k q = sym (tabulate-at (rowAt j) (length rows) k blank q) ∙ ap (λ (xs : List Row). getD xs k blank) (u .rows)
+
+  pub rows-schedule : scheduleFrom h headerSchedule ≡ bookOf t .schedule
+  unfolding bookOf
+  rows-schedule = schedule-same (t .header) h (λ k l. u .words k (λ z. omega arith))
 
   -- there is a row for one more, and its day is the book's
   pub rows-room : length (t .header) ≡ headerWidth → length rows < roomIn t → RowRoom h j
@@ -159,7 +163,7 @@ module _ (t : Tables) (h j : List ℤ) (rows : List Row) (u : UsedRows t h j row
     journal-size = u .journal-size;
     day = rows-day;
     used = u .used;
-    schedule = same-schedule;
+    schedule = rows-schedule;
     accounts = held;
     rows = u .rows;
     room = refl;
@@ -201,7 +205,7 @@ module _ (t : Tables) (s : soundTables t ≡ true) where
     pub used-rows-settles : length rows ≤ roomIn t → SmallAmounts rows → Journal j (length rows)
     used-rows-settles l small = record {
       room = rw (u .journal-size) (omega (arith, journal-length t s));
-      amounts = λ k q. rw (← tabulate-at (rowAt j) (length rows) k blank q, u .rows) (small k);
+      amounts = λ k q. rw (rows-row t h j rows u k q) (small k);
     }
 
 -- ---- amounts on the way

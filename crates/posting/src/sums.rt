@@ -1,12 +1,12 @@
 // The sums of an account's sources and of its debits, and whether its top-up is due.
 use records::Row;
+use row_tests::is_debit;
+use row_tests::is_source;
 use tables::accounts::account_numbered;
 use tables::codes::OPEN;
 use tables::layout::ACCOUNT_WIDTH;
 use tables::layout::DAY_PLACE;
 use tables::layout::USED_PLACE;
-use tables::row_tests::is_debit;
-use tables::row_tests::is_source;
 use tables::rows::read_row;
 use tables::words::get;
 ghost use mathlib.Core.Path.{_≡_};

@@ -1,10 +1,10 @@
 // The settlement of one account over the journal: unused sources in row order pay unsettled unheld debits in row order, until either
 // side is spent. Uses lists, records, rules and tables.
 use records::Row;
-use tables::row_tests::is_debit;
-use tables::row_tests::is_held;
-use tables::row_tests::is_source;
-use tables::row_tests::remaining_of;
+use row_tests::is_debit;
+use row_tests::is_held;
+use row_tests::is_source;
+use row_tests::remaining_of;
 use tables::rows::put_settled;
 use tables::rows::read_row;
 ghost use mathlib.Core.Path.{_≡_};

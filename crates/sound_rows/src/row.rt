@@ -1,8 +1,8 @@
 // A row by itself: each clause of rules' Soundness that looks at one row and the day. Each test returns at once, so that a sound
 // row costs one well-predicted branch a test; tolls and other rows part at once, since they share few tests.
-use super::tests::between;
-use super::tests::implies;
 use records::Row;
+use sound_header::tests::between;
+use sound_header::tests::implies;
 use tables::codes::CARD;
 use tables::codes::CHECK_RETURNED;
 use tables::codes::HELD;
@@ -22,7 +22,7 @@ ghost use Prim.Native.Nat.{ℕ, _≤_};
 ghost use Rattle.rules.specs.Limits.{finalDay, longestStage};
 ghost use Rattle.rules.specs.Rows.{Toll};
 ghost use Rattle.rules.specs.Soundness.{kindFits, mostOf, amountFits, settledFits, markFits, tollWordsFit, noReference, rowDayFits, dueFits, holdFits};
-ghost use Rattle.sound_rows.specs.Clauses.{ownWords, rowAlone};
+ghost use Rattle.sound_header.specs.Clauses.{ownWords, rowAlone};
 
 // The last day of a hold is its 29th after the start: the tick to the 30th ends it.
 const HOLD_LASTS: u64 = 29;

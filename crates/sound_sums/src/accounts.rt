@@ -2,8 +2,8 @@
 use account_sums::SEATS;
 use account_sums::add_rows;
 use records::Account;
-use sound_rows::tests::between;
-use sound_rows::tests::implies;
+use sound_header::tests::between;
+use sound_header::tests::implies;
 use tables::accounts::read_account;
 use tables::codes::CLOSED;
 use tables::codes::OPEN;

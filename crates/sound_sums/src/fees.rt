@@ -1,5 +1,5 @@
 // "A toll of stage k is named by at most k - 1 fees": the fees that name each row are counted, then each toll is looked at.
-use sound_rows::tests::implies;
+use sound_header::tests::implies;
 use tables::codes::FEE;
 use tables::codes::TOLL;
 use tables::limits::MOST_ROWS;

@@ -22,8 +22,8 @@ use Rattle.rules.specs.Opening.{dayFits, sizesFit}
 use Rattle.rules.specs.Soundness.{kindFits, mostOf, amountFits, settledFits, accountUsed, referenceFits, passageOnce, feesFit, rowSound, returnedFits, even, spent, closedClear, accountSound, sound}
 use Rattle.rules.specs.Tables.{Tables, accountsIn, roomIn, rowsUsed, scheduleFrom, bookOf, wholeRecords, lengthsFit, usedFits, laterRowsZero, soundTables}
 use Rattle.rules.proofs.StorableLaws.{mostOf-le, used-inside, between-le, schedule-storable}
-use Rattle.sound_rows.specs.Clauses.{ownWords, rowAlone, rowStands, rowsStand, restZero, tablesOn, Bounds}
-use Rattle.sound_rows.proofs.LengthLaws.{lengths-known}
+use Rattle.sound_header.specs.Clauses.{ownWords, rowAlone, rowStands, rowsStand, restZero, tablesOn, Bounds}
+use Rattle.sound_header.proofs.LengthLaws.{lengths-known}
 use Rattle.sound_passages.specs.Trees.{passagesDiffer}
 use Rattle.sound_sums.specs.Fees.{feesFew}
 use Rattle.soundness.specs.Book.{bookStands}

@@ -5,7 +5,7 @@ use mathlib.Core.List.{List, [], _∷_}
 use Rattle.lists.specs.Tests.{allOf}
 use Rattle.rules.specs.Rows.{Row}
 use Rattle.rules.specs.Book.{Account}
-use Rattle.sound_rows.specs.Clauses.{rowsStand}
+use Rattle.sound_header.specs.Clauses.{rowsStand}
 use Rattle.sound_passages.specs.Trees.{passagesDiffer}
 use Rattle.sound_sums.specs.Fees.{feesFew}
 use Rattle.sound_sums.specs.Accounts.{accountsStand}

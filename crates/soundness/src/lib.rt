@@ -1,11 +1,11 @@
 // The check of a whole book: whether three lent tables of any lengths and contents are sound, in time that grows with the rows and
 // accounts. Uses lists, records, rules, tables and the crates of its clauses.
+use sound_header::header::day_fits;
+use sound_header::header::lengths_fit;
+use sound_header::header::schedule_fits;
+use sound_journal::later_rows_zero;
+use sound_journal::rows_stand;
 use sound_passages::passages::passages_differ;
-use sound_rows::header::day_fits;
-use sound_rows::header::lengths_fit;
-use sound_rows::header::schedule_fits;
-use sound_rows::journal::later_rows_zero;
-use sound_rows::journal::rows_stand;
 use sound_sums::accounts::accounts_stand;
 use sound_sums::fees::fees_few;
 use tables::layout::ACCOUNT_WIDTH;
@@ -21,7 +21,7 @@ ghost use lib.ListN.{length};
 ghost use Rattle.records.specs.Layout.{rowWidth};
 ghost use Rattle.records.specs.Encoding.{rowsOf, accountsOf};
 ghost use Rattle.rules.specs.Tables.{soundTables};
-ghost use Rattle.sound_rows.specs.Clauses.{tablesOn, Bounds};
+ghost use Rattle.sound_header.specs.Clauses.{tablesOn, Bounds};
 ghost use Rattle.soundness.specs.Book.{bookStands};
 
 // The used rows and the accounts, once the lengths and the header are found fit. Each pass starts only where the ones before it found

@@ -1,3 +1,2 @@
 pub mod WordLaws
 pub mod ChangeLaws
-pub mod RowTestLaws

@@ -6,4 +6,3 @@ pub mod layout; // layout.rt: the widths and places of the tables' words
 pub mod words; // words.rt: one word
 pub mod rows; // rows.rt: a row of the journal
 pub mod accounts; // accounts.rt: an account of the accounts' table
-pub mod row_tests; // row_tests.rt: tests on a row

@@ -1,10 +1,10 @@
 // Days counted back from today: which holds end, and whose days to close are over.
 use records::Account;
 use records::Row;
+use row_tests::held_toll;
 use tables::codes::PENDING;
 use tables::limits::CLOSING_DAYS;
 use tables::limits::HOLD_DAYS;
-use tables::row_tests::held_toll;
 ghost use mathlib.Core.Path.{_≡_};
 ghost use Rattle.rules.specs.Tick.{holdEnds};
 ghost use Rattle.tick_base.specs.Remainders.{daysOver};

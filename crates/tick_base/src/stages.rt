@@ -1,10 +1,10 @@
 // Which tolls rise at a tick, and their fees.
 use records::Row;
+use row_tests::held_toll;
 use tables::codes::LAST_STAGE;
 use tables::codes::TOLL;
 use tables::layout::FEE2_PLACE;
 use tables::layout::HEADER_SCHEDULE;
-use tables::row_tests::held_toll;
 use tables::words::get;
 ghost use mathlib.Core.Path.{_≡_};
 ghost use mathlib.Core.Bool.{cond};

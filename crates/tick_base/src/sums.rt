@@ -2,8 +2,8 @@
 use account_sums::SEATS;
 use account_sums::add;
 use account_sums::part;
-use tables::row_tests::is_source;
-use tables::row_tests::remaining_of;
+use row_tests::is_source;
+use row_tests::remaining_of;
 use tables::rows::read_row;
 ghost use mathlib.Core.Path.{_≡_};
 ghost use Prim.Native.Nat.{_+_, _<_};

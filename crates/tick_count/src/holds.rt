@@ -3,7 +3,7 @@ use account_sums::SEATS;
 use account_sums::add;
 use account_sums::part;
 use records::Row;
-use tables::row_tests::held_toll;
+use row_tests::held_toll;
 use tables::rows::read_row;
 use tick_base::days::hold_ends;
 ghost use mathlib.Core.Path.{_≡_};

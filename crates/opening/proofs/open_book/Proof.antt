@@ -1,9 +1,9 @@
 -- `open_book` meets its contract: each way through the tests is a case of the call's, and the tables written are the opened book's.
 use Rattle.opening.proofs.OpenedLaws.{lengths-refused, words-refused, opened}
-use Rattle.sound_rows.specs.Clauses.{tablesOn}
+use Rattle.sound_header.specs.Clauses.{tablesOn}
 use Rattle.rules.specs.Tables.{lengthsFit}
 use mathlib.Core.Bool.{true}
-use Rattle.sound_rows.proofs.LengthLaws.{lengths-known}
+use Rattle.sound_header.proofs.LengthLaws.{lengths-known}
 use borrow.Author.Tests.{not-true, not-false}
 use mathlib.Core.Path.{_≡_, sym, _∙_}
 use borrow.Author.Needs.{needs}

@@ -1,6 +1,6 @@
 -- `book_stands` meets its contract: the first pass that finds something decides; rows that stand can be counted.
 use Rattle.soundness.proofs.SoundParts.{countable}
-use Rattle.sound_rows.specs.Clauses.{rowsStand}
+use Rattle.sound_header.specs.Clauses.{rowsStand}
 use Rattle.sound_passages.specs.Trees.{passagesDiffer}
 use Rattle.sound_sums.specs.Fees.{feesFew}
 use Rattle.soundness.specs.Book.{bookStands}

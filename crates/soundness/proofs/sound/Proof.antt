@@ -1,7 +1,7 @@
 -- `sound` meets its contract: the first test that fails decides, and behind the lengths and the header the rest is book_stands.
 use Rattle.soundness.proofs.SoundParts.{unfit-lengths, unfit-used, unfit-later, unfit-day, unfit-schedule, Fit, fit-sound, fit-bounds}
-use Rattle.sound_rows.specs.Clauses.{tablesOn, restZero}
-use Rattle.sound_rows.proofs.LengthLaws.{Lengths, lengths-known}
+use Rattle.sound_header.specs.Clauses.{tablesOn, restZero}
+use Rattle.sound_header.proofs.LengthLaws.{Lengths, lengths-known}
 use Rattle.rules.specs.Tables.{bookOf, usedFits, laterRowsZero, rowsUsed, roomIn}
 use Rattle.rules.specs.Opening.{dayFits}
 use Rattle.records.specs.Encoding.{word}

@@ -53,7 +53,7 @@ returns c =
     let u = c .before .before .before .before .before .before .before .before .before .before .before .get .ensures in
     let d = c .before .before .before .before .before .before .before .before .before .before .get2 .ensures in (
       rows-counted _ (a .pre) _ _ _ (rw (u, d) at (c .before .before .before .before .before .count-stays .ensures)) (rw u at (c .before .before .before .before .before .before .before .add-remainders .ensures)) _ _
-      (rw (u, d) at (c .fees-added .ensures .0)) (rw d at (c .before .refunds-added .ensures .0)),
+          (rw (u, d) at (c .fees-added .ensures .0)) (rw d at (c .before .refunds-added .ensures .0)),
       omega (arith, c .fees-added .ensures .1, c .before .refunds-added .ensures .1, used-small _ (a .pre), count-small _ (a .pre)),
     )
 

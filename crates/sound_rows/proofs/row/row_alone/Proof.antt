@@ -1,5 +1,5 @@
 -- `row_alone` meets its contract: the first test that fails decides.
-use Rattle.sound_rows.specs.Clauses.{rowAlone}
+use Rattle.sound_header.specs.Clauses.{rowAlone}
 use Rattle.lists.specs.Tests.{allOf}
 use borrow.Author.Tests.{not-true, not-false}
 use mathlib.Core.Bool.{true, false, and-true, and-false}

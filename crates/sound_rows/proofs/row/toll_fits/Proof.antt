@@ -1,6 +1,6 @@
 -- `toll_fits` meets its contract: the first test that fails decides; a toll needs no empty reference.
 use Rattle.sound_rows.proofs.RowLaws.{toll-no-reference}
-use Rattle.sound_rows.specs.Clauses.{ownWords}
+use Rattle.sound_header.specs.Clauses.{ownWords}
 use Rattle.lists.specs.Tests.{allOf}
 use borrow.Author.Tests.{not-true, not-false}
 use mathlib.Core.Bool.{true, false, and-true, and-false}

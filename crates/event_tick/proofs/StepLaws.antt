@@ -1,0 +1,156 @@
+-- An accepted event 9, step by step: the tables after each step hold the book after it.
+use mathlib.Core.Path.{_≡_, refl, sym, ap, _∙_}
+use mathlib.Core.Logic.{_≢_}
+use mathlib.Core.Bool.{Bool, true, false, cond, _&&_}
+use Prim.Native.Nat.{ℕ, _+_, _-_, _^_, _/_, _≤_, _<_}
+use native.Mathlib.Omega.{arith}
+use mathlib.Core.List.{List}
+use lib.ListN.{length, set, length-set}
+use lib.IntN.{ℤ, pos}
+use lib.Dec.{eqb, ltb}
+use borrow.Author.Tests.{eqb-false, ltb-false}
+use Rattle.records.specs.Layout.{headerWidth, dayPlace, usedPlace, headerSchedule, rowWidth}
+use Rattle.records.specs.Encoding.{word, rowAt, rowsOf, accountsOf}
+use Rattle.lists.specs.Tests.{_is_}
+use Rattle.lists.specs.Lists.{count}
+use Rattle.rules.specs.Limits.{finalDay}
+use Rattle.rules.specs.Book.{Instruction, Book, settled}
+use Rattle.rules.specs.Tick.{nextDay, endHolds, beforeRaising, rises, raiseTolls, raisedBy, closeAccounts}
+use Rattle.rules.specs.Refusals.{after, lastDay, full, answerNumber}
+use Rattle.rules.specs.Posting.{newRows, removesTopUp, acceptance}
+use Rattle.rules.specs.Tables.{Tables, accountsIn, roomIn, rowsUsed, scheduleFrom, bookOf, lengthsFit, soundTables}
+use Rattle.rules.proofs.SoundnessLaws.{Near, Sound}
+use Rattle.rules.proofs.TableLaws.{sound-book, header-length}
+use Rattle.preservation.proofs.Accepted.{Accepted, accepted}
+use Rattle.preservation.proofs.HoldsEnded.{beforeRaising-near}
+use Rattle.tick_rules.specs.Ticks.{feesAdded, refundsAdded}
+use Rattle.tick_rules.proofs.RisingLaws.{dusk-length}
+use Rattle.tick_rules.proofs.LateLaws.{late}
+use Rattle.tick_rules.proofs.QuietLaws.{near-late, after-tick}
+use Rattle.tick_rules.proofs.CountLaws.{rows-after, late-fits}
+use Rattle.posting.specs.Posts.{tablesAt, acceptanceOf, Posts}
+use Rattle.posting.proofs.BookLaws.{day-read, used-read, room-read, schedule-read}
+use Rattle.posting.proofs.RefusalLaws.{at-kind}
+use Rattle.posting.proofs.AddedLaws.{posts-accepted}
+use Rattle.posting.proofs.HeaderLaws.{schedule-same, word-put, word-others}
+use Rattle.posting.proofs.WrittenLaws.{Written}
+use Rattle.tick_base.specs.Midway.{Midway}
+use Rattle.tick_base.proofs.MidwayLaws.{written-written, sound-midway}
+use Rattle.tick_holds.specs.Holds.{DuskRows}
+use Rattle.event_tick.proofs.TickLaws.{written-book, written-midway}
+
+module _ (t : Tables) (s : soundTables t ≡ true) (e : Instruction) (k : e .kind ≡ 9) (q : 0 ≡ answerNumber (bookOf t) e) where
+  abbrev b : Book
+  b = bookOf t
+
+  acc : Accepted b e
+  acc = accepted b e (sym q)
+
+  not-last : b .day ≢ finalDay
+  unfolding lastDay
+  not-last = let l : b .day is finalDay ≡ false = rw k at (acc .later) in eqb-false (b .day) finalDay l
+
+  -- its rows fit
+  rows-fit : length (b .rows) + feesAdded b + refundsAdded b ≤ b .room
+  unfolding full
+  rows-fit = omega (arith, rows-after b (sound-book t s) not-last e k, ltb-false (b .room) (length (after b e .rows)) (acc .fits))
+
+  fits-late : length (late (beforeRaising b)) ≤ b .room
+  fits-late = late-fits b (sound-book t s) not-last rows-fit
+
+  the-book-after : after b e ≡ closeAccounts (raiseTolls (beforeRaising b))
+  the-book-after = after-tick b (sound-book t s) not-last fits-late e k
+
+  fits-after : length (closeAccounts (raiseTolls (beforeRaising b)) .rows) ≤ b .room
+  fits-after = rw (← the-book-after) (omega (arith, rows-after b (sound-book t s) not-last e k, rows-fit))
+
+  -- ---- holds have ended, the day has risen
+
+  module _ (j : List ℤ) (d : DuskRows t j) where
+    abbrev pub header₁ : List ℤ
+    header₁ = set (t .header) dayPlace (pos (word (t .header) dayPlace + 1))
+
+    abbrev pub dusk-tables : Tables
+    dusk-tables = tablesAt header₁ (t .accounts) j
+
+    dusk-rows-length : length (beforeRaising b .rows) ≡ rowsUsed t
+    dusk-rows-length = dusk-length b (sound-book t s) ∙ sym (used-read t s)
+
+    pub dusk-written : Written t dusk-tables (beforeRaising b)
+    unfolding beforeRaising settled endHolds nextDay
+    dusk-written = record {
+      header-size = length-set (t .header) dayPlace _;
+      accounts-size = refl;
+      journal-size = d .size;
+      day = word-put (t .header) dayPlace _ (omega (arith, header-length t s)) ∙ rw (day-read t s);
+      used = word-others (t .header) dayPlace _ usedPlace (λ z. omega arith) ∙ sym dusk-rows-length;
+      schedule = schedule-same (t .header) header₁ (λ i l. word-others (t .header) dayPlace _ i (λ z. omega arith)) ∙ schedule-read t s;
+      accounts = unfold bookOf in refl;
+      rows = rw dusk-rows-length (d .rows);
+      room = sym (room-read t s);
+      longer = omega (arith, dusk-rows-length);
+      rest = λ i h. d .rest i (rw dusk-rows-length at h);
+    }
+
+    fits-dusk : length (beforeRaising b .rows) ≤ roomIn t
+    fits-dusk = omega (arith, dusk-rows-length, room-read t s, rows-fit, used-read t s)
+
+    pub dusk-book : bookOf dusk-tables ≡ beforeRaising b
+    dusk-book = written-book t dusk-tables (beforeRaising b) dusk-written fits-dusk
+
+    yesterday : word header₁ dayPlace - 1 ≡ b .day
+    yesterday = let w = word-put (t .header) dayPlace (word (t .header) dayPlace + 1) (omega (arith, header-length t s)) in omega (arith, day-read t s)
+
+    pub dusk-midway : Midway (word header₁ dayPlace - 1) dusk-tables
+    dusk-midway =
+        rw yesterday (written-midway t dusk-tables (beforeRaising b) (b .day) (sound-midway t s .lengths) dusk-written fits-dusk (beforeRaising-near b (sound-book t s .near) not-last))
+
+    pub dusk-room : length (raiseTolls (bookOf dusk-tables) .rows) ≤ length j / rowWidth
+    dusk-room = rw (dusk-book, d .size) (omega (arith, fits-late, room-read t s))
+
+    -- ---- tolls have risen
+
+    module _ (u : Tables) (w : Written dusk-tables u (raiseTolls (bookOf dusk-tables))) where
+      late-written : Written t u (raiseTolls (beforeRaising b))
+      late-written = written-written t dusk-tables u (beforeRaising b) (raiseTolls (beforeRaising b)) dusk-written (rw dusk-book at w)
+
+      late-room : length (raiseTolls (beforeRaising b) .rows) ≤ roomIn t
+      late-room = omega (arith, fits-late, room-read t s)
+
+      late-book : bookOf u ≡ raiseTolls (beforeRaising b)
+      late-book = written-book t u (raiseTolls (beforeRaising b)) late-written late-room
+
+      late-day : word (u .header) dayPlace ≡ beforeRaising b .day
+      late-day = late-written .day ∙ (unfold raiseTolls in refl)
+
+      pub late-midway : Midway (word (u .header) dayPlace) u
+      late-midway =
+          rw late-day (written-midway t u (raiseTolls (beforeRaising b)) (beforeRaising b .day) (sound-midway t s .lengths) late-written late-room (near-late b (sound-book t s) not-last fits-late))
+
+      pub closing-room : length (closeAccounts (bookOf u) .rows) ≤ length (u .journal) / rowWidth
+      closing-room = rw (late-book, late-written .journal-size) (omega (arith, fits-after, room-read t s))
+
+      -- ---- accounts have closed
+
+      module _ (v : Tables) (x : Written u v (closeAccounts (bookOf u))) where
+        end-written : Written t v (after b e)
+        end-written = rw the-book-after (written-written t u v (raiseTolls (beforeRaising b)) (closeAccounts (raiseTolls (beforeRaising b))) late-written (rw late-book at x))
+
+        end-used : word (v .header) usedPlace ≡ length (after b e .rows)
+        end-used = end-written .used
+
+        pub end-header : length (v .header) ≡ headerWidth
+        end-header = end-written .header-size ∙ header-length t s
+
+        -- more rows are used than before
+        pub end-longer : rowsUsed t ≤ word (v .header) usedPlace
+        end-longer = omega (arith, end-used, end-written .longer)
+
+        answer-is : (n : ℕ) → n ≡ count (rises (word header₁ dayPlace)) (bookOf dusk-tables .rows)
+            → acceptanceOf (rowsUsed t) (word (v .header) usedPlace - rowsUsed t) n 0 ≡ acceptance b e
+        unfolding acceptance newRows raisedBy removesTopUp
+        answer-is n c = rw (end-used, used-read t s, k, c, dusk-book, dusk-written .day)
+
+        pub tick-posts : (n : ℕ) → n ≡ count (rises (word header₁ dayPlace)) (bookOf dusk-tables .rows)
+            → Posts t v e (acceptanceOf (rowsUsed t) (word (v .header) usedPlace - rowsUsed t) n 0)
+        tick-posts n c = posts-accepted t v s e _ q (answer-is n c) end-written

@@ -1,0 +1,102 @@
+-- Event 9: which refusals concern it, and the tables that its steps leave.
+use mathlib.Core.Path.{_≡_, refl, sym, ap, _∙_}
+use mathlib.Core.Logic.{_≢_}
+use mathlib.Core.Bool.{Bool, true, false, not, cond, _&&_, _||_}
+use Prim.Native.Nat.{ℕ, zero, suc, _+_, _-_, _*_, _/_, _≤_, _<_, min}
+use native.Mathlib.Omega.{arith}
+use mathlib.Core.List.{List, [], _∷_}
+use lib.ListN.{length, getD, set, length-set}
+use lib.Seq.{getD-set-same, getD-set-other}
+use lib.IntN.{ℤ, pos}
+use lib.Dec.{eqb, leb, ltb}
+use borrow.Author.Tests.{eqb-false, ltb-false, lt-ltb, le-leb, le-ltb}
+use Rattle.records.specs.Layout.{dayPlace, usedPlace, headerSchedule, rowWidth}
+use Rattle.records.specs.Encoding.{natOf, word, rowAt, rowsOf, accountsOf}
+use Rattle.lists.specs.Tests.{_is_, _from_to_, first}
+use Rattle.lists.specs.Lists.{count}
+use Rattle.rules.specs.Limits.{finalDay}
+use Rattle.rules.specs.Book.{Instruction, Book, settled}
+use Rattle.rules.specs.Tick.{nextDay, endHolds, beforeRaising, rises, raiseTolls, raisedBy, closeAccounts}
+use Rattle.rules.specs.Refusals.{after, tickForm, formOf, wellFormed, unknown, taken, onClosed, unclassed, misdated, duplicate, barred, noRow, untimely, lastDay, full, ceiling, refusals, answerNumber}
+use Rattle.rules.specs.Posting.{newRows, removesTopUp, acceptance}
+use Rattle.rules.specs.Tables.{Tables, accountsIn, roomIn, rowsUsed, scheduleFrom, bookOf, wholeRecords, lengthsFit, usedFits, soundTables}
+use Rattle.rules.proofs.SoundnessLaws.{Near, Sound}
+use Rattle.rules.proofs.TableLaws.{sound-book, sound-rows, header-length}
+use Rattle.preservation.proofs.Accepted.{Accepted, accepted}
+use Rattle.preservation.proofs.HoldsEnded.{beforeRaising-near}
+use Rattle.tick_rules.specs.Ticks.{feesAdded, refundsAdded}
+use Rattle.tick_rules.proofs.RisingLaws.{dusk-length}
+use Rattle.tick_rules.proofs.LateLaws.{late}
+use Rattle.tick_rules.proofs.QuietLaws.{near-late, after-tick}
+use Rattle.tick_rules.proofs.CountLaws.{rows-after, late-fits, tick-low}
+use Rattle.posting.specs.Posts.{tablesAt, acceptanceOf, Posts}
+use Rattle.posting.proofs.BookLaws.{day-read, used-read, room-read, schedule-read}
+use Rattle.posting.proofs.RefusalLaws.{ofKind, at-kind}
+use Rattle.posting.proofs.AddedLaws.{posts-accepted}
+use Rattle.posting.proofs.WrittenLaws.{Written}
+use Rattle.tick_base.specs.Midway.{Midway}
+use Rattle.tick_base.proofs.MidwayLaws.{written-written}
+use Rattle.tick_holds.specs.Holds.{DuskRows}
+use Rattle.event_tick.specs.TickEvent.{tickRefusals}
+
+-- ---- the number
+
+-- 14 where nothing before it applies is no number of its own; 13 is told from the book before the tick, which has a day to come
+in-order : (f d r r′ c : Bool) → (d ≡ false → r ≡ r′) → (d ≡ false → r ≡ false → c ≡ false)
+    → first ((2, not f) ∷ (3, false) ∷ (4, false) ∷ (5, false) ∷ (6, false) ∷ (7, false) ∷ (8, false) ∷ (9, false) ∷ (10, false) ∷ (11, false) ∷ (12, d) ∷ (13, r) ∷ (14, c) ∷ [])
+    ≡ first ((2, not f) ∷ (12, d) ∷ (13, r′) ∷ [])
+unfolding first
+in-order false d r r′ c p q = refl
+in-order true true r r′ c p q = refl
+in-order true false true r′ c p q = rw (← p refl)
+in-order true false false r′ c p q = rw (← p refl, q refl refl)
+
+module _ (b : Book) (e : Instruction) (s : Sound b) where
+  abbrev event9 : Instruction
+  event9 = ofKind 9 e
+
+  lacking : b .day is finalDay ≡ false → ltb (b .room) (length (after b event9 .rows)) ≡ ltb (b .room) (length (b .rows) + feesAdded b + refundsAdded b)
+  lacking d = rw (rows-after b s (eqb-false (b .day) finalDay d) event9 refl)
+
+  low : b .day is finalDay ≡ false → ltb (b .room) (length (after b event9 .rows)) ≡ false → ceiling b event9 ≡ false
+  low d r =
+      let ne : b .day ≢ finalDay = eqb-false (b .day) finalDay d in
+      tick-low b s ne event9 refl (omega (arith, rows-after b s ne event9 refl, ltb-false (b .room) (length (after b event9 .rows)) r))
+
+  answer-9 : answerNumber b event9 ≡ first (tickRefusals b event9)
+  unfolding answerNumber refusals wellFormed formOf unknown taken onClosed unclassed misdated duplicate barred noRow untimely lastDay full tickRefusals
+  answer-9 = in-order (tickForm event9) (b .day is finalDay) (ltb (b .room) (length (after b event9 .rows))) (ltb (b .room) (length (b .rows) + feesAdded b + refundsAdded b)) (ceiling b event9) lacking low
+
+pub answer-tick : (b : Book) (e : Instruction) → Sound b → e .kind ≡ 9 → answerNumber b e ≡ first (tickRefusals b e)
+answer-tick b e s k = at-kind (λ x. answerNumber b x ≡ first (tickRefusals b x)) e 9 k (answer-9 b e s)
+
+-- the same with what each test came to
+pub tick-by : (b : Book) (e : Instruction) → Sound b → e .kind ≡ 9 → (f d r : Bool) → tickForm e ≡ f → b .day is finalDay ≡ d
+    → ltb (b .room) (length (b .rows) + feesAdded b + refundsAdded b) ≡ r → first ((2, not f) ∷ (12, d) ∷ (13, r) ∷ []) ≡ answerNumber b e
+unfolding tickRefusals
+tick-by b e s k f d r p q w = rw (answer-tick b e s k, p, q, w)
+
+-- ---- tables that hold a book of rows that fit
+
+pub written-book : (t u : Tables) (b : Book) → Written t u b → length (b .rows) ≤ roomIn t → bookOf u ≡ b
+unfolding bookOf
+written-book t u b w h =
+    let m : min (length (b .rows)) (roomIn t) ≡ length (b .rows) = omega arith in
+    rw (w .used, w .accounts-size, w .journal-size, m, w .day, w .schedule, w .accounts, w .rows, ← w .room)
+
+pub written-midway : (t u : Tables) (b : Book) (past : ℕ) → lengthsFit t ≡ true → Written t u b → length (b .rows) ≤ roomIn t → Near past b → Midway past u
+unfolding lengthsFit wholeRecords usedFits
+written-midway t u b past l w h n = record {
+  lengths = rw (w .header-size, w .accounts-size, w .journal-size) l;
+  used = rw (w .used, w .journal-size) (le-leb (length (b .rows)) (roomIn t) h);
+  near = rw (written-book t u b w h) n;
+}
+
+-- ---- 13, over sound tables: n rows are added
+
+module _ (t : Tables) (s : soundTables t ≡ true) (n : ℕ) (e : n ≡ feesAdded (bookOf t) + refundsAdded (bookOf t)) where
+  pub tick-lacks : roomIn t < rowsUsed t + n → ltb (bookOf t .room) (length (bookOf t .rows) + feesAdded (bookOf t) + refundsAdded (bookOf t)) ≡ true
+  tick-lacks h = lt-ltb (bookOf t .room) _ (omega (arith, room-read t s, used-read t s))
+
+  pub tick-fits : rowsUsed t + n ≤ roomIn t → ltb (bookOf t .room) (length (bookOf t .rows) + feesAdded (bookOf t) + refundsAdded (bookOf t)) ≡ false
+  tick-fits h = le-ltb (bookOf t .room) _ (omega (arith, room-read t s, used-read t s))

@@ -1,0 +1,27 @@
+-- A kind that is none of the nine is malformed.
+use mathlib.Core.Path.{_≡_, refl, sym}
+use mathlib.Core.Logic.{_≢_}
+use mathlib.Core.Bool.{true, false, not, cond}
+use Prim.Native.Nat.{ℕ, zero, suc}
+use Rattle.lists.specs.Tests.{first}
+use Rattle.rules.specs.Book.{Instruction, Book}
+use Rattle.rules.specs.Refusals.{formOf, wellFormed, refusals, answerNumber}
+
+no-form : (k : ℕ) (e : Instruction) → k ≢ 1 → k ≢ 2 → k ≢ 3 → k ≢ 4 → k ≢ 5 → k ≢ 6 → k ≢ 7 → k ≢ 8 → k ≢ 9 → formOf k e ≡ false
+unfolding formOf
+no-form zero e a b c d f g h i j = refl
+no-form (suc zero) e a b c d f g h i j = absurd (a refl)
+no-form (suc (suc zero)) e a b c d f g h i j = absurd (b refl)
+no-form (suc (suc (suc zero))) e a b c d f g h i j = absurd (c refl)
+no-form (suc (suc (suc (suc zero)))) e a b c d f g h i j = absurd (d refl)
+no-form (suc (suc (suc (suc (suc zero))))) e a b c d f g h i j = absurd (f refl)
+no-form (suc (suc (suc (suc (suc (suc zero)))))) e a b c d f g h i j = absurd (g refl)
+no-form (suc (suc (suc (suc (suc (suc (suc zero))))))) e a b c d f g h i j = absurd (h refl)
+no-form (suc (suc (suc (suc (suc (suc (suc (suc zero)))))))) e a b c d f g h i j = absurd (i refl)
+no-form (suc (suc (suc (suc (suc (suc (suc (suc (suc zero))))))))) e a b c d f g h i j = absurd (j refl)
+no-form (suc (suc (suc (suc (suc (suc (suc (suc (suc (suc k)))))))))) e a b c d f g h i j = refl
+
+pub other-kind : (b : Book) (e : Instruction) → e .kind ≢ 1 → e .kind ≢ 2 → e .kind ≢ 3 → e .kind ≢ 4 → e .kind ≢ 5 → e .kind ≢ 6 → e .kind ≢ 7 → e .kind ≢ 8 → e .kind ≢ 9
+    → 2 ≡ answerNumber b e
+unfolding answerNumber refusals wellFormed first
+other-kind b e p q r s t u v w x = rw (no-form (e .kind) e p q r s t u v w x)

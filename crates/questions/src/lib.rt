@@ -1,0 +1,103 @@
+// The questions, which change nothing: an account's balance, whether its top-up is due, and a row's words as a part of the lent journal.
+// Each checks the book first. Uses lists, records, rules, tables, soundness and posting.
+use posting::sums;
+use posting::sums::debits_of;
+use posting::sums::sources_of;
+use soundness::sound;
+use tables::accounts::account_numbered;
+use tables::codes::UNUSED;
+use tables::layout::ACCOUNT_WIDTH;
+use tables::layout::ROW_WIDTH;
+use tables::layout::USED_PLACE;
+use tables::words::get;
+use tables::words::minus;
+use tables::words::natural;
+ghost use mathlib.Core.Path.{_≡_};
+ghost use mathlib.Core.Bool.{_&&_};
+ghost use Rattle.lists.specs.Tests.{_from_to_, first};
+ghost use Rattle.rules.specs.Tables.{rowsUsed, soundTables};
+ghost use Rattle.rules.specs.Calls.{questionRefusals, balanceCall, topUpDueCall, rowCall};
+ghost use Rattle.posting.specs.Posts.{tablesAt};
+ghost use Rattle.questions.specs.Replies.{Replies};
+
+// What a question about an account is answered: the number, and the value, 0 where the number isn't.
+pub struct Reply {
+    pub number: u64,
+    pub value: i64,
+}
+
+// Why a question about account n is refused, 0 where it is not.
+fn question_refusal(header: &[i64], accounts: &[i64], journal: &[i64], n: u64) -> u64
+    ensures { λ r. ⌜ r ≡ first (questionRefusals (tablesAt (now (header .entry)) (now (accounts .entry)) (now (journal .entry))) n) ⌝ }
+{
+    if !sound(header, accounts, journal) {
+        return 1;
+    }
+    let x = account_numbered(accounts, accounts.len() / ACCOUNT_WIDTH, n);
+    if x.state == UNUSED {
+        return 3;
+    }
+    0
+}
+
+// The account's balance: its sources less its debits, held ones included.
+pub fn balance(header: &[i64], accounts: &[i64], journal: &[i64], account: i64) -> Reply
+    ensures { λ r. ⌜ Replies (balanceCall (tablesAt (now (header .entry)) (now (accounts .entry)) (now (journal .entry))) account) r ⌝ }
+{
+    let n = natural(account);
+    let number = question_refusal(header, accounts, journal, n);
+    if number != 0 {
+        return Reply { number, value: 0 };
+    }
+    let used = get(header, USED_PLACE) as usize;
+    let sources = sources_of(journal, used, n);
+    let debits = debits_of(journal, used, n);
+    Reply {
+        number: 0,
+        value: minus(sources, debits),
+    }
+}
+
+// Whether the account's top-up is due: 1 yes, 0 no.
+pub fn top_up_due(header: &[i64], accounts: &[i64], journal: &[i64], account: i64) -> Reply
+    ensures { λ r. ⌜ Replies (topUpDueCall (tablesAt (now (header .entry)) (now (accounts .entry)) (now (journal .entry))) account) r ⌝ }
+{
+    let n = natural(account);
+    let number = question_refusal(header, accounts, journal, n);
+    if number != 0 {
+        return Reply { number, value: 0 };
+    }
+    if sums::top_up_due(header, accounts, journal, n) {
+        return Reply {
+            number: 0,
+            value: 1,
+        };
+    }
+    Reply {
+        number: 0,
+        value: 0,
+    }
+}
+
+// Whether the book is sound and row n, counted from 1, is used.
+fn row_used(header: &[i64], accounts: &[i64], journal: &[i64], n: u64) -> bool
+    ensures { λ b. ⌜ b ≡ soundTables (tablesAt (now (header .entry)) (now (accounts .entry)) (now (journal .entry))) && n from 1 to rowsUsed (tablesAt (now (header .entry)) (now (accounts .entry)) (now (journal .entry))) ⌝ }
+{
+    if !sound(header, accounts, journal) {
+        return false;
+    }
+    (1 <= n) & (n <= get(header, USED_PLACE))
+}
+
+// The ten words of a used row: the very part of the lent journal; an empty part where the book is unsound or the row isn't used.
+pub fn row<'a>(header: &[i64], accounts: &[i64], journal: &'a [i64], number: i64) -> &'a [i64]
+    ensures { λ r. ⌜ now r ≡ rowCall (tablesAt (now (header .entry)) (now (accounts .entry)) (now (journal .entry))) number ⌝ }
+{
+    let n = natural(number);
+    if !row_used(header, accounts, journal, n) {
+        return &journal[0..0];
+    }
+    let start = (n - 1) as usize * ROW_WIDTH;
+    let end = start + ROW_WIDTH;
+    &journal[start..end]
+}

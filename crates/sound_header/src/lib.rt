@@ -1,0 +1,3 @@
+// The clauses of soundness on lengths and header, and the tests that the others share. Uses lists, records, rules and tables.
+pub mod tests; // tests.rt: between, implies
+pub mod header; // header.rt: lengths, day, schedule

@@ -1,0 +1,127 @@
+// The clauses of soundness on each row of the journal: its own, its account, its reference; and the rows past the used ones. Uses lists,
+// records, rules, tables, row_tests, sound_header and sound_rows.
+use records::Row;
+use sound_header::tests::implies;
+use sound_rows::row::row_alone;
+use tables::accounts::account_numbered;
+use tables::codes::CREDIT;
+use tables::codes::FEE;
+use tables::codes::PAYMENT;
+use tables::codes::REVERSAL;
+use tables::codes::TOLL;
+use tables::codes::UNUSED;
+use tables::rows::read_row;
+use tables::rows::row_numbered;
+ghost use mathlib.Core.Path.{_≡_};
+ghost use mathlib.Core.Bool.{_&&_};
+ghost use Prim.Native.Nat.{_+_, _*_, _≤_, _<_};
+ghost use lib.ListN.{length};
+ghost use lib.Dec.{ltb, eqb};
+ghost use Rattle.records.specs.Layout.{rowWidth, accountWidth};
+ghost use Rattle.records.specs.Encoding.{rowAt, rowsOf, accountsOf};
+ghost use Rattle.rules.specs.Limits.{finalDay, longestStage};
+ghost use Rattle.rules.specs.Soundness.{accountUsed, names, referenceFits};
+ghost use Rattle.sound_header.specs.Clauses.{Bounds, rowStands, rowsStand, emptyRow, restZero};
+
+fn account_used(accounts: &[i64], count: usize, r: Row) -> bool
+    requires { ⌜ count * accountWidth ≤ length (now accounts) ⌝ }
+    ensures { λ b. ⌜ b ≡ accountUsed (accountsOf (now (accounts .entry)) count) r ⌝ }
+{
+    let x = account_numbered(accounts, count, r.account);
+    x.state != UNUSED
+}
+
+// Row number n refers to an earlier row of the kind and of the same account; `named` is the row of that number.
+fn names_row(n: u64, r: Row, named: Row, kind: u64) -> bool
+    ensures { λ b. ⌜ b ≡ (ltb (r .reference) n && eqb (named .kind) kind && eqb (named .account) (r .account)) ⌝ }
+{
+    (r.reference < n) & (named.kind == kind) & (named.account == r.account)
+}
+
+fn reference_fits(journal: &[i64], used: usize, n: u64, r: Row) -> bool
+    requires { ⌜ used * rowWidth ≤ length (now journal) ⌝ }
+    ensures { λ b. ⌜ b ≡ referenceFits (rowsOf (now (journal .entry)) used) n r ⌝ }
+{
+    if r.kind == TOLL {
+        return true;
+    }
+    if r.kind == PAYMENT {
+        return true;
+    }
+    let named = row_numbered(journal, used, r.reference);
+    let toll = names_row(n, r, named, TOLL);
+    let payment = names_row(n, r, named, PAYMENT);
+    implies(r.kind == FEE, toll | payment)
+        & implies(r.kind == REVERSAL, payment)
+        & implies(r.kind == CREDIT, toll)
+}
+
+// Row i and its neighbours: all but the two clauses that count rows.
+fn row_stands(
+    accounts: &[i64],
+    count: usize,
+    journal: &[i64],
+    used: usize,
+    today: u64,
+    stage: u64,
+    i: usize,
+) -> bool
+    requires { ⌜ Bounds (now accounts) (now journal) count used today stage × (i < used) ⌝ }
+    ensures { λ b. ⌜ b ≡ rowStands (accountsOf (now (accounts .entry)) count) (rowsOf (now (journal .entry)) used) today stage (i + 1) (rowAt (now (journal .entry)) i) ⌝ }
+{
+    let r = read_row(journal, i);
+    if !row_alone(today, stage, r) {
+        return false;
+    }
+    if !account_used(accounts, count, r) {
+        return false;
+    }
+    reference_fits(journal, used, (i + 1) as u64, r)
+}
+
+pub fn rows_stand(
+    accounts: &[i64],
+    count: usize,
+    journal: &[i64],
+    used: usize,
+    today: u64,
+    stage: u64,
+) -> bool
+    requires { ⌜ Bounds (now accounts) (now journal) count used today stage ⌝ }
+    ensures { λ b. ⌜ b ≡ rowsStand (accountsOf (now (accounts .entry)) count) (rowsOf (now (journal .entry)) used) today stage ⌝ }
+{
+    let mut i = 0;
+    while i < used {
+        if !row_stands(accounts, count, journal, used, today, stage, i) {
+            return false;
+        }
+        i += 1;
+    }
+    true
+}
+
+fn row_empty(r: Row) -> bool
+    ensures { λ b. ⌜ b ≡ emptyRow r ⌝ }
+{
+    let first = (r.kind == 0)
+        & (r.account == 0)
+        & (r.day == 0)
+        & (r.amount == 0)
+        & (r.settled == 0);
+    first & (r.mark == 0) & (r.due == 0) & (r.dispute == 0) & (r.hold == 0) & (r.reference == 0)
+}
+
+// The rows past the used ones: ten words at a time.
+pub fn later_rows_zero(journal: &[i64], used: usize, room: usize) -> bool
+    requires { ⌜ (length (now journal) ≡ room * rowWidth) × (used ≤ room) ⌝ }
+    ensures { λ b. ⌜ b ≡ restZero (now (journal .entry)) used ⌝ }
+{
+    let mut i = used;
+    while i < room {
+        if !row_empty(read_row(journal, i)) {
+            return false;
+        }
+        i += 1;
+    }
+    true
+}
