@@ -1,14 +1,13 @@
 -- The answer of any event on a sound book is small, so that a signed word can hold each of its words.
-use mathlib.Core.Path.{_≡_, refl, sym, ap, _∙_}
-use mathlib.Core.Bool.{Bool, true, false, cond, _&&_}
+use mathlib.Core.Path.{_≡_, refl, _∙_}
+use mathlib.Core.Bool.{Bool, true, false}
 use Prim.Native.Nat.{ℕ, _+_, _-_, _≤_}
 use native.Mathlib.Omega.{arith}
-use mathlib.Core.List.{List, [], _∷_, map}
+use mathlib.Core.List.{[], _∷_, map}
 use lib.ListN.{length, length-map}
 use lib.Dec.{eqb, leb}
 use borrow.Author.Tests.{leb-true, ltb-false, eqb-true}
 use Rattle.lists.specs.Tests.{allOf, Cases, first, _is_}
-use Rattle.lists.specs.Lists.{count}
 use Rattle.lists.proofs.TestLaws.{and-left, and-right, cond-either}
 use Rattle.lists.proofs.SumLaws.{count-le}
 use Rattle.rules.specs.Limits.{mostRows}
