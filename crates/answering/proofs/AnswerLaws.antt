@@ -50,7 +50,7 @@ refusal-small n h = record { number = h; first = omega arith; added = omega arit
 
 -- ---- the number
 
-first-le : (n : ℕ) (cs : Cases) → allOf (map (λ c. leb (c .0) n) cs) ≡ true → first cs ≤ n
+pub first-le : (n : ℕ) (cs : Cases) → allOf (map (λ c. leb (c .0) n) cs) ≡ true → first cs ≤ n
 unfolding first allOf
 first-le n [] e = omega arith
 first-le n (c ∷ cs) e =
@@ -58,7 +58,7 @@ first-le n (c ∷ cs) e =
     (leb-true (c .0) n (and-left (leb (c .0) n) (allOf (map (λ c. leb (c .0) n) cs)) e))
     (first-le n cs (and-right (leb (c .0) n) (allOf (map (λ c. leb (c .0) n) cs)) e))
 
-number-le : (b : Book) (e : Instruction) → answerNumber b e ≤ lastNumber
+pub number-le : (b : Book) (e : Instruction) → answerNumber b e ≤ lastNumber
 unfolding answerNumber refusals allOf
 number-le b e = first-le lastNumber (refusals b e) refl
 

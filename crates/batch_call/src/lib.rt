@@ -16,11 +16,11 @@ ghost use Rattle.rules.specs.Tables.{soundTables};
 ghost use Rattle.rules.specs.Calls.{Event, batchRefusals};
 ghost use Rattle.posting.specs.Posts.{tablesAt};
 ghost use Rattle.answering.specs.Answers.{AnswerIn};
-ghost use Rattle.batch_call.specs.BatchCalls.{RecordPosted, Batches};
+ghost use Rattle.batch_call.specs.BatchCalls.{RecordPosted};
 
 // Why a batch of so many events is refused, 0 where it is not: 1 the book is not sound, 2 too many events, or fewer than five answer words
 // for each.
-fn batch_refusal(
+pub fn batch_refusal(
     header: &[i64],
     accounts: &[i64],
     journal: &[i64],
@@ -42,7 +42,7 @@ fn batch_refusal(
 }
 
 // One record of the batch: its event posted, and answer i written.
-fn post_record(
+pub fn post_record(
     header: &mut [i64],
     accounts: &mut [i64],
     journal: &mut [i64],
@@ -56,26 +56,4 @@ fn post_record(
     let e = event_of(x);
     let r = post_event(header, accounts, journal, e);
     write_answer(answers, i, r);
-}
-
-// Posts the events in order, going on after a refusal, and gives 0; a batch that is refused writes nothing.
-pub fn batch_call(
-    header: &mut [i64],
-    accounts: &mut [i64],
-    journal: &mut [i64],
-    events: &[Event],
-    answers: &mut [i64],
-) -> u64
-    ensures { λ n. ⌜ Batches (tablesAt (now (header .entry)) (now (accounts .entry)) (now (journal .entry))) (tablesAt (now (header .exit)) (now (accounts .exit)) (now (journal .exit))) (now (events .entry)) (now (answers .entry)) (now (answers .exit)) n ⌝ }
-{
-    let n = batch_refusal(header, accounts, journal, events.len(), answers);
-    if n != 0 {
-        return n;
-    }
-    let mut i: usize = 0;
-    while i < events.len() {
-        post_record(header, accounts, journal, answers, i, events[i]);
-        i += 1;
-    }
-    0
 }

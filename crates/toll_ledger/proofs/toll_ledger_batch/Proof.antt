@@ -1,4 +1,4 @@
--- `batch_call` meets its contract. The borrow checker covers no function with a slice of structs, so its rules are applied here by hand, each
+-- `toll_ledger_batch` meets its contract. The borrow checker covers no function with a slice of structs, so its rules are applied here by hand, each
 -- statement and each ghost step by one rule, in the order of the code. Only the contexts at the loop's head and at the ways out are written;
 -- every other context, and what the walk asks, is computed from the rules. The code's numbers are left to be read from it (`_`), so that
 -- another number fails where it makes a fact false.
@@ -60,23 +60,23 @@ use borrow.Table.Typed.{inLoop₀, inBlock₀, withNext, Mo, Tf, TF, Outs, Typed
 use Rattle.records.proofs.Event as T
 use Rattle.records.proofs.Event.Laws as T′
 use Rattle.posting.specs.Posts.{tablesAt}
 use Rattle.batch_call.specs.BatchCalls.{Batches}
 use Rattle.batch_call.proofs.BatchCallLaws.{noEvent, taken, batch-refused, After, after-none, after-sound, after-room, after-more, after-all}
 use Rattle.batch_call.proofs.batch_refusal.Kinds as refusal-kinds
 use Rattle.batch_call.proofs.batch_refusal.Reads as refusal-reads
 use Rattle.batch_call.proofs.batch_refusal.Symbol as refusal-def
 use Rattle.batch_call.proofs.batch_refusal.Symbol.{name as #batch·refusal}
 use Rattle.batch_call.proofs.batch_refusal.Met as refusal-thm
 use Rattle.batch_call.proofs.post_record.Kinds as record-kinds
 use Rattle.batch_call.proofs.post_record.Reads as record-reads
 use Rattle.batch_call.proofs.post_record.Symbol as record-def
 use Rattle.batch_call.proofs.post_record.Symbol.{name as #post·record}
 use Rattle.batch_call.proofs.post_record.Met as record-thm
-use Rattle.batch_call.proofs.batch_call as f
-use Rattle.batch_call.proofs.batch_call.Statement as stated
-use Rattle.batch_call.proofs.batch_call.Code as code
-use Rattle.batch_call.proofs.batch_call.Code.Mir as body
-use Rattle.batch_call.proofs.batch_call.Key.{name as #batch·call}
+use Rattle.toll_ledger.proofs.toll_ledger_batch as f
+use Rattle.toll_ledger.proofs.toll_ledger_batch.Statement as stated
+use Rattle.toll_ledger.proofs.toll_ledger_batch.Code as code
+use Rattle.toll_ledger.proofs.toll_ledger_batch.Code.Mir as body
+use Rattle.toll_ledger.proofs.toll_ledger_batch.Key.{name as #batch·call}
 
 -- ---- the types: a word, an event, and the references' types in MIR
 abbrev I : RattleType
@@ -472,9 +472,9 @@ module _ {M : Type 1} (𝓤 : URA M) (H : Heap 𝓤) (A : Atoms 𝓤) (W : Given
   walks = t-fn-plain 𝓤 H A W 𝓣 5 ps r xs 4 (replicate 31 valueLocal) body.t-1 (λ κs qs bs. walk κs qs bs .0) (λ κs qs bs bd. walk κs qs bs .1) Pre Post asked
 
 -- a contract without `requires` asks nothing, so what the walk assumes is had
-pub batch-call-spec : {M : Type 1} → stated.statement M
+pub toll-ledger-batch-spec : {M : Type 1} → stated.statement M
 unfolding code.routine tablesOf
-batch-call-spec {M} 𝓤 H 𝓜 𝓖 𝓡 =
+toll-ledger-batch-spec {M} 𝓤 H 𝓜 𝓖 𝓡 =
     walk-meets 𝓤 H (𝓖 .A) f.ended (stays ps) (givenOf 𝓤 H 𝓜 𝓖) (goP 𝓤 H (𝓖 .A) (givenOf 𝓤 H 𝓜 𝓖) ps) (f.clauses 𝓤 H (𝓖 .A) (𝓜 .mem) (𝓡 .run)) (𝓡 .run (code.env #batch·call)) (routine-mono 𝓤 H 𝓜 𝓡 (code.env #batch·call))
     (λ y. via 𝓤 (plainOf 𝓤 H (𝓖 .A) 5 ps r Pre Post .pre y) (monoR 𝓤 (onEntry 𝓤 H (𝓖 .A) f.signature (y .0 .0) (y .0 .1) (y .0 .3) (y .0 .4)) (factI 𝓤 (Unit {0}) (emp 𝓤) tt))
     (any-entry 𝓤 H 𝓜 𝓖 𝓡 code.env (plainOf 𝓤 H (𝓖 .A) 5 ps r Pre Post) #batch·call code.function (code.unfolded 𝓤 H 𝓜 𝓡)
