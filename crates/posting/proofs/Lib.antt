@@ -1,3 +1,1 @@
-pub mod AmountLaws
 pub mod BookLaws
-pub mod TopUpLaws
