@@ -1,0 +1,6 @@
+-- The laws that the proofs of this crate cite.
+pub mod DateTextLaws
+pub mod ReadingLaws
+pub mod RoundTrip
+pub mod SignLaws
+pub mod WritingLaws
