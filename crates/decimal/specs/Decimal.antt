@@ -92,3 +92,33 @@ minus bs = cond (leb (magnitude bs) (2 ^ 63)) (number (negated (magnitude bs))) 
 unfoldable pub numberOf : List ℕ → Number
 numberOf [] = none
 numberOf (b ∷ bs) = cond (eqb b 45) (minus bs) (plain (b ∷ bs))
+
+-- ---- a line: "its exact count of signed 64-bit numbers", with commas between them as in the example
+
+-- a byte before the first of the fields
+unfoldable pub inFirst : ℕ → List (List ℕ) → List (List ℕ)
+inFirst b [] = (b ∷ []) ∷ []
+inFirst b (f ∷ fs) = (b ∷ f) ∷ fs
+
+-- the fields of a line: a comma, 44, ends one and begins the next
+unfoldable pub fieldsOf : List ℕ → List (List ℕ)
+fieldsOf [] = [] ∷ []
+fieldsOf (b ∷ bs) = cond (eqb b 44) ([] ∷ fieldsOf bs) (inFirst b (fieldsOf bs))
+
+-- each field states a number
+unfoldable pub allNumbers : List (List ℕ) → Bool
+allNumbers [] = true
+allNumbers (f ∷ fs) = numberOf f .ok && allNumbers fs
+
+-- the line is exactly so many numbers
+unfoldable pub isNumbers : ℕ → List ℕ → Bool
+isNumbers n bs = eqb (length (fieldsOf bs)) n && allNumbers (fieldsOf bs)
+
+-- the number that each field states
+unfoldable pub numbersIn : List (List ℕ) → List ℤ
+numbersIn [] = []
+numbersIn (f ∷ fs) = numberOf f .value ∷ numbersIn fs
+
+-- the numbers of a line
+unfoldable pub numbersOf : List ℕ → List ℤ
+numbersOf bs = numbersIn (fieldsOf bs)

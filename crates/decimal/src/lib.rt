@@ -3,9 +3,10 @@
 ghost use mathlib.Core.Path.{_≡_};
 ghost use mathlib.Core.List.{[], _∷_, _++_};
 ghost use Prim.Native.Nat.{_+_, _≤_, _<_, _^_};
-ghost use lib.ListN.{length};
+ghost use lib.ListN.{length, take, drop};
+ghost use mathlib.Core.Bool.{true};
 ghost use lib.Seq.{slice};
-ghost use Rattle.decimal.specs.Decimal.{digitsOf, textOf, twoDigits, dateText, written, sizeOf, negated, digitValue, magnitude, plain, minus, numberOf};
+ghost use Rattle.decimal.specs.Decimal.{digitsOf, textOf, twoDigits, dateText, written, sizeOf, negated, digitValue, magnitude, plain, minus, numberOf, isNumbers, numbersOf};
 
 // What a field states: a number, or (ok is false, value 0) none.
 pub struct Number {
@@ -191,4 +192,31 @@ pub fn read_number(line: &[u8], from: usize, to: usize) -> Number
         return read_minus(line, from + 1, to);
     }
     read_plain(line, from, to)
+}
+
+// Whether the first `end` bytes of a line are exactly `count` numbers with commas between them. Where they are, these are the first `count`
+// values afterwards; the later values stay in any case.
+pub fn read_fields(line: &[u8], end: usize, values: &mut [i64], count: usize) -> bool
+    requires { ⌜ (end ≤ length (now line)) × (count ≤ length (now values)) ⌝ }
+    ensures { λ r. ⌜ r ≡ isNumbers count (take end (now (line .entry))) ⌝ }
+    ensures { λ r. ⌜ (r ≡ true → take count (now (values .exit)) ≡ numbersOf (take end (now (line .entry)))) ⌝ }
+    ensures { λ _. ⌜ drop count (now (values .exit)) ≡ drop count (now (values .entry)) ⌝ }
+{
+    let mut from = 0;
+    let mut i = 0;
+    while i < count {
+        let stop = bytes::scan::find(line, from, end, 44);
+        let n = read_number(line, from, stop);
+        if !n.ok {
+            return false;
+        }
+        let value = n.value;
+        values[i] = value;
+        i += 1;
+        if stop == end {
+            return i == count;
+        }
+        from = stop + 1;
+    }
+    false
 }
