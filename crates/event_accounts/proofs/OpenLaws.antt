@@ -22,8 +22,8 @@ use Rattle.preservation.proofs.Accepted.{accepted}
 use Rattle.tables.specs.Changes.{AccountChanged}
 use Rattle.posting.specs.Posts.{tablesAt, acceptanceOf, Posts}
 use Rattle.posting.proofs.BookLaws.{count-read}
-use Rattle.posting.proofs.RefusalLaws.{ofKind, at-kind}
-use Rattle.posting.proofs.AccountEventLaws.{rows-fit, never-full, never-above, account-posts}
+use Rattle.posting_laws.proofs.RefusalLaws.{ofKind, at-kind}
+use Rattle.posting_laws.proofs.AccountEventLaws.{rows-fit, never-full, never-above, account-posts}
 use Rattle.event_accounts.specs.AccountEvents.{openRefusals}
 
 module _ (b : Book) (e : Instruction) (fit : length (b .rows) ≤ b .room) where

@@ -19,8 +19,8 @@ use Rattle.rules.proofs.TableLaws.{sound-book}
 use Rattle.tables.specs.Changes.{AccountChanged}
 use Rattle.posting.specs.Posts.{tablesAt, acceptanceOf, Posts}
 use Rattle.posting.proofs.BookLaws.{account-holds}
-use Rattle.posting.proofs.RefusalLaws.{ofKind, at-kind, unknown-unused}
-use Rattle.posting.proofs.AccountEventLaws.{rows-fit, never-full, never-above, account-posts}
+use Rattle.posting_laws.proofs.RefusalLaws.{ofKind, at-kind, unknown-unused}
+use Rattle.posting_laws.proofs.AccountEventLaws.{rows-fit, never-full, never-above, account-posts}
 use Rattle.event_accounts.specs.AccountEvents.{requestRefusals}
 
 module _ (b : Book) (e : Instruction) (fit : length (b .rows) ≤ b .room) where

@@ -29,11 +29,11 @@ use Rattle.tables.specs.Changes.{RowChanged}
 use Rattle.settlement.specs.Settling.{Journal, Settled}
 use Rattle.posting.specs.Posts.{tablesAt, Amounts, acceptanceOf, Posts}
 use Rattle.posting.proofs.BookLaws.{row-read, day-read, used-read, room-read, used-small, row-holds, journal-summable}
-use Rattle.posting.proofs.RefusalLaws.{at-kind}
-use Rattle.posting.proofs.AddedLaws.{acceptance-plain, posts-accepted}
-use Rattle.posting.proofs.EventLaws.{known-inside}
-use Rattle.posting.proofs.UsedRowsLaws.{UsedRows, used-rows-before, used-rows-put, used-rows-map, used-rows-add, used-rows-settle, used-rows-written, used-rows-settles, small-before, small-put, small-map, small-add}
-use Rattle.posting.proofs.PutRowLaws.{row-used, put-settles, put-posts}
+use Rattle.posting_laws.proofs.RefusalLaws.{at-kind}
+use Rattle.posting_laws.proofs.AddedLaws.{acceptance-plain, posts-accepted}
+use Rattle.posting_laws.proofs.EventLaws.{known-inside}
+use Rattle.posting_laws.proofs.UsedRowsLaws.{UsedRows, used-rows-before, used-rows-put, used-rows-map, used-rows-add, used-rows-settle, used-rows-written, used-rows-settles, small-before, small-put, small-map, small-add}
+use Rattle.posting_laws.proofs.PutRowLaws.{row-used, put-settles, put-posts}
 use Rattle.event_decision.specs.Decision.{feeSettled, upheldToll, creditFor, rowNamed, Upholdable, UpheldRows, Releasable, ReleasedRow}
 use Rattle.event_decision.proofs.FeeLaws.{sum-small}
 use Rattle.event_decision.proofs.AnswerLaws.{forgivenRows, creditRow, freeRow, rejected-change, upheld-change, length-forgiven, upheld-length}

@@ -24,8 +24,8 @@ use Rattle.tables.specs.Changes.{RowChanged}
 use Rattle.settlement.specs.Settling.{Journal, Settled}
 use Rattle.posting.specs.Posts.{tablesAt, acceptanceOf, Posts}
 use Rattle.posting.proofs.BookLaws.{day-read, row-holds}
-use Rattle.posting.proofs.RefusalLaws.{ofKind, at-kind, unknown-unused, rows-suffice}
-use Rattle.posting.proofs.PutRowLaws.{row-used, row-read-by, length-put, no-ceiling-put, put-settles, put-posts}
+use Rattle.posting_laws.proofs.RefusalLaws.{ofKind, at-kind, unknown-unused, rows-suffice}
+use Rattle.posting_laws.proofs.PutRowLaws.{row-used, row-read-by, length-put, no-ceiling-put, put-settles, put-posts}
 use Rattle.event_dispute.specs.Dispute.{disputeRefusals}
 
 -- the row that event 5 leaves

@@ -37,10 +37,10 @@ use Rattle.tables.proofs.ChangeLaws.{changed-accounts}
 use Rattle.settlement.specs.Settling.{Journal, Settled}
 use Rattle.posting.specs.Posts.{tablesAt, acceptanceOf, RowRoom, RowAdded, Posts}
 use Rattle.posting.proofs.BookLaws.{account-read, row-read, day-read, used-read, room-read, count-read, used-small, used-room, row-holds, account-holds}
-use Rattle.posting.proofs.EventLaws.{known-inside}
-use Rattle.posting.proofs.RefusalLaws.{ofKind, at-kind, unknown-unused, length-after, no-ceiling}
-use Rattle.posting.proofs.AddedLaws.{acceptance-plain, posts-accepted}
-use Rattle.posting.proofs.UsedRowsLaws.{UsedRows, used-rows-before, used-rows-put, used-rows-add, used-rows-settle, used-rows-written, used-rows-room, used-rows-day, used-rows-settles, SmallAmounts, small-before, small-put, small-add}
+use Rattle.posting_laws.proofs.EventLaws.{known-inside}
+use Rattle.posting_laws.proofs.RefusalLaws.{ofKind, at-kind, unknown-unused, length-after, no-ceiling}
+use Rattle.posting_laws.proofs.AddedLaws.{acceptance-plain, posts-accepted}
+use Rattle.posting_laws.proofs.UsedRowsLaws.{UsedRows, used-rows-before, used-rows-put, used-rows-add, used-rows-settle, used-rows-written, used-rows-room, used-rows-day, used-rows-settles, SmallAmounts, small-before, small-put, small-add}
 use Rattle.event_return.specs.Return.{returnRefusals, Counts, Counted, Marks, Marked}
 
 -- ---- what event 4 writes: the payment marked, its reversal and the fee, and the account

@@ -31,9 +31,9 @@ use Rattle.tick_rules.proofs.QuietLaws.{near-late, after-tick}
 use Rattle.tick_rules.proofs.CountLaws.{rows-after, late-fits, tick-low}
 use Rattle.posting.specs.Posts.{tablesAt, acceptanceOf, Posts}
 use Rattle.posting.proofs.BookLaws.{day-read, used-read, room-read, schedule-read}
-use Rattle.posting.proofs.RefusalLaws.{ofKind, at-kind}
-use Rattle.posting.proofs.AddedLaws.{posts-accepted}
-use Rattle.posting.proofs.WrittenLaws.{Written}
+use Rattle.posting_laws.proofs.RefusalLaws.{ofKind, at-kind}
+use Rattle.posting_laws.proofs.AddedLaws.{posts-accepted}
+use Rattle.posting_laws.proofs.WrittenLaws.{Written}
 use Rattle.tick_base.specs.Midway.{Midway}
 use Rattle.tick_base.proofs.MidwayLaws.{written-written}
 use Rattle.tick_holds.specs.Holds.{DuskRows}

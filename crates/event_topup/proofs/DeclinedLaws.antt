@@ -25,8 +25,8 @@ use Rattle.preservation.proofs.Accepted.{accepted}
 use Rattle.tables.specs.Changes.{AccountChanged}
 use Rattle.posting.specs.Posts.{tablesAt, acceptanceOf, Posts}
 use Rattle.posting.proofs.BookLaws.{account-holds}
-use Rattle.posting.proofs.RefusalLaws.{at-kind}
-use Rattle.posting.proofs.AccountEventLaws.{account-posts}
+use Rattle.posting_laws.proofs.RefusalLaws.{at-kind}
+use Rattle.posting_laws.proofs.AccountEventLaws.{account-posts}
 
 module _ (t : Tables) (s : soundTables t ≡ true) (e : Instruction) where
   abbrev b : Book

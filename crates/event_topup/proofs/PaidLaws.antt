@@ -25,9 +25,9 @@ use Rattle.tables.proofs.ChangeLaws.{changed-accounts}
 use Rattle.settlement.specs.Settling.{Settled}
 use Rattle.posting.specs.Posts.{tablesAt, acceptanceOf, RowAdded, Posts}
 use Rattle.posting.proofs.BookLaws.{used-read, room-read, count-read, account-holds}
-use Rattle.posting.proofs.RefusalLaws.{length-after}
-use Rattle.posting.proofs.AddedLaws.{acceptance-plain, posts-accepted, row-written}
-use Rattle.posting.proofs.AccountEventLaws.{named-inside, named-in}
+use Rattle.posting_laws.proofs.RefusalLaws.{length-after}
+use Rattle.posting_laws.proofs.AddedLaws.{acceptance-plain, posts-accepted, row-written}
+use Rattle.posting_laws.proofs.AccountEventLaws.{named-inside, named-in}
 use Rattle.event_topup.specs.TopUpResult.{PaidResult}
 use Rattle.event_topup.proofs.ResultLaws.{topUpRow}
 

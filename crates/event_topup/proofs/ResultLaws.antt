@@ -15,8 +15,8 @@ use Rattle.rules.specs.Book.{Instruction, Unused, Closed, Book, account, topUpD
 use Rattle.rules.specs.Events.{payTopUp, declineTopUp, topUpResult}
 use Rattle.rules.specs.Refusals.{changeOf, resultForm, formOf, wellFormed, unknown, taken, onClosed, unclassed, misdated, duplicate, barred, noRow, untimely, lastDay, full, ceiling, refusals, answerNumber}
 use Rattle.rules.specs.Tables.{Tables, roomIn, rowsUsed, bookOf, soundTables}
-use Rattle.posting.proofs.RefusalLaws.{ofKind, at-kind, unknown-unused, length-after, no-ceiling, rows-lack, rows-suffice}
-use Rattle.posting.proofs.AccountEventLaws.{rows-fit, never-full, never-above}
+use Rattle.posting_laws.proofs.RefusalLaws.{ofKind, at-kind, unknown-unused, length-after, no-ceiling, rows-lack, rows-suffice}
+use Rattle.posting_laws.proofs.AccountEventLaws.{rows-fit, never-full, never-above}
 use Rattle.event_topup.specs.TopUpResult.{resultRefusals}
 
 -- the row that a paid top-up adds

@@ -1,10 +1,10 @@
 // Event 7: the result of a top-up. Uses lists, records, rules, preservation, tables, settlement and posting.
+use balances::top_up_due;
 use forms::result_form;
 use posting::answers::posted;
 use posting::answers::refused;
 use posting::rows::add_row;
 use posting::rows::new_row;
-use posting::sums::top_up_due;
 use records::Account;
 use records::Answer;
 use records::Instruction;

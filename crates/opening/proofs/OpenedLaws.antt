@@ -22,7 +22,7 @@ use Rattle.rules.specs.Opening.{opening, dayFits}
 use Rattle.rules.specs.Tables.{Tables, accountsIn, roomIn, scheduleFrom, scheduleWords, headerWords, tablesOf, lengthsFit}
 use Rattle.rules.specs.Calls.{openRefusals, openedBook, openCall}
 use Rattle.rules.proofs.StorableLaws.{between-le, StorableSchedule, schedule-storable}
-use Rattle.sound_header.specs.Clauses.{tablesOn}
+use Rattle.sound_header.specs.Clauses.{tablesAt}
 use Rattle.sound_header.proofs.LengthLaws.{lengths-known}
 use Rattle.opening.specs.Opens.{openingFits, Opens}
 
@@ -132,7 +132,7 @@ accounts-cleared (suc n) =
 
 module _ (h a j w : List ℤ) where
   abbrev t : Tables
-  t = tablesOn h a j
+  t = tablesAt h a j
 
   pub lengths-refused : lengthsFit t ≡ false → Opens t t w 1
   unfolding openCall openRefusals first
@@ -143,11 +143,11 @@ module _ (h a j w : List ℤ) where
   words-refused l f = record { number = rw (l, f); tables = rw (l, f) }
 
   pub opened : lengthsFit t ≡ true → openingFits w ≡ true
-      → Opens t (tablesOn (pos (word w firstDayPlace) ∷ pos 0 ∷ scheduleWords (scheduleFrom w openingSchedule)) (replicate (length a) (pos 0)) (replicate (length j) (pos 0))) w 0
+      → Opens t (tablesAt (pos (word w firstDayPlace) ∷ pos 0 ∷ scheduleWords (scheduleFrom w openingSchedule)) (replicate (length a) (pos 0)) (replicate (length j) (pos 0))) w 0
   unfolding openCall openRefusals first openingFits
   opened l f = record { number = rw (l, f); tables = rw (l, f) opened-tables }
     where
-      opened-tables : tablesOn (pos (word w firstDayPlace) ∷ pos 0 ∷ scheduleWords (scheduleFrom w openingSchedule)) (replicate (length a) (pos 0)) (replicate (length j) (pos 0)) ≡ tablesOf (openedBook t w)
+      opened-tables : tablesAt (pos (word w firstDayPlace) ∷ pos 0 ∷ scheduleWords (scheduleFrom w openingSchedule)) (replicate (length a) (pos 0)) (replicate (length j) (pos 0)) ≡ tablesOf (openedBook t w)
       opened-tables = unfold tablesOf openedBook opening headerWords writeAll in
           (let s = lengths-known h a j l in
           let r : roomIn t - 0 ≡ roomIn t = omega arith in

@@ -20,7 +20,7 @@ ghost use lib.ListN.{length, getD, set, replicate};
 ghost use Rattle.records.specs.Layout.{headerWidth, firstDayPlace, openingSchedule};
 ghost use Rattle.records.specs.Encoding.{word};
 ghost use Rattle.rules.specs.Tables.{scheduleFrom, scheduleWords};
-ghost use Rattle.sound_header.specs.Clauses.{tablesOn};
+ghost use Rattle.sound_header.specs.Clauses.{tablesAt};
 ghost use Rattle.opening.specs.Opens.{openingFits, Opens};
 
 // The first day and the schedule: eleven words, each in its range.
@@ -73,7 +73,7 @@ pub fn open_book(
     journal: &mut [i64],
     schedule: &[i64],
 ) -> u64
-    ensures { λ n. ⌜ Opens (tablesOn (now (header .entry)) (now (accounts .entry)) (now (journal .entry))) (tablesOn (now (header .exit)) (now (accounts .exit)) (now (journal .exit))) (now (schedule .entry)) n ⌝ }
+    ensures { λ n. ⌜ Opens (tablesAt (now (header .entry)) (now (accounts .entry)) (now (journal .entry))) (tablesAt (now (header .exit)) (now (accounts .exit)) (now (journal .exit))) (now (schedule .entry)) n ⌝ }
 {
     if !lengths_fit(header, accounts, journal) {
         return 1;

@@ -1,11 +1,1 @@
-pub mod AmountLaws
 pub mod BookLaws
-pub mod EventLaws
-pub mod HeaderLaws
-pub mod AccountEventLaws
-pub mod PutRowLaws
-pub mod TopUpLaws
-pub mod WrittenLaws
-pub mod RefusalLaws
-pub mod AddedLaws
-pub mod UsedRowsLaws

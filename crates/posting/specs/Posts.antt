@@ -12,12 +12,9 @@ use Rattle.rules.specs.Limits.{mostRows, highestRefund}
 use Rattle.rules.specs.Rows.{Row}
 use Rattle.rules.specs.Book.{Instruction, Answer}
 use Rattle.rules.specs.Posting.{post}
+pub use Rattle.rules.specs.Tables.{tablesAt}
 use Rattle.rules.specs.Tables.{Tables, bookOf, tablesOf}
 use Rattle.tables.specs.Changes.{RowIn, RowChanged}
-
--- the three lent tables
-abbrev pub tablesAt : List ℤ → List ℤ → List ℤ → Tables
-tablesAt h a j = record { header = h; accounts = a; journal = j }
 
 -- used rows whose amounts can be summed
 pub record Amounts (t : List ℤ) (used : ℕ) : Type 0 where

@@ -1,5 +1,4 @@
-// What the events share: their answers, rows added, sums; and the laws by which the tables that an event leaves are the tables of the book
-// that it makes. Uses lists, records, rules, preservation, tables, row_tests and settlement.
+// What the events share: their answers, rows added and released; and what a reader of sound tables knows. Uses lists, records,
+// rules, tables, row_tests and settlement.
 pub mod answers; // answers.rt: the answer of a refused and of an accepted event
-pub mod sums; // sums.rt: sources, debits, and whether a top-up is due
 pub mod rows; // rows.rt: a row added to the journal, a row released

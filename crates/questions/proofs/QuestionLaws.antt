@@ -19,7 +19,7 @@ use Rattle.rules.specs.Tables.{Tables, accountsIn, rowsUsed, bookOf, soundTable
 use Rattle.rules.specs.Calls.{questionRefusals, question, rowCall}
 use Rattle.rules.proofs.StorableLaws.{between-le}
 use Rattle.rules.proofs.TableLaws.{sound-rows}
-use Rattle.posting.proofs.AmountLaws.{sources-small, debits-small}
+use Rattle.balances.proofs.AmountLaws.{sources-small, debits-small}
 use Rattle.posting.proofs.BookLaws.{account-read, used-small, used-room, journal-summable}
 use Rattle.questions.specs.Replies.{Replies}
 

@@ -1,8 +1,7 @@
 // The questions, which change nothing: an account's balance, whether its top-up is due, and a row's words as a part of the lent journal.
 // Each checks the book first. Uses lists, records, rules, tables, soundness and posting.
-use posting::sums;
-use posting::sums::debits_of;
-use posting::sums::sources_of;
+use balances::debits_of;
+use balances::sources_of;
 use soundness::sound;
 use tables::accounts::account_numbered;
 use tables::codes::UNUSED;
@@ -67,7 +66,7 @@ pub fn top_up_due(header: &[i64], accounts: &[i64], journal: &[i64], account: i6
     if number != 0 {
         return Reply { number, value: 0 };
     }
-    if sums::top_up_due(header, accounts, journal, n) {
+    if balances::top_up_due(header, accounts, journal, n) {
         return Reply {
             number: 0,
             value: 1,

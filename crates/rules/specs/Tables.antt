@@ -20,6 +20,10 @@ pub record Tables : Type 0 where
   pub accounts : List ℤ
   pub journal : List ℤ
 
+-- the three tables by their words
+abbrev pub tablesAt : List ℤ → List ℤ → List ℤ → Tables
+tablesAt h a j = record { header = h; accounts = a; journal = j }
+
 -- how many accounts and rows the tables have room for, and how many rows the header says are used
 abbrev pub accountsIn : Tables → ℕ
 accountsIn t = length (t .accounts) / Layout.accountWidth

@@ -14,7 +14,7 @@ use Rattle.rules.specs.Limits.{mostAccounts, mostRows}
 use Rattle.rules.specs.Opening.{sizesFit}
 use Rattle.rules.specs.Tables.{wholeRecords, lengthsFit}
 use Rattle.rules.proofs.StorableLaws.{between-le}
-use Rattle.sound_header.specs.Clauses.{tablesOn}
+use Rattle.sound_header.specs.Clauses.{tablesAt}
 
 pub record Lengths (header accounts journal : List ℤ) : Type 0 where
   pub words : length header ≡ headerWidth
@@ -23,7 +23,7 @@ pub record Lengths (header accounts journal : List ℤ) : Type 0 where
   pub seats : length accounts / accountWidth ≤ mostAccounts
   pub room : length journal / rowWidth ≤ mostRows
 
-module _ (h a j : List ℤ) (e : lengthsFit (tablesOn h a j) ≡ true) where
+module _ (h a j : List ℤ) (e : lengthsFit (tablesAt h a j) ≡ true) where
   abbrev header-part : Bool
   header-part = length h is headerWidth
 

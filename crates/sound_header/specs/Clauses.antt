@@ -12,7 +12,8 @@ use Rattle.rules.specs.Limits.{finalDay, longestStage, mostAccounts, mostRows}
 use Rattle.rules.specs.Rows.{Row}
 use Rattle.rules.specs.Book.{Account}
 use Rattle.rules.specs.Soundness.{kindFits, amountFits, settledFits, markFits, tollWordsFit, noReference, rowDayFits, dueFits, holdFits, accountUsed, referenceFits}
-use Rattle.rules.specs.Tables.{Tables, zeroWord}
+pub use Rattle.rules.specs.Tables.{tablesAt}
+use Rattle.rules.specs.Tables.{zeroWord}
 
 -- a row by itself: the words that differ from kind to kind, and all
 unfoldable pub ownWords : ℕ → ℕ → Row → Bool
@@ -49,10 +50,6 @@ unfoldable pub restZero : List ℤ → ℕ → Bool
 restZero journal used = every zeroWord (drop (used * rowWidth) journal)
 
 -- ---- the lent tables
-
--- the three lent tables
-abbrev pub tablesOn : List ℤ → List ℤ → List ℤ → Tables
-tablesOn h a j = record { header = h; accounts = a; journal = j }
 
 -- ten words of a schedule from place p on
 abbrev pub ScheduleIn : List ℤ → ℕ → Type 0

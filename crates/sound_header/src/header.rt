@@ -30,7 +30,7 @@ ghost use Rattle.rules.specs.Limits.{highestFee, highestRate};
 ghost use Rattle.rules.specs.Opening.{dayFits, sizesFit};
 ghost use Rattle.rules.specs.Schedule.{ratesFit, scheduleFits};
 ghost use Rattle.rules.specs.Tables.{scheduleFrom, lengthsFit};
-ghost use Rattle.sound_header.specs.Clauses.{tablesOn, ScheduleIn};
+ghost use Rattle.sound_header.specs.Clauses.{tablesAt, ScheduleIn};
 
 pub fn day_fits(day: u64) -> bool
     ensures { λ b. ⌜ b ≡ dayFits day ⌝ }
@@ -46,7 +46,7 @@ pub fn sizes_fit(count: usize, room: usize) -> bool
 
 // "The lengths are exactly those above": no word over, and neither too few nor too many records.
 pub fn lengths_fit(header: &[i64], accounts: &[i64], journal: &[i64]) -> bool
-    ensures { λ b. ⌜ b ≡ lengthsFit (tablesOn (now (header .entry)) (now (accounts .entry)) (now (journal .entry))) ⌝ }
+    ensures { λ b. ⌜ b ≡ lengthsFit (tablesAt (now (header .entry)) (now (accounts .entry)) (now (journal .entry))) ⌝ }
 {
     let whole = (header.len() == HEADER_WIDTH)
         & (accounts.len() % ACCOUNT_WIDTH == 0)

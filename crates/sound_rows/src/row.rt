@@ -2,18 +2,15 @@
 // row costs one well-predicted branch a test; tolls and other rows part at once, since they share few tests.
 use records::Row;
 use sound_header::tests::between;
-use sound_header::tests::implies;
+use sound_tolls::row_day_fits;
+use sound_tolls::toll_fits;
 use tables::codes::CARD;
 use tables::codes::CHECK_RETURNED;
-use tables::codes::HELD;
-use tables::codes::LAST_STAGE;
 use tables::codes::PAYMENT;
 use tables::codes::REFUND;
 use tables::codes::TOLL;
-use tables::codes::UPHELD;
 use tables::limits::HIGHEST_CREDIT;
 use tables::limits::HIGHEST_FEE;
-use tables::limits::HIGHEST_PASSAGE;
 use tables::limits::HIGHEST_PAYMENT;
 use tables::limits::HIGHEST_RATE;
 use tables::limits::HIGHEST_REFUND;
@@ -21,11 +18,8 @@ ghost use mathlib.Core.Path.{_≡_};
 ghost use Prim.Native.Nat.{ℕ, _≤_};
 ghost use Rattle.rules.specs.Limits.{finalDay, longestStage};
 ghost use Rattle.rules.specs.Rows.{Toll};
-ghost use Rattle.rules.specs.Soundness.{kindFits, mostOf, amountFits, settledFits, markFits, tollWordsFit, noReference, rowDayFits, dueFits, holdFits};
+ghost use Rattle.rules.specs.Soundness.{kindFits, mostOf, amountFits, settledFits, markFits, tollWordsFit, noReference};
 ghost use Rattle.sound_header.specs.Clauses.{ownWords, rowAlone};
-
-// The last day of a hold is its 29th after the start: the tick to the 30th ends it.
-const HOLD_LASTS: u64 = 29;
 
 // ---- every row
 
@@ -65,85 +59,6 @@ fn settled_fits(r: Row) -> bool
         return true;
     }
     r.settled == r.amount
-}
-
-fn row_day_fits(today: u64, r: Row) -> bool
-    ensures { λ b. ⌜ b ≡ rowDayFits today r ⌝ }
-{
-    between(1, r.day, today)
-}
-
-// ---- a toll
-
-fn stage_fits(r: Row) -> bool
-    requires { ⌜ r .kind ≡ Toll ⌝ }
-    ensures { λ b. ⌜ b ≡ markFits r ⌝ }
-{
-    r.mark <= LAST_STAGE
-}
-
-fn toll_words_fit(r: Row) -> bool
-    requires { ⌜ r .kind ≡ Toll ⌝ }
-    ensures { λ b. ⌜ b ≡ tollWordsFit r ⌝ }
-{
-    if r.dispute > UPHELD {
-        return false;
-    }
-    between(1, r.reference, HIGHEST_PASSAGE)
-}
-
-fn due_fits(today: u64, stage: u64, r: Row) -> bool
-    requires { ⌜ (r .kind ≡ Toll) × (today ≤ finalDay) × (stage ≤ longestStage) ⌝ }
-    ensures { λ b. ⌜ b ≡ dueFits today stage r ⌝ }
-{
-    if r.due > today + stage {
-        return false;
-    }
-    if r.settled >= r.amount {
-        return 1 <= r.due;
-    }
-    if r.dispute == HELD {
-        return 1 <= r.due;
-    }
-    if r.mark >= LAST_STAGE {
-        return 1 <= r.due;
-    }
-    today < r.due
-}
-
-// A hold that starts after today is met before the sums, so that none of them wraps.
-fn hold_fits(today: u64, stage: u64, r: Row) -> bool
-    requires { ⌜ (r .kind ≡ Toll) × (today ≤ finalDay) × (stage ≤ longestStage) ⌝ }
-    ensures { λ b. ⌜ b ≡ holdFits today stage r ⌝ }
-{
-    if r.dispute != HELD {
-        return r.hold == 0;
-    }
-    if r.hold > today {
-        return false;
-    }
-    let started = (1 <= r.hold) & (today <= r.hold + HOLD_LASTS) & (r.hold <= today);
-    let after = implies(r.mark < LAST_STAGE, r.hold < r.due);
-    started & (r.settled < r.amount) & (r.due <= r.hold + stage) & after
-}
-
-fn toll_fits(today: u64, stage: u64, r: Row) -> bool
-    requires { ⌜ (r .kind ≡ Toll) × (today ≤ finalDay) × (stage ≤ longestStage) ⌝ }
-    ensures { λ b. ⌜ b ≡ ownWords today stage r ⌝ }
-{
-    if !stage_fits(r) {
-        return false;
-    }
-    if !toll_words_fit(r) {
-        return false;
-    }
-    if !row_day_fits(today, r) {
-        return false;
-    }
-    if !due_fits(today, stage, r) {
-        return false;
-    }
-    hold_fits(today, stage, r)
 }
 
 // ---- another row

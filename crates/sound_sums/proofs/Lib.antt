@@ -1,2 +1,1 @@
-pub mod FeeLaws
 pub mod AccountLaws

@@ -9,12 +9,9 @@ use Rattle.lists.specs.Lists.{count, every}
 use Rattle.rules.specs.Rows.{Row}
 use Rattle.rules.specs.Settlement.{money, debt, used, paid, owed}
 use Rattle.rules.specs.Book.{Account, Closed}
-use Rattle.rules.specs.Soundness.{stateFits, unusedZero, requestFits, topUpFits, declineFits, returnedOf}
+use Rattle.rules.specs.Soundness.{returnedOf}
+use Rattle.sound_accounts.specs.Alone.{accountAlone}
 use Rattle.sound_sums.specs.declared.accounts.Sums.{Sums}
-
--- an account by itself
-unfoldable pub accountAlone : ℕ → Account → Bool
-accountAlone today x = allOf (stateFits x ∷ unusedZero x ∷ requestFits today x ∷ topUpFits x ∷ declineFits today x ∷ [])
 
 -- an account and the sums of its rows
 unfoldable pub sumsAgree : Account → Sums → Bool

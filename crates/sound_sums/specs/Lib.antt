@@ -1,2 +1,1 @@
-pub mod Fees
 pub mod Accounts

@@ -2,24 +2,18 @@
 use account_sums::SEATS;
 use account_sums::add_rows;
 use records::Account;
-use sound_header::tests::between;
+use sound_accounts::account_alone;
 use sound_header::tests::implies;
 use tables::accounts::read_account;
 use tables::codes::CLOSED;
-use tables::codes::OPEN;
-use tables::codes::PENDING;
-use tables::codes::UNUSED;
-use tables::limits::HIGHEST_TOP_UP;
-use tables::limits::MOST_DECLINES;
 ghost use mathlib.Core.Path.{_≡_};
 ghost use Prim.Native.Nat.{_+_, _*_, _≤_, _<_};
 ghost use lib.ListN.{length};
 ghost use Rattle.records.specs.Layout.{accountWidth};
 ghost use Rattle.records.specs.Encoding.{rowsOf, accountAt, accountsOf};
 ghost use Rattle.rules.specs.Limits.{mostAccounts};
-ghost use Rattle.rules.specs.Soundness.{stateFits, unusedZero, requestFits, topUpFits, declineFits};
 ghost use Rattle.account_sums.specs.Tallies.{Countable};
-ghost use Rattle.sound_sums.specs.Accounts.{accountAlone, sumsAgree, sumsAt, accountStands, allAgree, accountsStand};
+ghost use Rattle.sound_sums.specs.Accounts.{sumsAgree, sumsAt, accountStands, allAgree, accountsStand};
 
 // What an account's rows come to.
 pub struct Sums {
@@ -29,60 +23,6 @@ pub struct Sums {
     pub paid: u64,
     pub debt: u64,
     pub owed: u64,
-}
-
-fn state_fits(x: Account) -> bool
-    ensures { λ b. ⌜ b ≡ stateFits x ⌝ }
-{
-    x.state <= CLOSED
-}
-
-fn unused_zero(x: Account) -> bool
-    ensures { λ b. ⌜ b ≡ unusedZero x ⌝ }
-{
-    let zero = (x.request == 0)
-        & (x.returned == 0)
-        & (x.threshold == 0)
-        & (x.topup == 0)
-        & (x.declines == 0)
-        & (x.declined == 0);
-    implies(x.state == UNUSED, zero)
-}
-
-fn request_fits(today: u64, x: Account) -> bool
-    ensures { λ b. ⌜ b ≡ requestFits today x ⌝ }
-{
-    implies(x.state == OPEN, x.request == 0)
-        & implies(PENDING <= x.state, between(1, x.request, today))
-}
-
-fn top_up_fits(x: Account) -> bool
-    ensures { λ b. ⌜ b ≡ topUpFits x ⌝ }
-{
-    let within = (x.threshold <= HIGHEST_TOP_UP)
-        & (x.topup <= HIGHEST_TOP_UP)
-        & (x.declines <= MOST_DECLINES);
-    let together = within
-        & implies(x.declines == 0, x.declined == 0)
-        & implies(x.declined == 0, x.declines == 0);
-    together & implies(x.topup == 0, (x.threshold == 0) & (x.declines == 0))
-}
-
-fn decline_fits(today: u64, x: Account) -> bool
-    ensures { λ b. ⌜ b ≡ declineFits today x ⌝ }
-{
-    x.declined <= today
-}
-
-// All that an account is tested for by itself.
-fn account_alone(today: u64, x: Account) -> bool
-    ensures { λ b. ⌜ b ≡ accountAlone today x ⌝ }
-{
-    state_fits(x)
-        & unused_zero(x)
-        & request_fits(today, x)
-        & top_up_fits(x)
-        & decline_fits(today, x)
 }
 
 // Its returned checks; used sources = settled debits; no unused money beside a debt; nothing left where it is closed.

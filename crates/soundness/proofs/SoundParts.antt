@@ -22,12 +22,13 @@ use Rattle.rules.specs.Opening.{dayFits, sizesFit}
 use Rattle.rules.specs.Soundness.{kindFits, mostOf, amountFits, settledFits, accountUsed, referenceFits, passageOnce, feesFit, rowSound, returnedFits, even, spent, closedClear, accountSound, sound}
 use Rattle.rules.specs.Tables.{Tables, accountsIn, roomIn, rowsUsed, scheduleFrom, bookOf, wholeRecords, lengthsFit, usedFits, laterRowsZero, soundTables}
 use Rattle.rules.proofs.StorableLaws.{mostOf-le, used-inside, between-le, schedule-storable}
-use Rattle.sound_header.specs.Clauses.{ownWords, rowAlone, rowStands, rowsStand, restZero, tablesOn, Bounds}
+use Rattle.sound_header.specs.Clauses.{ownWords, rowAlone, rowStands, rowsStand, restZero, tablesAt, Bounds}
 use Rattle.sound_header.proofs.LengthLaws.{lengths-known}
 use Rattle.sound_passages.specs.Trees.{passagesDiffer}
-use Rattle.sound_sums.specs.Fees.{feesFew}
+use Rattle.sound_fees.specs.Fees.{feesFew}
 use Rattle.soundness.specs.Book.{bookStands}
-use Rattle.sound_sums.specs.Accounts.{accountAlone, sumsAgree, accountStands, sumsOf, allAgree, accountsStand}
+use Rattle.sound_sums.specs.Accounts.{sumsAgree, accountStands, sumsOf, allAgree, accountsStand}
+use Rattle.sound_accounts.specs.Alone.{accountAlone}
 use Rattle.account_sums.specs.Tallies.{Countable}
 
 -- ---- rows and accounts
@@ -93,7 +94,7 @@ module _ (t : Tables) where
 -- ---- what the lengths and the header have shown, on the words that were read
 
 pub record Fit (h a j : List ℤ) (used today stage : ℕ) : Type 0 where
-  pub lengths : lengthsFit (tablesOn h a j) ≡ true
+  pub lengths : lengthsFit (tablesAt h a j) ≡ true
   pub readDay : today ≡ word h dayPlace
   pub readUsed : used ≡ word h usedPlace
   pub readStage : stage ≡ word h (headerSchedule + stagePlace)
@@ -104,7 +105,7 @@ pub record Fit (h a j : List ℤ) (used today stage : ℕ) : Type 0 where
 
 module _ (h a j : List ℤ) (used today stage : ℕ) (f : Fit h a j used today stage) where
   abbrev tables : Tables
-  tables = tablesOn h a j
+  tables = tablesAt h a j
 
   pub fit-sound : bookStands (accountsOf a (length a / accountWidth)) (rowsOf j used) today stage ≡ soundTables tables
   fit-sound = unfold bookOf scheduleFrom in (rw (f .readDay, f .readStage, least) (sym (fit-tables tables (f .lengths) used-fits later-zero day-fits schedule-fits)))

@@ -7,7 +7,7 @@ use Rattle.rules.specs.Rows.{Row}
 use Rattle.rules.specs.Book.{Account}
 use Rattle.sound_header.specs.Clauses.{rowsStand}
 use Rattle.sound_passages.specs.Trees.{passagesDiffer}
-use Rattle.sound_sums.specs.Fees.{feesFew}
+use Rattle.sound_fees.specs.Fees.{feesFew}
 use Rattle.sound_sums.specs.Accounts.{accountsStand}
 
 unfoldable pub bookStands : List Account → List Row → ℕ → ℕ → Bool

@@ -1,5 +1,6 @@
 // The check of a whole book: whether three lent tables of any lengths and contents are sound, in time that grows with the rows and
 // accounts. Uses lists, records, rules, tables and the crates of its clauses.
+use sound_fees::fees_few;
 use sound_header::header::day_fits;
 use sound_header::header::lengths_fit;
 use sound_header::header::schedule_fits;
@@ -7,7 +8,6 @@ use sound_journal::later_rows_zero;
 use sound_journal::rows_stand;
 use sound_passages::passages::passages_differ;
 use sound_sums::accounts::accounts_stand;
-use sound_sums::fees::fees_few;
 use tables::layout::ACCOUNT_WIDTH;
 use tables::layout::DAY_PLACE;
 use tables::layout::HEADER_SCHEDULE;
@@ -21,7 +21,7 @@ ghost use lib.ListN.{length};
 ghost use Rattle.records.specs.Layout.{rowWidth};
 ghost use Rattle.records.specs.Encoding.{rowsOf, accountsOf};
 ghost use Rattle.rules.specs.Tables.{soundTables};
-ghost use Rattle.sound_header.specs.Clauses.{tablesOn, Bounds};
+ghost use Rattle.sound_header.specs.Clauses.{tablesAt, Bounds};
 ghost use Rattle.soundness.specs.Book.{bookStands};
 
 // The used rows and the accounts, once the lengths and the header are found fit. Each pass starts only where the ones before it found
@@ -51,7 +51,7 @@ fn book_stands(
 
 // Whether the tables are sound. It takes 93 KiB of the stack in all: 64 for passage numbers, 16 for fees, 12 for sums.
 pub fn sound(header: &[i64], accounts: &[i64], journal: &[i64]) -> bool
-    ensures { λ b. ⌜ b ≡ soundTables (tablesOn (now (header .entry)) (now (accounts .entry)) (now (journal .entry))) ⌝ }
+    ensures { λ b. ⌜ b ≡ soundTables (tablesAt (now (header .entry)) (now (accounts .entry)) (now (journal .entry))) ⌝ }
 {
     if !lengths_fit(header, accounts, journal) {
         return false;

@@ -22,7 +22,7 @@ use Rattle.rules.proofs.SoundnessLaws.{Near}
 use Rattle.rules.proofs.StorableLaws.{between-le, mostOf-le, used-inside, accounts-le, room-le}
 use Rattle.rules.proofs.TableLaws.{sound-book}
 use Rattle.preservation.proofs.SettledLaws.{settled-le}
-use Rattle.posting.proofs.WrittenLaws.{Written}
+use Rattle.posting_laws.proofs.WrittenLaws.{Written}
 use Rattle.account_sums.specs.Tallies.{Countable}
 use Rattle.tick_base.specs.Midway.{Midway}
 

@@ -32,8 +32,8 @@ use Rattle.tables.proofs.ChangeLaws.{mapped-all}
 use Rattle.account_sums.specs.Tallies.{moneyOf}
 use Rattle.account_sums.proofs.TallyLaws.{tallied-small}
 use Rattle.posting.specs.Posts.{tablesAt}
-use Rattle.posting.proofs.WrittenLaws.{Written}
-use Rattle.posting.proofs.UsedRowsLaws.{UsedRows, rows-before, rows-map, rows-then, rows-written}
+use Rattle.posting_laws.proofs.WrittenLaws.{Written}
+use Rattle.posting_laws.proofs.UsedRowsLaws.{UsedRows, rows-before, rows-map, rows-then, rows-written}
 use Rattle.tick_base.specs.Midway.{Midway}
 use Rattle.tick_base.specs.Remainders.{Remainders, daysOver}
 use Rattle.tick_base.proofs.MidwayLaws.{midway-header, midway-rows, midway-length, midway-few, midway-room, midway-count, midway-each, midway-countable}

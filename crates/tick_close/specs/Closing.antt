@@ -17,7 +17,7 @@ use Rattle.rules.specs.Rows.{Row, Refund, newRow, source, settleWhole}
 use Rattle.rules.specs.Book.{Account}
 use Rattle.tables.specs.Changes.{AccountIn, AccountChanged}
 use Rattle.posting.specs.Posts.{tablesAt, RowRoom, RowAdded}
-use Rattle.posting.proofs.UsedRowsLaws.{UsedRows}
+use Rattle.posting_laws.proofs.UsedRowsLaws.{UsedRows}
 use Rattle.tick_base.specs.Remainders.{daysOver}
 
 -- ---- one account

@@ -25,7 +25,7 @@ ghost use Rattle.rules.specs.Tick.{closeAccounts};
 ghost use Rattle.rules.specs.Tables.{bookOf};
 ghost use Rattle.tables.specs.Changes.{RowIn, RowChanged, RowsMapped};
 ghost use Rattle.posting.specs.Posts.{tablesAt};
-ghost use Rattle.posting.proofs.WrittenLaws.{Written};
+ghost use Rattle.posting_laws.proofs.WrittenLaws.{Written};
 ghost use Rattle.tick_base.specs.Midway.{Midway};
 ghost use Rattle.tick_close.specs.Closing.{closesBy, Closable, ClosedOne, useUpBy, Usable, UsableRows, AllClosable, ClosedTo};
 

@@ -17,7 +17,7 @@ use Rattle.rules.specs.Tables.{Tables, scheduleFrom}
 use Rattle.tables.specs.Changes.{RowChanged}
 use Rattle.tables.proofs.ChangeLaws.{unchanged}
 use Rattle.posting.specs.Posts.{RowRoom, RowAdded}
-use Rattle.posting.proofs.UsedRowsLaws.{UsedRows, rows-put, rows-add}
+use Rattle.posting_laws.proofs.UsedRowsLaws.{UsedRows, rows-put, rows-add}
 use Rattle.tick_raise.specs.Raising.{scheduleOf, stageFeeRow, Raisable, RowRaised}
 
 -- x is row i, as it is read

@@ -22,8 +22,8 @@ use Rattle.rules.proofs.StorableLaws.{day-le, stage-le, row-storable}
 use Rattle.preservation.proofs.FeeLaws.{schedule-parts, stageFee-le}
 use Rattle.preservation.proofs.TollsRaised.{rising}
 use Rattle.posting.specs.Posts.{tablesAt}
-use Rattle.posting.proofs.WrittenLaws.{Written}
-use Rattle.posting.proofs.UsedRowsLaws.{UsedRows, rows-before, rows-row, rows-schedule, rows-written}
+use Rattle.posting_laws.proofs.WrittenLaws.{Written}
+use Rattle.posting_laws.proofs.UsedRowsLaws.{UsedRows, rows-before, rows-row, rows-schedule, rows-written}
 use Rattle.tick_base.specs.Midway.{Midway}
 use Rattle.tick_base.proofs.MidwayLaws.{midway-header, midway-rows, midway-few, midway-each}
 use Rattle.tick_raise.specs.Raising.{scheduleOf, stageFeeRow, Raisable, RowRaised}

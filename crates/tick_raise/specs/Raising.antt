@@ -11,7 +11,7 @@ use Rattle.rules.specs.Schedule.{Schedule, stageFee}
 use Rattle.rules.specs.Rows.{Row, Fee, newRow, withReference}
 use Rattle.rules.specs.Tick.{rises, raise, feeRow}
 use Rattle.rules.specs.Tables.{Tables, scheduleFrom}
-use Rattle.posting.proofs.UsedRowsLaws.{UsedRows}
+use Rattle.posting_laws.proofs.UsedRowsLaws.{UsedRows}
 
 -- the header's schedule
 abbrev pub scheduleOf : List ℤ → Schedule

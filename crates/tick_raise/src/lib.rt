@@ -23,7 +23,7 @@ ghost use Rattle.rules.specs.Rows.{Fee, newRow, withMark, withDue, withReferenc
 ghost use Rattle.rules.specs.Tick.{rises, raiseTolls};
 ghost use Rattle.rules.specs.Tables.{bookOf};
 ghost use Rattle.posting.specs.Posts.{tablesAt};
-ghost use Rattle.posting.proofs.WrittenLaws.{Written};
+ghost use Rattle.posting_laws.proofs.WrittenLaws.{Written};
 ghost use Rattle.tick_base.specs.Midway.{Midway};
 ghost use Rattle.tick_raise.specs.Raising.{Raisable, RowRaised};
 

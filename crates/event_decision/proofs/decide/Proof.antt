@@ -5,7 +5,7 @@ use native.Mathlib.Omega.{arith}
 use mathlib.Core.Path.{_∙_}
 use Rattle.rules.proofs.TableLaws.{header-length}
 use Rattle.posting.proofs.BookLaws.{used-small}
-use Rattle.posting.proofs.AddedLaws.{posts-refused}
+use Rattle.posting_laws.proofs.AddedLaws.{posts-refused}
 use Rattle.event_decision.proofs.DecisionLaws.{upheld-header, upheld-journal, releasable, rejected-settles, rejected-posts, upholdable, upheld-settles, upheld-posts}
 use Rattle.event_decision.proofs.decide.Statement.{statement}
 use Rattle.event_decision.proofs.decide.Tie as tie

@@ -7,7 +7,7 @@ use mathlib.Core.Bool.{true, false}
 use Rattle.lists.specs.Tests.{first}
 use Rattle.rules.proofs.TableLaws.{header-length}
 use Rattle.posting.proofs.BookLaws.{account-read, used-room}
-use Rattle.posting.proofs.PutRowLaws.{row-read-by}
+use Rattle.posting_laws.proofs.PutRowLaws.{row-read-by}
 use Rattle.event_decision.proofs.AnswerLaws.{answer-by}
 use Rattle.event_decision.proofs.decision_refusal.Statement.{statement}
 use Rattle.event_decision.proofs.decision_refusal.Tie as tie

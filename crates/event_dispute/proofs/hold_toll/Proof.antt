@@ -4,7 +4,7 @@ use borrow.Author.Tests.{ne-eqb}
 use native.Mathlib.Omega.{arith}
 use Rattle.rules.proofs.TableLaws.{header-length}
 use Rattle.posting.proofs.BookLaws.{used-small, used-room}
-use Rattle.posting.proofs.AddedLaws.{posts-refused}
+use Rattle.posting_laws.proofs.AddedLaws.{posts-refused}
 use Rattle.event_dispute.proofs.DisputeLaws.{held-row, dispute-row, dispute-storable, dispute-settles, dispute-posts}
 use Rattle.event_dispute.proofs.hold_toll.Statement.{statement}
 use Rattle.event_dispute.proofs.hold_toll.Tie as tie

@@ -9,7 +9,7 @@ use Rattle.lists.specs.Tests.{first}
 use Rattle.rules.specs.Book.{Account}
 use Rattle.rules.proofs.TableLaws.{header-length}
 use Rattle.posting.proofs.BookLaws.{account-read}
-use Rattle.posting.proofs.RefusalLaws.{rows-lack, rows-suffice}
+use Rattle.posting_laws.proofs.RefusalLaws.{rows-lack, rows-suffice}
 use Rattle.event_payment.proofs.PaymentLaws.{answer-by}
 use Rattle.event_payment.proofs.payment_refusal.Statement.{statement}
 use Rattle.event_payment.proofs.payment_refusal.Tie as tie

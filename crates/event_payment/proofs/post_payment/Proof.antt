@@ -6,7 +6,7 @@ use mathlib.Core.Path.{_≡_, refl, sym, ap, _∙_}
 use lib.ListN.{length-set}
 use Rattle.rules.proofs.TableLaws.{header-length, journal-length}
 use Rattle.posting.proofs.BookLaws.{day-read, used-small}
-use Rattle.posting.proofs.AddedLaws.{posts-refused, added-journal}
+use Rattle.posting_laws.proofs.AddedLaws.{posts-refused, added-journal}
 use Rattle.event_payment.proofs.PaymentLaws.{payment-fits, payment-storable, payment-posts}
 use Rattle.event_payment.proofs.post_payment.Statement.{statement}
 use Rattle.event_payment.proofs.post_payment.Tie as tie

@@ -5,7 +5,7 @@ use native.Mathlib.Omega.{arith}
 use mathlib.Core.Path.{sym, _∙_}
 use Rattle.rules.proofs.TableLaws.{header-length}
 use Rattle.posting.proofs.BookLaws.{used-small}
-use Rattle.posting.proofs.AddedLaws.{posts-refused}
+use Rattle.posting_laws.proofs.AddedLaws.{posts-refused}
 use Rattle.event_return.proofs.ReturnLaws.{charge-le, return-counts, counted-read, return-marks, marked-read, amount-read, reversal-read, reversal-storable, reversal-room, fee-read, fee-storable, fee-room, return-settles, header-size, return-size, return-posts}
 use Rattle.event_return.proofs.return_check.Statement.{statement}
 use Rattle.event_return.proofs.return_check.Tie as tie

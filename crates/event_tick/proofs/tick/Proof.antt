@@ -4,7 +4,7 @@ use mathlib.Core.Path.{_≡_, refl, sym, _∙_}
 use borrow.Author.Tests.{ne-eqb}
 use Rattle.rules.proofs.TableLaws.{header-length}
 use Rattle.posting.proofs.BookLaws.{day-small, used-small}
-use Rattle.posting.proofs.AddedLaws.{posts-refused}
+use Rattle.posting_laws.proofs.AddedLaws.{posts-refused}
 use Rattle.event_tick.proofs.StepLaws.{dusk-midway, dusk-room, late-midway, closing-room, end-header, end-longer, tick-posts}
 use borrow.Author.Needs.{needs}
 use Rattle.event_tick.proofs.tick.Statement.{statement}

@@ -3,7 +3,7 @@ use borrow.Author.Needs.{needs}
 use native.Mathlib.Omega.{arith}
 use Rattle.rules.proofs.TableLaws.{header-length, journal-length}
 use Rattle.posting.proofs.BookLaws.{account-read, day-read, used-small}
-use Rattle.posting.proofs.AddedLaws.{added-journal}
+use Rattle.posting_laws.proofs.AddedLaws.{added-journal}
 use Rattle.event_topup.proofs.PaidLaws.{paid-inside, paid-in, paid-fits, paid-row-storable, paid-account-storable, paid-posts}
 use Rattle.event_topup.proofs.pay_top_up.Statement.{statement}
 use Rattle.event_topup.proofs.pay_top_up.Tie as tie

@@ -5,8 +5,8 @@ use native.Mathlib.Omega.{arith}
 use mathlib.Core.Path.{sym, _∙_}
 use Rattle.rules.proofs.TableLaws.{header-length}
 use Rattle.posting.proofs.BookLaws.{account-read, day-read, used-small}
-use Rattle.posting.proofs.AddedLaws.{posts-refused}
-use Rattle.posting.proofs.AccountEventLaws.{named-inside, named-in}
+use Rattle.posting_laws.proofs.AddedLaws.{posts-refused}
+use Rattle.posting_laws.proofs.AccountEventLaws.{named-inside, named-in}
 use Rattle.event_topup.proofs.DeclinedLaws.{declined-storable, declined-posts}
 use Rattle.event_topup.proofs.top_up_result.Statement.{statement}
 use Rattle.event_topup.proofs.top_up_result.Tie as tie

@@ -1,6 +1,6 @@
 -- `post_event` meets its contract: each kind has its function, and another is malformed.
 use mathlib.Core.Path.{refl}
-use Rattle.posting.proofs.AddedLaws.{posts-refused}
+use Rattle.posting_laws.proofs.AddedLaws.{posts-refused}
 use Rattle.events.proofs.KindLaws.{other-kind}
 use borrow.Author.Needs.{needs}
 use Rattle.events.proofs.post_event.Statement.{statement}

@@ -1,6 +1,6 @@
 -- `open_book` meets its contract: each way through the tests is a case of the call's, and the tables written are the opened book's.
 use Rattle.opening.proofs.OpenedLaws.{lengths-refused, words-refused, opened}
-use Rattle.sound_header.specs.Clauses.{tablesOn}
+use Rattle.sound_header.specs.Clauses.{tablesAt}
 use Rattle.rules.specs.Tables.{lengthsFit}
 use mathlib.Core.Bool.{true}
 use Rattle.sound_header.proofs.LengthLaws.{lengths-known}
@@ -11,7 +11,7 @@ use Rattle.opening.proofs.open_book.Statement.{statement}
 use Rattle.opening.proofs.open_book.Tie as tie
 
 -- the lengths, once tested
-fit : (e : tie.Else1) → lengthsFit (tablesOn (e .before .before .before .before .before .args .header .now) (e .before .before .before .before .before .args .accounts .now) (e .before .before .before .before .before .args .journal .now)) ≡ true
+fit : (e : tie.Else1) → lengthsFit (tablesAt (e .before .before .before .before .before .args .header .now) (e .before .before .before .before .before .args .accounts .now) (e .before .before .before .before .before .args .journal .now)) ≡ true
 fit e = sym (e .before .lengths-fit .ensures) ∙ not-false _ (e .if1 .left)
 
 lengths-fit-requires : tie.Need-lengths-fit-requires

@@ -2,7 +2,7 @@
 use Rattle.soundness.proofs.SoundParts.{countable}
 use Rattle.sound_header.specs.Clauses.{rowsStand}
 use Rattle.sound_passages.specs.Trees.{passagesDiffer}
-use Rattle.sound_sums.specs.Fees.{feesFew}
+use Rattle.sound_fees.specs.Fees.{feesFew}
 use Rattle.soundness.specs.Book.{bookStands}
 use Rattle.records.specs.Encoding.{rowsOf, accountsOf}
 use Rattle.lists.specs.Tests.{allOf}

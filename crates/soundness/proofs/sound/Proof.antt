@@ -1,6 +1,6 @@
 -- `sound` meets its contract: the first test that fails decides, and behind the lengths and the header the rest is book_stands.
 use Rattle.soundness.proofs.SoundParts.{unfit-lengths, unfit-used, unfit-later, unfit-day, unfit-schedule, Fit, fit-sound, fit-bounds}
-use Rattle.sound_header.specs.Clauses.{tablesOn, restZero}
+use Rattle.sound_header.specs.Clauses.{tablesAt, restZero}
 use Rattle.sound_header.proofs.LengthLaws.{Lengths, lengths-known}
 use Rattle.rules.specs.Tables.{bookOf, usedFits, laterRowsZero, rowsUsed, roomIn}
 use Rattle.rules.specs.Opening.{dayFits}
@@ -53,7 +53,7 @@ unfolding bookOf
 returns-2 c =
     let d = c .before in
     let s = d .before .before .before .before in
-    sym (unfit-day (tablesOn (s .args .header .now) (s .args .accounts .now) (s .args .journal .now)) (ap dayFits (sym (d .before .get .ensures)) ∙ sym (d .day-fits .ensures) ∙ not-true _ (c .if2 .taken)))
+    sym (unfit-day (tablesAt (s .args .header .now) (s .args .accounts .now) (s .args .journal .now)) (ap dayFits (sym (d .before .get .ensures)) ∙ sym (d .day-fits .ensures) ∙ not-true _ (c .if2 .taken)))
 
 schedule-fits-requires : tie.Need-schedule-fits-requires
 schedule-fits-requires c κs = omega (arith, lengths (c .before .before .before) .words)
@@ -62,7 +62,7 @@ returns-3 : tie.Need-returns-3
 unfolding bookOf
 returns-3 c =
     let s = c .before .before .before .before .before .before .before in
-    sym (unfit-schedule (tablesOn (s .args .header .now) (s .args .accounts .now) (s .args .journal .now)) (sym (c .before .schedule-fits .ensures) ∙ not-true _ (c .if3 .taken)))
+    sym (unfit-schedule (tablesAt (s .args .header .now) (s .args .accounts .now) (s .args .journal .now)) (sym (c .before .schedule-fits .ensures) ∙ not-true _ (c .if3 .taken)))
 
 get-requires-2 : tie.Need-get-requires-2
 get-requires-2 c κs = omega (arith, lengths (c .before .before .before .before .before) .words)
@@ -71,7 +71,7 @@ returns-4 : tie.Need-returns-4
 unfolding usedFits
 returns-4 c =
     let s = c .before .before .before .before .before .before .before .before .before in
-    let t = tablesOn (s .args .header .now) (s .args .accounts .now) (s .args .journal .now) in
+    let t = tablesAt (s .args .header .now) (s .args .accounts .now) (s .args .journal .now) in
     sym (unfit-used t (lt-leb (rowsUsed t) (roomIn t) (omega (arith, c .before .get2 .ensures))))
 
 later-rows-zero-requires : tie.Need-later-rows-zero-requires
@@ -85,7 +85,7 @@ returns-5 c =
     let s = c .before .before .before .before .before .before .before .before .before .before .before in
     let n = c .before in
     let u = n .before .before in
-    sym (unfit-later (tablesOn (s .args .header .now) (s .args .accounts .now) (s .args .journal .now)) (unfold restZero in (rw (u .get2 .ensures) at (sym (n .later-rows-zero .ensures) ∙ not-true _ (c .if5 .taken)))))
+    sym (unfit-later (tablesAt (s .args .header .now) (s .args .accounts .now) (s .args .journal .now)) (unfold restZero in (rw (u .get2 .ensures) at (sym (n .later-rows-zero .ensures) ∙ not-true _ (c .if5 .taken)))))
 
 add-get : tie.Need-add-get
 add-get c = search needs

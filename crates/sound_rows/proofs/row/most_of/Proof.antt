@@ -1,5 +1,5 @@
 -- `most_of` meets its contract: each arm is the definition's entry, and a number that is no kind has none.
-use Rattle.sound_rows.proofs.RowLaws.{most-none}
+use Rattle.sound_tolls.proofs.RowLaws.{most-none}
 use Rattle.rules.specs.Soundness.{mostOf}
 use Rattle.sound_rows.proofs.row.most_of.Statement.{statement}
 use Rattle.sound_rows.proofs.row.most_of.Tie as tie

@@ -1,5 +1,5 @@
 -- `other_fits` meets its contract: the first test that fails decides; only a toll has a due day and a hold.
-use Rattle.sound_rows.proofs.RowLaws.{other-due, other-hold}
+use Rattle.sound_tolls.proofs.RowLaws.{other-due, other-hold}
 use Rattle.sound_header.specs.Clauses.{ownWords}
 use Rattle.lists.specs.Tests.{allOf}
 use borrow.Author.Tests.{not-true, not-false}

@@ -1,0 +1,2 @@
+pub mod AmountLaws
+pub mod TopUpLaws

@@ -1,0 +1,62 @@
+-- `sources_of` meets its contract: the sum is that of the rows passed.
+use Prim.Native.Nat.{_-_, _≤_}
+use native.Mathlib.Omega.{arith}
+use mathlib.Core.Path.{_≡_, refl}
+use Rattle.records.specs.Encoding.{rowsOf}
+use Rattle.lists.specs.Lists.{sumBy, tabulate}
+use Rattle.rules.specs.Rows.{sourceOf}
+use Rattle.rules.specs.Book.{sources}
+use Rattle.balances.proofs.AmountLaws.{amountIf, sum-fits, sum-more}
+use Rattle.balances.proofs.sources_of.Statement.{statement}
+use Rattle.balances.proofs.sources_of.Tie as tie
+
+abbrev Inv-loop : tie.InvT-loop
+Inv-loop journal used account sum₀ i₀ sum i = (i ≤ used) × (sum ≡ sumBy (amountIf (sourceOf account)) (rowsOf journal i))
+
+abbrev μ-loop : tie.MeasureT-loop
+μ-loop journal used account sum₀ i₀ sum i = used - i
+
+loop-holds : tie.Need-loop-holds Inv-loop μ-loop
+unfolding sumBy tabulate
+loop-holds c = (omega arith, refl)
+
+read-row-requires : tie.Need-read-row-requires Inv-loop μ-loop
+read-row-requires c κs = omega (arith, c .before .before .pre .room)
+
+source-amount-requires : tie.Need-source-amount-requires Inv-loop μ-loop
+source-amount-requires c κs = tt
+
+add-sum : tie.Need-add-sum Inv-loop μ-loop
+add-sum c =
+    let a = c .before .before .before in
+    omega (arith, sum-fits _ _ (a .before .pre) _ _ _ _ _ _ (c .before .before .loop-test .taken) (a .loop .inv .1) (c .before .read-row .ensures) (c .source-amount .ensures))
+
+add-i : tie.Need-add-i Inv-loop μ-loop
+add-i c = omega arith
+
+loop-less : tie.Need-loop-less Inv-loop μ-loop
+loop-less c = omega arith
+
+loop-again : tie.Need-loop-again Inv-loop μ-loop
+loop-again c =
+    let a = c .before .before .before in
+    (omega arith, sum-more _ _ (a .before .pre) _ _ _ _ _ (a .loop .inv .1) (c .before .read-row .ensures) (c .source-amount .ensures))
+
+returns : tie.Need-returns Inv-loop μ-loop
+unfolding sources
+returns c = let e : c .before .loop .i ≡ c .before .before .args .used = omega arith in rw e at (c .before .loop .inv .1)
+
+pub sources-of-spec : {M : Type 1} → statement M
+sources-of-spec =
+    tie.close
+    (tie.spec
+    Inv-loop
+    μ-loop
+    loop-holds
+    read-row-requires
+    source-amount-requires
+    add-sum
+    add-i
+    loop-less
+    loop-again
+    returns)

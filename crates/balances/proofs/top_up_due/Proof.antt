@@ -1,0 +1,58 @@
+-- `top_up_due` meets its contract.
+use borrow.Author.Needs.{needs}
+use borrow.Author.Tests.{not-true, not-false}
+use native.Mathlib.Omega.{arith}
+use Rattle.rules.proofs.TableLaws.{header-length}
+use Rattle.posting.proofs.BookLaws.{journal-summable}
+use Rattle.balances.proofs.TopUpLaws.{not-due, debits-fit, due-by-balance}
+use Rattle.balances.proofs.top_up_due.Statement.{statement}
+use Rattle.balances.proofs.top_up_due.Tie as tie
+
+account-numbered-requires : tie.Need-account-numbered-requires
+account-numbered-requires c κs = search needs
+
+get-requires : tie.Need-get-requires
+get-requires c κs = omega (arith, header-length _ (c .before .pre))
+
+returns : tie.Need-returns
+returns c =
+    let a = c .before .before .before .before .before in
+    not-due _ (a .before .pre) _ _ (a .account-numbered .ensures) _ (c .before .before .before .before .get .ensures) (not-true _ (c .if1 .taken))
+
+get-requires-2 : tie.Need-get-requires-2
+get-requires-2 c κs = omega (arith, header-length _ (c .before .before .before .before .before .before .pre))
+
+debits-of-requires : tie.Need-debits-of-requires
+debits-of-requires c κs = rw (c .get2 .ensures) (journal-summable _ (c .before .before .before .before .before .before .before .pre))
+
+add-limit : tie.Need-add-limit
+add-limit c =
+    let i = c .before .before .before in
+    let a = i .before .before .before .before .before in
+    omega (arith, debits-fit _ (a .before .pre) _ _ (a .account-numbered .ensures) _ _ (c .before .before .get2 .ensures) (c .before .debits-of .ensures))
+
+sources-of-requires : tie.Need-sources-of-requires
+sources-of-requires c κs =
+    let g = c .before .before in
+    rw (g .get2 .ensures) (journal-summable _ (g .before .before .before .before .before .before .before .pre))
+
+returns-2 : tie.Need-returns-2
+returns-2 c =
+    let d = c .before .before in
+    let i = d .before .before in
+    let a = i .before .before .before .before .before in
+    due-by-balance _ (a .before .pre) _ _ (a .account-numbered .ensures) _ _ (d .before .get2 .ensures) (d .debits-of .ensures) _
+    (i .before .before .before .before .get .ensures) (not-false _ (i .if1 .left)) _ (c .sources-of .ensures)
+
+pub top-up-due-spec : {M : Type 1} → statement M
+top-up-due-spec =
+    tie.close
+    (tie.spec
+    account-numbered-requires
+    get-requires
+    returns
+    get-requires-2
+    debits-of-requires
+    add-limit
+    sources-of-requires
+    returns-2)

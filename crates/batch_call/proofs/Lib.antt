@@ -1,0 +1,2 @@
+pub mod BatchCallLaws
+pub mod SinglyLaws

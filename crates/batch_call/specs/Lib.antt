@@ -1,0 +1,2 @@
+pub mod BatchCalls
+pub mod Singly

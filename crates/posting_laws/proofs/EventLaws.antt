@@ -1,0 +1,58 @@
+-- What events share that change no row: the account that an event names lies in the table, and the tables and the book after an account alone has changed.
+use mathlib.Core.Path.{_≡_, refl, sym, _∙_}
+use mathlib.Core.Bool.{Bool, true, false, not, _&&_}
+use Prim.Native.Nat.{ℕ, _-_, _≤_, _<_}
+use native.Mathlib.Omega.{arith}
+use mathlib.Core.List.{List}
+use lib.ListN.{length, length-set}
+use lib.IntN.{ℤ}
+use lib.Dec.{leb}
+use borrow.Author.Tests.{leb-true, not-false}
+use Rattle.lists.specs.Tests.{_is_, _from_to_}
+use Rattle.lists.proofs.TestLaws.{and-left, and-right, or-left}
+use Rattle.rules.specs.Book.{Account, Instruction, Unused, Book, account, putAccount}
+use Rattle.rules.specs.Refusals.{changeOf, after, unknown}
+use Rattle.rules.specs.Tables.{Tables, accountsIn, bookOf, soundTables}
+use Rattle.rules.proofs.TableLaws.{sound-book, sound-rows}
+use Rattle.preservation.proofs.NamedLaws.{settled-unmoved}
+use Rattle.tables.specs.Changes.{AccountChanged}
+use Rattle.tables.proofs.ChangeLaws.{changed-accounts}
+use Rattle.posting.specs.Posts.{tablesAt}
+use Rattle.posting.proofs.BookLaws.{day-read, used-read, room-read, schedule-read}
+use Rattle.posting_laws.proofs.WrittenLaws.{Written}
+
+-- ---- the account that an event other than a tick names is one of the table's, where refusal 3 does not apply
+
+pub known-inside : (b : Book) (e : Instruction) → e .kind is 9 ≡ false → unknown b e ≡ false → (1 ≤ e .account) × (e .account ≤ length (b .accounts))
+unfolding unknown
+known-inside b e k u =
+    let n : ℕ = e .account in
+    let i : n from 1 to length (b .accounts) ≡ true = not-false _ (or-left _ (not (e .kind is 1) && account b n .state is Unused) (rw k at u)) in (
+      leb-true 1 n (and-left (leb 1 n) (leb n (length (b .accounts))) i),
+      leb-true n (length (b .accounts)) (and-right (leb 1 n) (leb n (length (b .accounts))) i),
+    )
+
+-- ---- an account alone is changed
+
+module _ (t : Tables) (s : soundTables t ≡ true) where
+  pub account-written : (acc : List ℤ) (n : ℕ) (x : Account) → AccountChanged (t .accounts) acc (n - 1) x → n - 1 < accountsIn t
+      → Written t (tablesAt (t .header) acc (t .journal)) (putAccount n x (bookOf t))
+  account-written acc n x w l = record {
+    header-size = refl;
+    accounts-size = w .size;
+    journal-size = refl;
+    day = day-read t s;
+    used = used-read t s;
+    schedule = schedule-read t s;
+    accounts = changed-accounts (t .accounts) acc (n - 1) x w (accountsIn t) l ∙ (unfold bookOf in refl);
+    rows = rw (← used-read t s) (sym (sound-rows t s));
+    room = sym (room-read t s);
+    longer = omega (arith, used-read t s);
+    rest = λ k q. refl;
+  }
+
+  -- settlement finds nothing to move
+  pub after-account : (e : Instruction) (n : ℕ) (x : Account) → changeOf (e .kind) (bookOf t) e ≡ putAccount n x (bookOf t) → after (bookOf t) e ≡ putAccount n x (bookOf t)
+  unfolding after
+  after-account e n x c =
+      rw c (settled-unmoved (bookOf t) (putAccount n x (bookOf t)) (sound-book t s) refl (length-set (bookOf t .accounts) (n - 1) x))

@@ -1,0 +1,22 @@
+-- `top_up_fits` meets its contract: it is the clause.
+use Rattle.rules.specs.Soundness.{topUpFits}
+use borrow.Author.Needs.{needs}
+use Rattle.sound_accounts.proofs.top_up_fits.Statement.{statement}
+use Rattle.sound_accounts.proofs.top_up_fits.Tie as tie
+
+implies-requires : tie.Need-implies-requires
+implies-requires c κs = search needs
+
+implies-requires-2 : tie.Need-implies-requires-2
+implies-requires-2 c κs = search needs
+
+implies-requires-3 : tie.Need-implies-requires-3
+implies-requires-3 c κs = search needs
+
+returns : tie.Need-returns
+unfolding topUpFits
+returns c = cc
+
+pub top-up-fits-spec : {M : Type 1} → statement M
+top-up-fits-spec =
+    tie.close (tie.spec implies-requires implies-requires-2 implies-requires-3 returns)

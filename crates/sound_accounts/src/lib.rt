@@ -1,0 +1,67 @@
+// The clauses of soundness on an account by itself. Uses lists, records, rules, tables and, of sound_header, the tests.
+use records::Account;
+use sound_header::tests::between;
+use sound_header::tests::implies;
+use tables::codes::CLOSED;
+use tables::codes::OPEN;
+use tables::codes::PENDING;
+use tables::codes::UNUSED;
+use tables::limits::HIGHEST_TOP_UP;
+use tables::limits::MOST_DECLINES;
+ghost use mathlib.Core.Path.{_≡_};
+ghost use Rattle.rules.specs.Soundness.{stateFits, unusedZero, requestFits, topUpFits, declineFits};
+ghost use Rattle.sound_accounts.specs.Alone.{accountAlone};
+
+fn state_fits(x: Account) -> bool
+    ensures { λ b. ⌜ b ≡ stateFits x ⌝ }
+{
+    x.state <= CLOSED
+}
+
+fn unused_zero(x: Account) -> bool
+    ensures { λ b. ⌜ b ≡ unusedZero x ⌝ }
+{
+    let zero = (x.request == 0)
+        & (x.returned == 0)
+        & (x.threshold == 0)
+        & (x.topup == 0)
+        & (x.declines == 0)
+        & (x.declined == 0);
+    implies(x.state == UNUSED, zero)
+}
+
+fn request_fits(today: u64, x: Account) -> bool
+    ensures { λ b. ⌜ b ≡ requestFits today x ⌝ }
+{
+    implies(x.state == OPEN, x.request == 0)
+        & implies(PENDING <= x.state, between(1, x.request, today))
+}
+
+fn top_up_fits(x: Account) -> bool
+    ensures { λ b. ⌜ b ≡ topUpFits x ⌝ }
+{
+    let within = (x.threshold <= HIGHEST_TOP_UP)
+        & (x.topup <= HIGHEST_TOP_UP)
+        & (x.declines <= MOST_DECLINES);
+    let together = within
+        & implies(x.declines == 0, x.declined == 0)
+        & implies(x.declined == 0, x.declines == 0);
+    together & implies(x.topup == 0, (x.threshold == 0) & (x.declines == 0))
+}
+
+fn decline_fits(today: u64, x: Account) -> bool
+    ensures { λ b. ⌜ b ≡ declineFits today x ⌝ }
+{
+    x.declined <= today
+}
+
+// All that an account is tested for by itself.
+pub fn account_alone(today: u64, x: Account) -> bool
+    ensures { λ b. ⌜ b ≡ accountAlone today x ⌝ }
+{
+    state_fits(x)
+        & unused_zero(x)
+        & request_fits(today, x)
+        & top_up_fits(x)
+        & decline_fits(today, x)
+}

@@ -1,0 +1,96 @@
+// The clauses of soundness on a toll's own words and days. Each test returns at once, so that a sound row costs one well-predicted branch a
+// test. Uses lists, records, rules, tables and sound_header.
+use records::Row;
+use sound_header::tests::between;
+use sound_header::tests::implies;
+use tables::codes::HELD;
+use tables::codes::LAST_STAGE;
+use tables::codes::UPHELD;
+use tables::limits::HIGHEST_PASSAGE;
+ghost use mathlib.Core.Path.{_≡_};
+ghost use Prim.Native.Nat.{_≤_};
+ghost use Rattle.rules.specs.Limits.{finalDay, longestStage};
+ghost use Rattle.rules.specs.Rows.{Toll};
+ghost use Rattle.rules.specs.Soundness.{markFits, tollWordsFit, rowDayFits, dueFits, holdFits};
+ghost use Rattle.sound_header.specs.Clauses.{ownWords};
+
+// The last day of a hold is its 29th after the start: the tick to the 30th ends it.
+const HOLD_LASTS: u64 = 29;
+
+// The day of any row.
+pub fn row_day_fits(today: u64, r: Row) -> bool
+    ensures { λ b. ⌜ b ≡ rowDayFits today r ⌝ }
+{
+    between(1, r.day, today)
+}
+
+fn stage_fits(r: Row) -> bool
+    requires { ⌜ r .kind ≡ Toll ⌝ }
+    ensures { λ b. ⌜ b ≡ markFits r ⌝ }
+{
+    r.mark <= LAST_STAGE
+}
+
+fn toll_words_fit(r: Row) -> bool
+    requires { ⌜ r .kind ≡ Toll ⌝ }
+    ensures { λ b. ⌜ b ≡ tollWordsFit r ⌝ }
+{
+    if r.dispute > UPHELD {
+        return false;
+    }
+    between(1, r.reference, HIGHEST_PASSAGE)
+}
+
+fn due_fits(today: u64, stage: u64, r: Row) -> bool
+    requires { ⌜ (r .kind ≡ Toll) × (today ≤ finalDay) × (stage ≤ longestStage) ⌝ }
+    ensures { λ b. ⌜ b ≡ dueFits today stage r ⌝ }
+{
+    if r.due > today + stage {
+        return false;
+    }
+    if r.settled >= r.amount {
+        return 1 <= r.due;
+    }
+    if r.dispute == HELD {
+        return 1 <= r.due;
+    }
+    if r.mark >= LAST_STAGE {
+        return 1 <= r.due;
+    }
+    today < r.due
+}
+
+// A hold that starts after today is met before the sums, so that none of them wraps.
+fn hold_fits(today: u64, stage: u64, r: Row) -> bool
+    requires { ⌜ (r .kind ≡ Toll) × (today ≤ finalDay) × (stage ≤ longestStage) ⌝ }
+    ensures { λ b. ⌜ b ≡ holdFits today stage r ⌝ }
+{
+    if r.dispute != HELD {
+        return r.hold == 0;
+    }
+    if r.hold > today {
+        return false;
+    }
+    let started = (1 <= r.hold) & (today <= r.hold + HOLD_LASTS) & (r.hold <= today);
+    let after = implies(r.mark < LAST_STAGE, r.hold < r.due);
+    started & (r.settled < r.amount) & (r.due <= r.hold + stage) & after
+}
+
+pub fn toll_fits(today: u64, stage: u64, r: Row) -> bool
+    requires { ⌜ (r .kind ≡ Toll) × (today ≤ finalDay) × (stage ≤ longestStage) ⌝ }
+    ensures { λ b. ⌜ b ≡ ownWords today stage r ⌝ }
+{
+    if !stage_fits(r) {
+        return false;
+    }
+    if !toll_words_fit(r) {
+        return false;
+    }
+    if !row_day_fits(today, r) {
+        return false;
+    }
+    if !due_fits(today, stage, r) {
+        return false;
+    }
+    hold_fits(today, stage, r)
+}

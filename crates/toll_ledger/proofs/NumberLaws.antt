@@ -1,0 +1,58 @@
+-- The numbers that the calls give are small.
+use mathlib.Core.Bool.{Bool, true, false, not, cond}
+use mathlib.Core.Path.{_≡_, refl}
+use Prim.Native.Nat.{ℕ, _+_, _^_, _≤_, _<_}
+use native.Mathlib.Omega.{arith}
+use mathlib.Core.List.{List, [], _∷_}
+use lib.IntN.{ℤ}
+use lib.Dec.{eqb}
+use Rattle.lists.specs.Tests.{_is_, first}
+use Rattle.records.specs.Encoding.{instructionFrom}
+use Rattle.rules.specs.Book.{Book, Instruction}
+use Rattle.rules.specs.Refusals.{answerNumber}
+use Rattle.rules.specs.Posting.{acceptance, refusalBy, post}
+use Rattle.rules.specs.Tables.{Tables, bookOf}
+use Rattle.rules.specs.Calls.{openRefusals, openCall, eventRefusals, eventCall, questionRefusals, question, balanceCall, topUpDueCall}
+use Rattle.rules.proofs.PostingLaws.{post-refused, post-accepted}
+use Rattle.answering.proofs.AnswerLaws.{number-le}
+
+small-first : (m n : ℕ) (a b : Bool) → m + n ≤ 14 → first ((m, a) ∷ (n, b) ∷ []) ≤ 14
+unfolding first
+small-first m n true b h = omega arith
+small-first m n false true h = omega arith
+small-first m n false false h = omega arith
+
+pub open-small : (t : Tables) (w : List ℤ) → openCall t w .number ≤ 14
+unfolding openCall openRefusals
+open-small t w = small-first 1 2 _ _ (omega arith)
+
+question-small : (f : Book → ℕ → ℤ) (t : Tables) (a : ℤ) → question f t a .number ≤ 14
+unfolding question questionRefusals
+question-small f t a = small-first 1 3 _ _ (omega arith)
+
+pub balance-small : (t : Tables) (a : ℤ) → balanceCall t a .number ≤ 14
+unfolding balanceCall
+balance-small t a = question-small _ t a
+
+pub due-small : (t : Tables) (a : ℤ) → topUpDueCall t a .number ≤ 14
+unfolding topUpDueCall
+due-small t a = question-small _ t a
+
+pub event-small : (t : Tables) (e w : List ℤ) → eventCall t e w .number ≤ 14
+unfolding eventCall eventRefusals
+event-small t e w = go (first (eventRefusals t e w) is 0) (eqb (answerNumber b x) 0) refl
+  where
+    b : Book
+    b = bookOf t
+
+    x : Instruction
+    x = instructionFrom e
+
+    go : (c v : Bool) → eqb (answerNumber b x) 0 ≡ v → cond c (post b x .answer) (refusalBy (first (eventRefusals t e w))) .number ≤ 14
+    go true true q = rw (post-accepted b x q) (unfold acceptance in (omega arith))
+    go true false q = rw (post-refused b x q) (number-le b x)
+    go false v q = small-first 1 2 _ _ (omega arith)
+
+-- so a signed word holds them
+pub small-fits : (n m : ℕ) → n ≡ m → m ≤ 14 → n < 2 ^ 63
+small-fits n m e h = omega arith

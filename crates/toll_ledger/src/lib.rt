@@ -1,0 +1,98 @@
+// The calls that C hosts link: each thin over the call of the same name, its contract that call's own, with no `requires`. Every table is
+// a pointer and its length in words; include/toll_ledger.h declares them. Uses rules, tables, opening, event_call, batch_call and questions.
+use batch_call::batch_refusal;
+use batch_call::post_record;
+use event_call::event_call;
+use opening::open_book;
+use questions::balance;
+use questions::top_up_due;
+use records::Event;
+ghost use mathlib.Core.Path.{_≡_};
+ghost use lib.IntN.{pos};
+ghost use Rattle.rules.specs.Tables.{tablesAt};
+ghost use Rattle.rules.specs.Calls.{openCall, eventCall, balanceCall, topUpDueCall};
+ghost use Rattle.batch_call.specs.BatchCalls.{Batches};
+
+// Opens a book: eleven words, the first day and the schedule.
+#[no_mangle]
+pub extern "C" fn toll_ledger_open(
+    header: &mut [i64],
+    accounts: &mut [i64],
+    journal: &mut [i64],
+    schedule: &[i64],
+) -> i64
+    ensures { λ r. ⌜ (r ≡ pos (openCall (tablesAt (now (header .entry)) (now (accounts .entry)) (now (journal .entry))) (now (schedule .entry)) .number)) × (tablesAt (now (header .exit)) (now (accounts .exit)) (now (journal .exit)) ≡ openCall (tablesAt (now (header .entry)) (now (accounts .entry)) (now (journal .entry))) (now (schedule .entry)) .tables) ⌝ }
+{
+    open_book(header, accounts, journal, schedule) as i64
+}
+
+// Posts one event of seven words; the answer's five words are written wherever there is room for them.
+#[no_mangle]
+pub extern "C" fn toll_ledger_event(
+    header: &mut [i64],
+    accounts: &mut [i64],
+    journal: &mut [i64],
+    event: &[i64],
+    answer: &mut [i64],
+) -> i64
+    ensures { λ r. ⌜ (r ≡ pos (eventCall (tablesAt (now (header .entry)) (now (accounts .entry)) (now (journal .entry))) (now (event .entry)) (now (answer .entry)) .number)) × (tablesAt (now (header .exit)) (now (accounts .exit)) (now (journal .exit)) ≡ eventCall (tablesAt (now (header .entry)) (now (accounts .entry)) (now (journal .entry))) (now (event .entry)) (now (answer .entry)) .tables) × (now (answer .exit) ≡ eventCall (tablesAt (now (header .entry)) (now (accounts .entry)) (now (journal .entry))) (now (event .entry)) (now (answer .entry)) .answers) ⌝ }
+{
+    event_call(header, accounts, journal, event, answer) as i64
+}
+
+// The account's balance, 0 where the question is refused.
+#[no_mangle]
+pub extern "C" fn toll_ledger_balance(
+    header: &[i64],
+    accounts: &[i64],
+    journal: &[i64],
+    account: i64,
+    value: &mut i64,
+) -> i64
+    ensures { λ r. ⌜ (r ≡ pos (balanceCall (tablesAt (now (header .entry)) (now (accounts .entry)) (now (journal .entry))) account .number)) × (now (value .exit) ≡ balanceCall (tablesAt (now (header .entry)) (now (accounts .entry)) (now (journal .entry))) account .value) ⌝ }
+{
+    let r = balance(header, accounts, journal, account);
+    let v = r.value;
+    *value = v;
+    r.number as i64
+}
+
+// 1 where the account's top-up is due, 0 where it is not or the question is refused.
+#[no_mangle]
+pub extern "C" fn toll_ledger_topup_due(
+    header: &[i64],
+    accounts: &[i64],
+    journal: &[i64],
+    account: i64,
+    value: &mut i64,
+) -> i64
+    ensures { λ r. ⌜ (r ≡ pos (topUpDueCall (tablesAt (now (header .entry)) (now (accounts .entry)) (now (journal .entry))) account .number)) × (now (value .exit) ≡ topUpDueCall (tablesAt (now (header .entry)) (now (accounts .entry)) (now (journal .entry))) account .value) ⌝ }
+{
+    let r = top_up_due(header, accounts, journal, account);
+    let v = r.value;
+    *value = v;
+    r.number as i64
+}
+
+// Posts the events in order, going on after a refusal, and gives 0; a batch that is refused writes nothing.
+#[no_mangle]
+pub extern "C" fn toll_ledger_batch(
+    header: &mut [i64],
+    accounts: &mut [i64],
+    journal: &mut [i64],
+    events: &[Event],
+    answers: &mut [i64],
+) -> u64
+    ensures { λ n. ⌜ Batches (tablesAt (now (header .entry)) (now (accounts .entry)) (now (journal .entry))) (tablesAt (now (header .exit)) (now (accounts .exit)) (now (journal .exit))) (now (events .entry)) (now (answers .entry)) (now (answers .exit)) n ⌝ }
+{
+    let n = batch_refusal(header, accounts, journal, events.len(), answers);
+    if n != 0 {
+        return n;
+    }
+    let mut i: usize = 0;
+    while i < events.len() {
+        post_record(header, accounts, journal, answers, i, events[i]);
+        i += 1;
+    }
+    0
+}
