@@ -71,12 +71,13 @@ pub const WORDS: [i64; 30] = [
 pub struct Host {
     passage: i64,
     ticks: i64,
-    pays: bool, // debts are paid soon, so that accounts close
+    pays: bool,  // debts are paid soon, so that accounts close
+    fill: usize, // tolls and payments alone, until so many rows are used
 }
 
 impl Host {
-    pub fn new(random: &mut Random) -> Host {
-        Host { passage: random.pick(&[0, 40, 999_000_000]), ticks: 0, pays: random.once_in(2) }
+    pub fn new(random: &mut Random, fill: usize) -> Host {
+        Host { passage: random.pick(&[0, 40, 999_000_000]), ticks: 0, pays: random.once_in(2), fill }
     }
 
     /// The next event for a book.
@@ -100,7 +101,8 @@ impl Host {
                 return payment(random, book, n);
             }
         }
-        let fit = match random.below(100) {
+        let die = if book.rows.len() < self.fill { random.range(7, 42) } else { random.below(100) };
+        let fit = match die {
             0..=6 => account(random, book, |n| state(n) == 0).map(|n| open(random, n)),
             7..=29 => None,
             30..=42 => account(random, book, |n| matches!(state(n), 1 | 2)).map(|n| payment(random, book, n)),
@@ -138,7 +140,10 @@ impl Host {
         let height = random.pick(&[0, 60, 90, 91, 200, 999]);
         let height = if axles == 1 && !random.once_in(6) { height.min(90) } else { height };
         let open = account(random, book, |n| matches!(book.accounts[n as usize - 1].state, 1 | 2));
-        let Some(n) = open else { return open_any(random, book) };
+        let Some(n) = open else {
+            let unused = (1..=book.accounts.len() as i64).find(|n| book.accounts[*n as usize - 1].state == 0);
+            return unused.map_or([9, 0, 0, 0, 0, 0, 0], |n| self::open(random, n));
+        };
         [2, n, passage, day, axles, height, random.range(1, 2)]
     }
 }
@@ -161,11 +166,6 @@ fn open(random: &mut Random, n: i64) -> [i64; 7] {
     let amount = random.pick(&[0, 1, 500, 2000, 1_000_000]);
     let threshold = if amount == 0 { 0 } else { random.pick(&[0, 100, 5000, 1_000_000]) };
     [1, n, threshold, amount, 0, 0, 0]
-}
-
-fn open_any(random: &mut Random, book: &Book) -> [i64; 7] {
-    let n = random.range(1, book.accounts.len() as i64);
-    open(random, n)
 }
 
 /// Often just what is owed, or a cent beside it.

@@ -18,6 +18,7 @@ pub struct Met {
     pub refunds: u64,
     pub reopened: u64,
     pub full: u64,
+    pub largest: u64, // rows used in the last book of a list of large ones
 }
 
 impl Met {
@@ -89,18 +90,25 @@ fn next_call(random: &mut Random, host: &mut Host, pair: &Pair, longest: i64, me
     Call::Batch { answers: (5 * events.len() as i64 + spare).max(0) as usize, events }
 }
 
-/// Opens a book and makes calls until so many events have been sent.
-pub fn run(random: &mut Random, opening: Opening, events: u64, longest: i64, met: &mut Met) -> Result<Pair, Failure> {
+/// How a list is made: how many events at least, how many in a batch at most, and how many rows are filled first.
+pub struct Plan {
+    pub events: u64,
+    pub longest: i64,
+    pub fill: usize,
+}
+
+/// Opens a book and makes calls.
+pub fn run(random: &mut Random, opening: Opening, plan: &Plan, met: &mut Met) -> Result<Pair, Failure> {
     let mut pair = Pair::new(opening.tables());
     let mut calls = vec![Call::Open(opening.schedule.clone())];
-    let mut host = Host::new(random);
-    let end = met.events + events;
+    let mut host = Host::new(random, plan.fill);
+    let end = met.events + plan.events;
     met.lists += 1;
     if let Err(difference) = pair.call(&calls[0]) {
         return Err(Failure { opening, calls, difference });
     }
     while met.events < end {
-        let call = next_call(random, &mut host, &pair, longest, met);
+        let call = next_call(random, &mut host, &pair, plan.longest, met);
         calls.push(call);
         if let Err(difference) = pair.call(&calls[calls.len() - 1]) {
             return Err(Failure { opening, calls, difference });

@@ -10,6 +10,7 @@ mod pair;
 mod random;
 
 use generate::{Host, Opening};
+use lists::Plan;
 use pair::Pair;
 use random::Random;
 
@@ -40,13 +41,14 @@ fn small_books(seed: u64, met: &mut lists::Met, damaged: &mut damage::Met) {
         let accounts = random.pick(&[1, 2, 3, 3, 5, 9]);
         let rows = random.pick(&[1, 3, 12, 40, 90, 160, 240, 240]);
         let opening = Opening::new(random, accounts, rows);
-        let pair = lists::run(random, opening, EVENTS, 30, met).unwrap_or_else(|f| stop(seed, number, f));
+        let plan = Plan { events: EVENTS, longest: 30, fill: 0 };
+        let pair = lists::run(random, opening, &plan, met).unwrap_or_else(|f| stop(seed, number, f));
         damage_book(seed, number, DAMAGES, random, &pair, damaged);
     }
 }
 
 fn damage_book(seed: u64, number: u64, times: u64, random: &mut Random, pair: &Pair, met: &mut damage::Met) {
-    let mut host = Host::new(random);
+    let mut host = Host::new(random, 0);
     for i in 0..times {
         let one = &mut Random::new(seed, (number + 1) << 32 | i);
         damage::run(one, &mut host, &pair.tables, met).unwrap_or_else(|f| stop_damaged(seed, number, i, f));
@@ -55,14 +57,17 @@ fn damage_book(seed: u64, number: u64, times: u64, random: &mut Random, pair: &P
 
 /// Books of the largest sizes, few of them: the model takes its time.
 fn large_books(seed: u64, met: &mut lists::Met, damaged: &mut damage::Met) {
-    for (i, (accounts, rows, events, longest)) in
-        [(256, 8192, 500, 300), (12, 8192, 9000, 4096), (256, 700, 1200, 400)].into_iter().enumerate()
-    {
-        let number = LISTS + i as u64;
+    let plans = [
+        (256, 8192, Plan { events: 600, longest: 300, fill: 0 }),
+        (4, 8192, Plan { events: 12_000, longest: 4096, fill: 8192 }),
+        (256, 700, Plan { events: 1200, longest: 400, fill: 600 }),
+    ];
+    for (number, (accounts, rows, plan)) in (LISTS..).zip(plans) {
         let random = &mut Random::new(seed, number);
         let opening = Opening::new(random, accounts, rows);
-        let pair = lists::run(random, opening, events, longest, met).unwrap_or_else(|f| stop(seed, number, f));
-        damage_book(seed, number, 40, random, &pair, damaged);
+        let pair = lists::run(random, opening, &plan, met).unwrap_or_else(|f| stop(seed, number, f));
+        damage_book(seed, number, 25, random, &pair, damaged);
+        met.largest = met.largest.max(pair.tables.header[1] as u64);
     }
 }
 
@@ -79,6 +84,7 @@ fn enough(met: &lists::Met, damaged: &damage::Met) -> Result<(), String> {
         ("closed accounts pending again", met.reopened, 10),
         ("top-ups removed", met.removed, 50),
         ("events that left a full journal", met.full, 500),
+        ("rows in the largest journal", met.largest, 8192),
         ("damaged books", damaged.books, 20_000),
         ("damaged books in a hundred that are sound", 100 * damaged.sound / damaged.books, 5),
         ("damaged lengths", damaged.lengths, 2_000),
