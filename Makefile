@@ -11,7 +11,7 @@ CC = cc
 CFLAGS = -O2 -std=c11 -Wall -Wextra -Wpedantic -Wconversion
 LIBRARY = target/staticlib/libtoll_ledger.a
 
-.PHONY: build install uninstall host test clean
+.PHONY: build install uninstall host test times clean
 
 build:
 	$(RT) staticlib toll_ledger
@@ -40,5 +40,10 @@ uninstall:
 test: $(LIBRARY)
 	tests/run
 
+# How long calls take on this machine.
+times: $(LIBRARY)
+	$(CC) $(CFLAGS) -Iinclude -o target/times tests/c/times.c tests/c/book.c $(LIBRARY)
+	target/times
+
 clean:
-	rm -rf target/tests target/host $(LIBRARY)
+	rm -rf target/tests target/host target/times $(LIBRARY)

@@ -17,7 +17,7 @@
  *   - tables handed to one call don't overlap, nor the value of a question any of them;
  *   - no other thread writes a table during a call that is lent it, nor reads one that the call may
  *     write. Calls on different books may run at once;
- *   - the calling thread has the free stack that docs/HOSTS.md names.
+ *   - the calling thread has 192 KiB of free stack.
  */
 #ifndef TOLL_LEDGER_H
 #define TOLL_LEDGER_H

@@ -125,6 +125,7 @@ static void small_stack(void)
         while (untouched < STACK && stack[untouched] == 0xa5)
             untouched++;
         printf("stack of 256 KiB: %zu KiB written\n", (STACK - untouched + 1023) / 1024);
+        CHECK(STACK - untouched <= 192 * 1024); /* what the header asks of a host */
     }
     free_book(&p.book);
     CHECK(munmap(region, STACK + 65536) == 0);
