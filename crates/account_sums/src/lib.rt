@@ -1,12 +1,12 @@
 // What the rows come to for each account, in one pass, as arrays by account number: returned checks, used sources, unused money, settled
 // debits, debts that settlement may pay, and all that is unsettled. Uses lists, records, rules and tables.
 use row_tests::is_held;
+use table_rows::kind_at;
+use table_rows::read_row;
 use tables::codes::CHECK_RETURNED;
 use tables::codes::CREDIT;
 use tables::codes::PAYMENT;
 use tables::limits::MOST_ACCOUNTS;
-use tables::rows::kind_at;
-use tables::rows::read_row;
 ghost use mathlib.Core.Path.{_≡_};
 ghost use mathlib.Core.Bool.{true, false, cond};
 ghost use Prim.Native.Nat.{_+_, _^_, _<_};

@@ -3,12 +3,12 @@
 use records::Row;
 use row_tests::is_debit;
 use row_tests::is_source;
-use tables::accounts::account_numbered;
+use table_accounts::account_numbered;
+use table_rows::read_row;
 use tables::codes::OPEN;
 use tables::layout::ACCOUNT_WIDTH;
 use tables::layout::DAY_PLACE;
 use tables::layout::USED_PLACE;
-use tables::rows::read_row;
 use tables::words::get;
 ghost use mathlib.Core.Path.{_≡_};
 ghost use mathlib.Core.Bool.{true};

@@ -1,10 +1,10 @@
 // The fees of a toll: summed with it, and settled whole.
 use records::Row;
 use row_tests::remaining_of;
+use table_rows::put_settled;
+use table_rows::read_row;
+use table_rows::row_numbered;
 use tables::codes::FEE;
-use tables::rows::put_settled;
-use tables::rows::read_row;
-use tables::rows::row_numbered;
 ghost use mathlib.Core.Path.{_≡_};
 ghost use Prim.Native.Nat.{_^_, _<_};
 ghost use Rattle.records.specs.Encoding.{rowAt, rowsOf};

@@ -7,7 +7,7 @@ use posting::rows::new_row;
 use records::Answer;
 use records::Instruction;
 use settlement::settle;
-use tables::accounts::account_numbered;
+use table_accounts::account_numbered;
 use tables::codes::CHECK;
 use tables::codes::CLOSED;
 use tables::codes::PAYMENT;

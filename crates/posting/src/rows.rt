@@ -1,8 +1,8 @@
 // A row added to the journal, and the count of used rows with it.
 use records::Row;
+use table_rows::write_row;
 use tables::codes::ENDED;
 use tables::layout::USED_PLACE;
-use tables::rows::write_row;
 use tables::words::get;
 use tables::words::put;
 ghost use mathlib.Core.Path.{_≡_};

@@ -3,7 +3,7 @@
 use balances::debits_of;
 use balances::sources_of;
 use soundness::sound;
-use tables::accounts::account_numbered;
+use table_accounts::account_numbered;
 use tables::codes::UNUSED;
 use tables::layout::ACCOUNT_WIDTH;
 use tables::layout::ROW_WIDTH;

@@ -1,5 +1,6 @@
 // Tests on a row as a value: what remains of it, whether it is a source, a debit, held. Uses lists, records, rules and tables.
 use records::Row;
+use table_rows::row_numbered;
 use tables::codes::CREDIT;
 use tables::codes::FEE;
 use tables::codes::HELD;
@@ -7,7 +8,6 @@ use tables::codes::PAYMENT;
 use tables::codes::REFUND;
 use tables::codes::REVERSAL;
 use tables::codes::TOLL;
-use tables::rows::row_numbered;
 ghost use mathlib.Core.Path.{_≡_};
 ghost use Prim.Native.Nat.{_*_, _≤_};
 ghost use lib.ListN.{length};

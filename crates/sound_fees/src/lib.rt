@@ -1,12 +1,12 @@
 // "A toll of stage k is named by at most k - 1 fees": the fees that name each row are counted, then each toll is looked at. Uses lists,
 // records, rules, tables, account_sums (tallies) and, of sound_header, the tests.
 use sound_header::tests::implies;
+use table_rows::kind_at;
+use table_rows::mark_at;
+use table_rows::reference_at;
 use tables::codes::FEE;
 use tables::codes::TOLL;
 use tables::limits::MOST_ROWS;
-use tables::rows::kind_at;
-use tables::rows::mark_at;
-use tables::rows::reference_at;
 ghost use mathlib.Core.Path.{_≡_};
 ghost use Prim.Native.Nat.{_+_, _*_, _-_, _≤_, _<_};
 ghost use lib.ListN.{length};

@@ -3,15 +3,15 @@
 use records::Row;
 use sound_header::tests::implies;
 use sound_rows::row::row_alone;
-use tables::accounts::account_numbered;
+use table_accounts::account_numbered;
+use table_rows::read_row;
+use table_rows::row_numbered;
 use tables::codes::CREDIT;
 use tables::codes::FEE;
 use tables::codes::PAYMENT;
 use tables::codes::REVERSAL;
 use tables::codes::TOLL;
 use tables::codes::UNUSED;
-use tables::rows::read_row;
-use tables::rows::row_numbered;
 ghost use mathlib.Core.Path.{_≡_};
 ghost use mathlib.Core.Bool.{_&&_};
 ghost use Prim.Native.Nat.{_+_, _*_, _≤_, _<_};

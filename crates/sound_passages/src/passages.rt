@@ -1,8 +1,8 @@
 // "Passage numbers differ", in linear time: the tolls read so far stand in digital search trees, so that no choice of numbers makes
 // a way down longer than the bits that tell two numbers apart.
+use table_rows::kind_at;
+use table_rows::reference_at;
 use tables::codes::TOLL;
-use tables::rows::kind_at;
-use tables::rows::reference_at;
 ghost use mathlib.Core.Path.{_≡_};
 ghost use Prim.Native.Nat.{_+_, _*_, _≤_, _<_};
 ghost use lib.ListN.{length};

@@ -4,7 +4,7 @@ use account_sums::add_rows;
 use records::Account;
 use sound_accounts::account_alone;
 use sound_header::tests::implies;
-use tables::accounts::read_account;
+use table_accounts::read_account;
 use tables::codes::CLOSED;
 ghost use mathlib.Core.Path.{_≡_};
 ghost use Prim.Native.Nat.{_+_, _*_, _≤_, _<_};

@@ -4,7 +4,7 @@ use account_sums::add;
 use account_sums::part;
 use row_tests::is_source;
 use row_tests::remaining_of;
-use tables::rows::read_row;
+use table_rows::read_row;
 ghost use mathlib.Core.Path.{_≡_};
 ghost use Prim.Native.Nat.{_+_, _<_};
 ghost use Rattle.account_sums.specs.Tallies.{Countable};

@@ -1,6 +1,6 @@
 // The fee rows that a tick adds.
 use records::Row;
-use tables::rows::read_row;
+use table_rows::read_row;
 use tick_base::stages::fee_due;
 ghost use mathlib.Core.Path.{_≡_};
 ghost use Prim.Native.Nat.{ℕ, _*_, _≤_};

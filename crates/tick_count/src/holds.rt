@@ -4,7 +4,7 @@ use account_sums::add;
 use account_sums::part;
 use records::Row;
 use row_tests::held_toll;
-use tables::rows::read_row;
+use table_rows::read_row;
 use tick_base::days::hold_ends;
 ghost use mathlib.Core.Path.{_≡_};
 ghost use mathlib.Core.Bool.{not, _&&_};

@@ -1,7 +1,7 @@
 // The accounts that will close with money left.
 use account_sums::SEATS;
 use records::Account;
-use tables::accounts::read_account;
+use table_accounts::read_account;
 use tick_base::days::days_over;
 ghost use mathlib.Core.Path.{_≡_};
 ghost use Prim.Native.Nat.{_*_, _≤_};

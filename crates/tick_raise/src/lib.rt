@@ -3,13 +3,13 @@
 use posting::rows::add_row;
 use posting::rows::new_row;
 use records::Row;
+use table_rows::read_row;
+use table_rows::write_row;
 use tables::codes::FEE;
 use tables::layout::DAY_PLACE;
 use tables::layout::HEADER_SCHEDULE;
 use tables::layout::STAGE_PLACE;
 use tables::layout::USED_PLACE;
-use tables::rows::read_row;
-use tables::rows::write_row;
 use tables::words::get;
 use tick_base::stages::fee_of_stage;
 use tick_base::stages::is_rising;

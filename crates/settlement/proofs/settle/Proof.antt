@@ -19,7 +19,7 @@ use Rattle.settlement.proofs.lesser.Reads as lesser-reads
 use Rattle.settlement.proofs.next_debit.Reads as next-debit-reads
 use Rattle.settlement.proofs.unused.Reads as unused-reads
 use Rattle.settlement.proofs.wanted.Reads as wanted-reads
-use Rattle.tables.proofs.rows.read_row.Reads as read-row-reads
+use Rattle.table_rows.proofs.read_row.Reads as read-row-reads
 
 abbrev Inv-loop : tie.InvT-loop
 Inv-loop journal₀ used account i j₀ x₀ journal j x =
