@@ -14,9 +14,11 @@ LIBRARY = target/staticlib/libtoll_ledger.a
 .PHONY: build install uninstall host test times clean
 
 build:
+	$(RT) check toll_ledger
 	$(RT) staticlib toll_ledger
 
 $(LIBRARY):
+	$(RT) check toll_ledger
 	$(RT) staticlib toll_ledger
 
 # The example host, against the library as it stands here.
