@@ -81,6 +81,11 @@ digits-some : (n : ℕ) → 1 ≤ length (digitsOf n)
 unfolding digitsOf digitsWithin
 digits-some n = rw (length-append (cond (ltb n 10) [] (digitsWithin 19 (n / 10))) ((48 + n % 10) ∷ [])) (omega arith)
 
+-- a number below 10 ^ m has at most m digits
+pub digits-short : (m n : ℕ) → n < 10 ^ suc m → length (digitsOf n) ≤ suc m
+unfolding digitsOf
+digits-short m n h = digits-few m 20 n h
+
 -- a text has at most 20 bytes
 pub text-short : (z : ℤ) → SFits w64 z → length (textOf z) ≤ 20
 unfolding textOf digitsOf

@@ -56,16 +56,16 @@ pub length-digits : (k n : ℕ) → length (digits 10 k n) ≡ k
 length-digits zero n = refl
 length-digits (suc k) n = length-append (digits 10 k (n / 10)) (glyph (n % 10) ∷ []) ∙ omega (arith, length-digits k (n / 10))
 
--- the fewest digits of a number below 10 ^ 19 are at most 19
-pub fewest-19 : (n k : ℕ) → Fewest 10 1 n k → n < 10 ^ 19 → k ≤ 19
-fewest-19 n k f h = le-of-suc-le-suc (lt-of-not-le more)
+-- the fewest digits of a number below 10 ^ m are at most m
+fewest-within : (m n k : ℕ) → Fewest 10 1 n k → n < 10 ^ m → 1 ≤ m → k ≤ m
+fewest-within m n k f h some = le-of-suc-le-suc (lt-of-not-le more)
   where
-    more : 19 < k → ⊥
+    more : m < k → ⊥
     more over =
         let p : 10 ^ (k - 1) ≤ n = f .2 (omega arith) in
         let one : 0 < 10 = omega arith in
-        let few : 19 ≤ k - 1 = omega arith in
-        let q : 10 ^ 19 ≤ 10 ^ (k - 1) = pow-le-pow-right one few in
+        let few : m ≤ k - 1 = omega arith in
+        let q : 10 ^ m ≤ 10 ^ (k - 1) = pow-le-pow-right one few in
         omega arith
 
 glyph-digit : (d : ℕ) → d < 10 → glyph d ≡ 48 + d
@@ -101,14 +101,13 @@ fewest-digits (suc (suc k)) (suc j) n h f =
         let q : 10 ^ 1 ≤ 10 ^ (suc (suc k) - 1) = pow-le-pow-right one few in
         omega arith
 
--- what the kit's digits of a number give, where it is at most 2 ^ 63
-pub spelled : (n k : ℕ) (text : List ℕ) → n ≤ 2 ^ 63 → Fewest 10 1 n k → take k text ≡ digits 10 k n
-    → (take k text ≡ digitsOf n) × (length (digitsOf n) ≡ k) × (k ≤ 19)
+-- what the kit's digits of a 64-bit number give
+pub spelled : (n k : ℕ) (text : List ℕ) → n < 10 ^ 20 → Fewest 10 1 n k → take k text ≡ digits 10 k n
+    → (take k text ≡ digitsOf n) × (length (digitsOf n) ≡ k)
 unfolding digitsOf
 spelled n k text h f e =
-    let few : k ≤ 19 = fewest-19 n k f (omega arith) in
-    let same : digits 10 k n ≡ digitsWithin 20 n = fewest-digits k 20 n (omega arith) f in
-    (e ∙ same, ap length (sym same) ∙ length-digits k n, few)
+    let same : digits 10 k n ≡ digitsWithin 20 n = fewest-digits k 20 n (fewest-within 20 n k f h (omega arith)) f in
+    (e ∙ same, ap length (sym same) ∙ length-digits k n)
 
 -- the part from a place on holds a text for which there is room
 pub part-room : (b : List ℕ) (at : ℕ) (t : List ℕ) → at + length t ≤ length b → length t ≤ length (take (length b - at) (drop at b))

@@ -33,9 +33,9 @@ fn negate(n: u64) -> i64
 
 // ---- writing
 
-// Writes the digits of a number: at most 19, since it is no more than 2^63.
-fn write_digits(buffer: &mut [u8], at: usize, n: u64) -> usize
-    requires { ⌜ (at + 19 ≤ length (now buffer)) × (n ≤ 2 ^ 63) ⌝ }
+// Writes the digits of a number where there is room for them, and returns where they end. Every other byte stays.
+pub fn write_digits(buffer: &mut [u8], at: usize, n: u64) -> usize
+    requires { ⌜ at + length (digitsOf n) ≤ length (now buffer) ⌝ }
     ensures { λ r. ⌜ r ≡ at + length (digitsOf n) ⌝ }
     ensures { λ _. ⌜ now (buffer .exit) ≡ written (now (buffer .entry)) at (digitsOf n) ⌝ }
 {

@@ -32,14 +32,14 @@ copy-requires c κs =
     let d = c .before .before .decimal in
     let a = c .before .before .before .before .before .args in
     let s = spelled (a .n) (d .result) (d .last .1 .0) (omega arith) (d .ensures .1 .0) (d .ensures .1 .1) in
-    part-room (a .buffer .now) (a .at) (take (d .result) (d .last .1 .0)) (rw (s .0, s .1) (omega (arith, s .2)))
+    part-room (a .buffer .now) (a .at) (take (d .result) (d .last .1 .0)) (rw (s .0) (omega arith))
 
 add-result : tie.Need-add-result
 add-result c =
     let d = c .before .before .before .before .before .decimal in
     let a = c .before .before .before .before .before .before .before .before .args in
     let s = spelled (a .n) (d .result) (d .last .1 .0) (omega arith) (d .ensures .1 .0) (d .ensures .1 .1) in
-    omega (arith, s .2)
+    omega (arith, s .1)
 
 same-length : tie.Need-same-length
 same-length c = search needs

@@ -3,7 +3,7 @@ use native.Mathlib.Omega.{arith}
 use mathlib.Core.Path.{_∙_, ap}
 use Rattle.decimal.specs.Decimal.{sizeOf}
 use lib.ListN.{length}
-use Rattle.decimal.proofs.RoundTrip.{text-short}
+use Rattle.decimal.proofs.RoundTrip.{digits-short, text-short}
 use mir.Facts.{toZ-ofZ}
 use Rattle.decimal.proofs.WritingLaws.{number-below, number-above}
 use borrow.Author.Needs.{needs}
@@ -17,10 +17,10 @@ write-byte-requires : tie.Need-write-byte-requires
 write-byte-requires c κs = search needs
 
 write-digits-requires : tie.Need-write-digits-requires
-write-digits-requires c κs = search needs
+write-digits-requires c κs = omega (arith, digits-short 18 (c .before .before .before .before .before .before .size-of .result) (omega arith))
 
 write-digits-requires-2 : tie.Need-write-digits-requires-2
-write-digits-requires-2 c κs = search needs
+write-digits-requires-2 c κs = omega (arith, digits-short 18 (c .before .before .size-of .result) (omega arith))
 
 same-length : tie.Need-same-length
 same-length c = search needs

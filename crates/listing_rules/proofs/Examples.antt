@@ -1,0 +1,54 @@
+-- The listing at work: document 01's example to the byte, and bad lines.
+use mathlib.Core.Path.{_≡_, refl}
+use mathlib.Core.List.{List, _++_}
+use Prim.Native.Nat.{ℕ}
+use Rattle.decimal.specs.Decimal.{digitsWithin, digitsOf, textOf, twoDigits, textOfDate, dateText, digitValue, allDigits, valueAfter, magnitude, plain, minus, negated, numberOf, inFirst, fieldsOf, allNumbers, isNumbers, numbersIn, numbersOf}
+use Rattle.rules.proofs.Computing.{computing}
+use Rattle.listing_rules.specs.Texts.{bytesOf, same, linesOf, field, line, answerText, rowText, accountText, bookText, badLine}
+use Rattle.listing_rules.specs.Listing.{listingTables, opens, isGood, posted, bookBy, goodText, listed, listing}
+
+-- every definition that the listing computes by
+unfoldable shown : Unit {0}
+unfolding computing dateText textOfDate twoDigits
+    digitsWithin digitsOf textOf digitValue allDigits valueAfter magnitude plain minus negated numberOf inFirst fieldsOf allNumbers isNumbers numbersIn numbersOf
+    bytesOf same linesOf field line answerText rowText accountText bookText badLine listingTables opens isGood posted bookBy goodText listed listing
+shown = tt
+
+-- the input of document 01's example, M1
+abbrev example : List ℕ
+example =
+    bytesOf "day,len,f2,f3,f4,r1t,r1p,r2t,r2p,r3t,r3p\n"
+    ++ bytesOf "1,30,500,2500,3000,250,500,600,900,1200,1600\n"
+    ++ bytesOf "kind,account,a,b,c,d,e\n"
+    ++ bytesOf "1,7,0,0,0,0,0\n"
+    ++ bytesOf "2,7,41,1,2,60,2\n"
+    ++ bytesOf "3,7,300,2,0,0,0\n"
+    ++ bytesOf "5,7,1,0,0,0,0\n"
+    ++ bytesOf "3,7,400,1,0,0,0\n"
+    ++ bytesOf "6,7,1,1,0,0,0\n"
+    ++ bytesOf "2,7,41,1,2,60,2\n"
+
+-- what document 01 says that it prints
+document-01 : listing example
+    ≡ bytesOf "event,answer,row,rows,raised,removed\n"
+    ++ bytesOf "1,0,0,0,0,0\n"
+    ++ bytesOf "2,0,1,1,0,0\n"
+    ++ bytesOf "3,0,2,1,0,0\n"
+    ++ bytesOf "4,0,0,0,0,0\n"
+    ++ bytesOf "5,0,3,1,0,0\n"
+    ++ bytesOf "6,0,4,1,0,0\n"
+    ++ bytesOf "7,8,0,0,0,0\n"
+    ++ bytesOf "row,account,kind,date,amount,settled\n"
+    ++ bytesOf "1,7,1,2000-01-01,500,500\n"
+    ++ bytesOf "2,7,4,2000-01-01,300,300\n"
+    ++ bytesOf "3,7,4,2000-01-01,400,0\n"
+    ++ bytesOf "4,7,5,2000-01-01,500,200\n"
+    ++ bytesOf "account,state,balance\n"
+    ++ bytesOf "7,1,700\n"
+unfolding shown
+document-01 = refl
+
+-- "So is a missing one of lines 1 to 3": an empty input
+empty : listing (bytesOf "") ≡ bytesOf "bad line 1\n"
+unfolding shown
+empty = refl

@@ -1,0 +1,3 @@
+-- The definition of the listing.
+pub mod Texts
+pub mod Listing

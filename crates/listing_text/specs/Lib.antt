@@ -1,0 +1,2 @@
+-- What writing a text does to the buffer.
+pub mod Puts
