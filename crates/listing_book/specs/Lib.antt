@@ -1,0 +1,2 @@
+-- What the rows that are listed must meet.
+pub mod Listed
