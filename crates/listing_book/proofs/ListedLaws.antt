@@ -1,14 +1,13 @@
 -- What is listed of a sound book: lines one after the other, dates and balances that fit.
-use mathlib.Core.Path.{_≡_, refl, sym, ap, _∙_}
-use mathlib.Core.Bool.{Bool, true, false, cond}
-use mathlib.Core.List.{List, [], _∷_, _++_}
-use Prim.Native.Nat.{ℕ, _+_, _*_, _^_, _≤_, _<_}
+use mathlib.Core.Path.{_≡_, refl}
+use mathlib.Core.Bool.{true}
+use mathlib.Core.List.{List, [], _++_}
+use Prim.Native.Nat.{ℕ, _+_, _^_, _≤_, _<_}
 use native.Mathlib.Omega.{arith}
 use borrow.Author.Tests.{leb-true, eq-eqb, ne-eqb}
 use lib.IntN.{ℤ}
 use lib.ListN.{length, getD}
 use lib.Dec.{leb}
-use Rattle.lists.specs.Tests.{_is_}
 use Rattle.lists.specs.Lists.{gatherFrom, gather, tabulate}
 use Rattle.lists.proofs.TestLaws.{and-left}
 use Rattle.lists.proofs.ListLaws.{tabulate-at}
@@ -82,10 +81,11 @@ sound-dated t s = record {
 -- ---- balances
 
 module _ (j : List ℤ) (used : ℕ) (m : Amounts j used) (n : ℕ) where
-  -- the sums that were read are words
+  -- the sum of sources that was read is a word
   pub sources-fit : (p : ℕ) → p ≡ sources (rowsOf j used) n → p < 2 ^ 63
   sources-fit p e = omega (arith, sources-small j used m n, m .few)
 
+  -- the debits too
   pub debits-fit : (q : ℕ) → q ≡ debits (rowsOf j used) n → q < 2 ^ 63
   debits-fit q e = omega (arith, debits-small j used m n, m .few)
 

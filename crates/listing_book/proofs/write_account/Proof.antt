@@ -1,7 +1,7 @@
 -- `write_account` meets its contract: nothing of an unused account, else three fields.
 use native.Mathlib.Omega.{arith}
 use borrow.Author.Needs.{needs}
-use mathlib.Core.List.{[]}
+use Rattle.records.specs.Encoding.{rowsOf}
 use Rattle.listing_rules.specs.Texts.{field, line}
 use Rattle.listing_text.proofs.PutsLaws.{puts-puts, puts-nothing}
 use Rattle.listing_book.proofs.ListedLaws.{account-unused, account-used}
@@ -31,9 +31,10 @@ returns-2 c =
     let a = c .before .before .before .before .before .before .before .before .before .before .before .before .before .before .before .args in
     let p1 = c .before .before .before .before .before .before .before .before .before .before .write-field .ensures in
     let p2 = c .before .before .before .before .before .before .write-field2 .ensures in
-    let p3 = c .before .before .write-balance .ensures in (
-      λ b e. rw (← account-used b (a .n) (a .x) _ e (c .before .before .before .before .before .before .before .before .before .before .before .before .if1 .left))
-          (puts-puts _ _ _ _ _ _ _ _ (puts-puts _ _ _ _ _ _ _ _ (p1 .0) (p2 .0)) (p3 .0)),
+    let p3 = c .before .before .write-balance .ensures in
+    let to2 = puts-puts _ _ _ _ _ _ _ _ (p1 .0) (p2 .0) in
+    let to3 = puts-puts _ _ _ _ _ _ _ _ to2 (p3 .0) in (
+      λ b e. rw (← account-used b (a .n) (a .x) (rowsOf (a .journal .now) (a .used)) e (c .before .before .before .before .before .before .before .before .before .before .before .before .if1 .left)) to3,
       omega arith,
     )
 

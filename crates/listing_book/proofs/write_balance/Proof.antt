@@ -21,7 +21,9 @@ debits-of-requires c κs = search needs
 minus-requires : tie.Need-minus-requires
 minus-requires c κs =
     let a = c .before .before .before .before in
-    (sources-fit _ _ (a .pre .1) (a .args .n) _ (c .before .before .sources-of .ensures), debits-fit _ _ (a .pre .1) (a .args .n) _ (c .before .debits-of .ensures))
+    let p = sources-fit _ _ (a .pre .1) (a .args .n) _ (c .before .before .sources-of .ensures) in
+    let q = debits-fit _ _ (a .pre .1) (a .args .n) _ (c .before .debits-of .ensures) in
+    (omega arith, omega arith)
 
 write-number-requires : tie.Need-write-number-requires
 write-number-requires c κs = search needs
