@@ -1,0 +1,3 @@
+-- The laws that the proofs of this crate and its users cite.
+pub mod BufferLaws
+pub mod TakenLaws
