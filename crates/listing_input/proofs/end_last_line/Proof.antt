@@ -37,9 +37,8 @@ same-length-2 c = search needs
 returns-4 : tie.Need-returns-4
 returns-4 c =
     let a = c .before .before .before .before .before .before .args in
-    let same = length-set (a .input .now) (a .to) 10 in
     let none : a .to ≡ a .from + indexOf 10 (slice (a .from) (a .to) (a .input .now)) = omega arith in
-    (omega arith, omega arith, last-ended (a .input .now) (a .from) (a .to) none (omega arith) (omega arith), same)
+    (simp length-set (omega arith), omega arith, last-ended (a .input .now) (a .from) (a .to) none (omega arith) (omega arith), simp length-set)
 
 pub end-last-line-spec : {M : Type 1} → statement M
 end-last-line-spec =
