@@ -1,0 +1,2 @@
+-- What taking a line does.
+pub mod Lines
