@@ -42,7 +42,8 @@ fields-cut (b ∷ bs) k e h = go (eqb b 44) k e h (fields-cut bs)
     go false zero q l f = absurd (omega arith)
     go false (suc k) q l f = ap (inFirst b) (f k (omega arith) (omega arith))
 
-take-of-drop : (a k : ℕ) (xs : List ℕ) → take k (drop a xs) ≡ drop a (take (a + k) xs)
+-- the first elements from a place on
+pub take-of-drop : (a k : ℕ) (xs : List ℕ) → take k (drop a xs) ≡ drop a (take (a + k) xs)
 take-of-drop zero k xs = let z : 0 + k ≡ k = omega arith in rw z refl
 take-of-drop (suc a) k [] = let z : suc a + k ≡ suc (a + k) = omega arith in rw (z, take-nil k) refl
 take-of-drop (suc a) k (x ∷ xs) = let z : suc a + k ≡ suc (a + k) = omega arith in rw z (take-of-drop a k xs)

@@ -1,17 +1,12 @@
--- The bytes of the buffer from one place up to another: searched, moved to the front, ended by a line feed.
+-- The bytes of the buffer from one place up to another: searched, and moved to the front.
 use mathlib.Core.Path.{_≡_, refl, sym, ap, _∙_}
-use mathlib.Core.Bool.{Bool, true, false, cond}
 use mathlib.Core.List.{List, [], _∷_, _++_}
-use Prim.Native.Nat.{ℕ, suc, _+_, _-_, _≤_, _<_}
+use Prim.Native.Nat.{ℕ, _+_, _≤_, _<_}
 use native.Mathlib.Omega.{arith}
 use native.Mathlib.Numerals.{add-one}
-use lib.Dec.{eqb}
 use lib.ListN.{length, getD, set, take, drop, length-set}
-use lib.Seq.{slice, slice-empty, length-slice, length-take-le, take-suc, take-suc-set, drop-append-le, drop-set-lt, drop-drop, getD-drop}
-use Rattle.bytes.specs.Bytes.{indexOf, indexAfter, slice as part}
-use Rattle.decimal.specs.Decimal.{inFirst}
-use Rattle.listing_rules.specs.Texts.{linesOf}
-use Rattle.listing_rules.proofs.LineLaws.{lines-last}
+use lib.Seq.{slice, slice-empty, length-take-le, take-suc, take-suc-set, drop-append-le, drop-set-lt, drop-drop, getD-drop}
+use Rattle.bytes.specs.Bytes.{indexOf, slice as part}
 
 -- ---- the kit's search
 
@@ -26,11 +21,6 @@ found bs from to stop e = e
 pub slice-more : (bs : List ℕ) (from to : ℕ) → from ≤ to → to < length bs → slice from (to + 1) bs ≡ slice from to bs ++ (getD bs to 0 ∷ [])
 slice-more bs from to h k =
     rw (add-one to, take-suc bs to 0 k) (drop-append-le from (take to bs) (getD bs to 0 ∷ []) (omega (arith, length-take-le to bs (omega arith))))
-
--- one element put after it
-pub slice-put : (bs : List ℕ) (from to x : ℕ) → from ≤ to → to < length bs → slice from (to + 1) (set bs to x) ≡ slice from to bs ++ (x ∷ [])
-slice-put bs from to x h k =
-    rw (add-one to, take-suc-set bs to x k) (drop-append-le from (take to bs) (x ∷ []) (omega (arith, length-take-le to bs (omega arith))))
 
 -- ---- moved to the front
 
@@ -63,26 +53,3 @@ moved-more old bs from i m h =
 -- all of them
 pub moved-all : (old bs : List ℕ) (from to i : ℕ) → Moved old bs from i → from + i ≡ to → take i bs ≡ slice from to old
 moved-all old bs from to i m e = m .front ∙ rw e refl
-
--- ---- the last line
-
--- bytes without a line feed, and one after them
-lines-ended : (bs : List ℕ) → indexOf 10 bs ≡ length bs → linesOf (bs ++ (10 ∷ [])) ≡ bs ∷ []
-unfolding linesOf indexOf indexAfter inFirst
-lines-ended [] e = refl
-lines-ended (b ∷ bs) e = go (eqb b 10) e (lines-ended bs)
-  where
-    go : (t : Bool) → indexAfter t (indexOf 10 bs) ≡ suc (length bs) → (indexOf 10 bs ≡ length bs → linesOf (bs ++ (10 ∷ [])) ≡ bs ∷ [])
-        → cond t ([] ∷ linesOf (bs ++ (10 ∷ []))) (inFirst b (linesOf (bs ++ (10 ∷ [])))) ≡ (b ∷ bs) ∷ []
-    go true q f = absurd (omega arith)
-    go false q f = ap (inFirst b) (f (omega arith))
-
--- the lines are the same with a line feed after them as without
-pub last-ended : (bs : List ℕ) (from to : ℕ) → to ≡ from + indexOf 10 (slice from to bs) → from < to → to < length bs
-    → linesOf (slice from (to + 1) (set bs to 10)) ≡ linesOf (slice from to bs)
-last-ended bs from to e h k =
-    let n : length (slice from to bs) ≡ to - from = length-slice from to bs (omega arith) in
-    let none : indexOf 10 (slice from to bs) ≡ length (slice from to bs) = omega arith in
-    ap linesOf (slice-put bs from to 10 (omega arith) k)
-    ∙ lines-ended (slice from to bs) none
-    ∙ sym (lines-last (slice from to bs) none (omega arith))

@@ -1,29 +1,22 @@
 -- What the listing prints for the bytes of the buffer and whatever comes after them: by their first line, where it has ended or is too
--- long, and where nothing is left.
+-- long.
 use mathlib.Core.Path.{_≡_, refl, ap, _∙_}
 use mathlib.Core.Bool.{cond}
-use mathlib.Core.List.{List, [], _∷_, _++_}
-use Prim.Native.Nat.{ℕ, zero, suc, _+_, _-_, _≤_, _<_}
+use mathlib.Core.List.{List, _∷_, _++_}
+use Prim.Native.Nat.{ℕ, suc, _+_, _-_, _≤_, _<_}
 use native.Mathlib.Omega.{arith}
 use native.Mathlib.Numerals.{add-one}
-use lib.Dec.{ltb}
-use borrow.Author.Tests.{lt-ltb, le-ltb}
 use lib.ListN.{length, take, drop, length-append}
-use lib.Seq.{slice, slice-empty, length-slice, take-nil, take-take, drop-drop}
+use lib.Seq.{slice, length-slice, take-take, drop-drop}
 use Rattle.bytes.specs.Bytes.{indexOf}
+use Rattle.decimal.proofs.FieldLaws.{take-of-drop}
 use Rattle.rules.specs.Book.{Book}
-use Rattle.listing_rules.specs.Texts.{linesOf, bookText, badLine}
+use Rattle.listing_rules.specs.Texts.{linesOf, badLine}
 use Rattle.listing_rules.specs.Listing.{isGood, bookBy, goodText, listed}
 use Rattle.listing_rules.proofs.LineLaws.{lines-cut, lines-begin}
 use Rattle.listing_rules.proofs.LengthLaws.{long-bad}
 
 -- ---- the first line
-
--- the first elements from a place on
-take-of-drop : (a k : ℕ) (xs : List ℕ) → take k (drop a xs) ≡ drop a (take (a + k) xs)
-take-of-drop zero k xs = let z : 0 + k ≡ k = omega arith in rw z refl
-take-of-drop (suc a) k [] = let z : suc a + k ≡ suc (a + k) = omega arith in rw (z, take-nil k) refl
-take-of-drop (suc a) k (x ∷ xs) = let z : suc a + k ≡ suc (a + k) = omega arith in rw z (take-of-drop a k xs)
 
 -- the line that ends at a line feed, and the bytes after it
 line-at : (input : List ℕ) (from to stop : ℕ) (more : List ℕ) → stop ≡ from + indexOf 10 (slice from to input) → stop < to → to ≤ length input
@@ -38,15 +31,10 @@ line-at input from to stop more e h l =
 -- ---- listed
 
 -- a first line
-listed-line : (n : ℕ) (b : Book) (l : List ℕ) (lines ls : List (List ℕ)) → lines ≡ l ∷ ls
+pub listed-line : (n : ℕ) (b : Book) (l : List ℕ) (lines ls : List (List ℕ)) → lines ≡ l ∷ ls
     → listed n b lines ≡ cond (isGood n l) (goodText n b l ++ listed (n + 1) (bookBy n b l) ls) (badLine (n + 1))
 unfolding listed
 listed-line n b l lines ls e = ap (listed n b) e
-
--- no line
-listed-none : (n : ℕ) (b : Book) (lines : List (List ℕ)) → lines ≡ [] → listed n b lines ≡ cond (ltb n 3) (badLine (n + 1)) (bookText b)
-unfolding listed
-listed-none n b lines e = ap (listed n b) e
 
 -- the first line has ended: it is taken, and the rest is listed after it
 pub line-taken : (n : ℕ) (b : Book) (input : List ℕ) (from to stop : ℕ) (more : List ℕ) → stop ≡ from + indexOf 10 (slice from to input) → stop < to → from ≤ to → to ≤ length input
@@ -62,13 +50,3 @@ line-too-long n b input from to more e h l =
     let s = lines-begin (slice from to input) more (omega arith) (omega arith) in
     listed-line n b _ _ _ (s .are)
     ∙ rw (long-bad n (slice from to input ++ s .rest) (omega (arith, length-append (slice from to input) (s .rest)))) refl
-
--- nothing is left after line 3
-pub nothing-left : (n : ℕ) (b : Book) (input : List ℕ) (from : ℕ) → 3 ≤ n → listed n b (linesOf (slice from from input)) ≡ bookText b
-unfolding linesOf
-nothing-left n b input from h = listed-none n b _ (ap linesOf (slice-empty from input)) ∙ rw (le-ltb n 3 h) refl
-
--- nothing is left of lines 1 to 3
-pub line-missing : (n : ℕ) (b : Book) (input : List ℕ) (from : ℕ) → n < 3 → listed n b (linesOf (slice from from input)) ≡ badLine (n + 1)
-unfolding linesOf
-line-missing n b input from h = listed-none n b _ (ap linesOf (slice-empty from input)) ∙ rw (lt-ltb n 3 h) refl

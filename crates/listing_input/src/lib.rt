@@ -1,11 +1,10 @@
 // The listing's input as it is read: the bytes of a buffer from one place up to another are read and not yet taken. Where a line of them
-// ends, the bytes moved to the start of the buffer, the last line's line feed. Uses listing_rules and the kit's search (bytes).
+// ends, and the bytes moved to the start of the buffer. Uses listing_rules and the kit's search (bytes).
 ghost use mathlib.Core.Path.{_≡_};
 ghost use Prim.Native.Nat.{_+_, _-_, _≤_};
 ghost use lib.ListN.{length, take};
 ghost use lib.Seq.{slice};
 ghost use Rattle.bytes.specs.Bytes.{indexOf};
-ghost use Rattle.listing_rules.specs.Texts.{linesOf};
 
 // The place of the first line feed, `to` where there is none.
 pub fn line_end(input: &[u8], from: usize, to: usize) -> usize
@@ -27,24 +26,4 @@ pub fn move_to_front(input: &mut [u8], from: usize, to: usize) -> usize
         i += 1;
     }
     n
-}
-
-// "Lines end in a line feed, the last one's optional". At the end of the input: puts a line feed after bytes that have none, where there is
-// room, and returns where the bytes end then. The lines stay.
-pub fn end_last_line(input: &mut [u8], from: usize, to: usize) -> usize
-    requires { ⌜ (from ≤ to) × (to ≤ length (now input)) ⌝ }
-    ensures { λ r. ⌜ (r ≤ length (now (input .exit))) × (to ≤ r) × (linesOf (slice from r (now (input .exit))) ≡ linesOf (slice from to (now (input .entry)))) × (length (now (input .exit)) ≡ length (now (input .entry))) ⌝ }
-{
-    if from == to {
-        return to;
-    }
-    if to == input.len() {
-        return to;
-    }
-    let stop = line_end(input, from, to);
-    if stop < to {
-        return to;
-    }
-    input[to] = 10;
-    to + 1
 }

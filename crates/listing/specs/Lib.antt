@@ -1,0 +1,2 @@
+-- What holds between the turns of the program.
+pub mod Turns

@@ -1,0 +1,2 @@
+-- What a step of the listing does.
+pub mod Steps
