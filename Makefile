@@ -1,5 +1,6 @@
-# The ledger as a C library. `make` proves and builds it, `make install` puts header, library and pkg-config file under PREFIX,
-# `make test` tests it from outside. Everything made stands in target/.
+# The ledger as a C library, and the listing program. `make` proves and builds the library, `make install` puts header, library and
+# pkg-config file under PREFIX, `make list` prints the listing of FILE, `make test` tests both from outside. Everything made stands in
+# target/.
 
 PREFIX = /usr/local
 INCLUDEDIR = $(PREFIX)/include
@@ -10,8 +11,11 @@ RT = rt
 CC = cc
 CFLAGS = -O2 -std=c11 -Wall -Wextra -Wpedantic -Wconversion
 LIBRARY = target/staticlib/libtoll_ledger.a
+LISTING = target/bin/listing
+# What `make list` lists.
+FILE = examples/listing.csv
 
-.PHONY: build install uninstall host test times clean
+.PHONY: build install uninstall host listing list test times clean
 
 build:
 	$(RT) check toll_ledger
@@ -27,6 +31,15 @@ host: target/host
 target/host: examples/host.c include/toll_ledger.h $(LIBRARY)
 	$(CC) $(CFLAGS) -Iinclude -o $@ examples/host.c $(LIBRARY)
 
+# The listing program, and the listing of a file by it.
+listing: $(LISTING)
+
+$(LISTING):
+	$(RT) check listing
+
+list: $(LISTING)
+	@$(LISTING) < $(FILE)
+
 install: $(LIBRARY)
 	install -d '$(DESTDIR)$(INCLUDEDIR)' '$(DESTDIR)$(LIBDIR)/pkgconfig'
 	install -m 644 include/toll_ledger.h '$(DESTDIR)$(INCLUDEDIR)'
@@ -39,7 +52,7 @@ uninstall:
 	rm -f '$(DESTDIR)$(INCLUDEDIR)/toll_ledger.h' '$(DESTDIR)$(LIBDIR)/libtoll_ledger.a' \
 	  '$(DESTDIR)$(LIBDIR)/pkgconfig/toll_ledger.pc'
 
-test: $(LIBRARY)
+test: $(LIBRARY) $(LISTING)
 	tests/run
 
 # How long calls take on this machine.
@@ -48,4 +61,4 @@ times: $(LIBRARY)
 	target/times
 
 clean:
-	rm -rf target/tests target/host target/times $(LIBRARY)
+	rm -rf target/tests target/host target/times $(LIBRARY) $(LISTING)

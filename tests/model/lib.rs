@@ -1,6 +1,8 @@
 //! The toll account ledger as document 01 describes it, written for comparison: plain, slow, and with nothing of the ledger's code.
 //! Tables are the host's: a header of 12 words, accounts of 7, journal rows of 10.
 
+pub mod listing;
+
 pub const HEADER: usize = 12;
 pub const ACCOUNT: usize = 7;
 pub const ROW: usize = 10;

@@ -1,5 +1,4 @@
-//! The listing of document 01, on the model: for comparing with stored vectors.
-use std::io::{Read, Write};
+//! The listing of document 01, on the model.
 
 const NAMES: [&str; 2] = ["day,len,f2,f3,f4,r1t,r1p,r2t,r2p,r3t,r3p", "kind,account,a,b,c,d,e"];
 
@@ -35,7 +34,8 @@ fn date(day: i64) -> String {
     }
 }
 
-fn run(input: &[u8]) -> String {
+/// What the program prints for an input.
+pub fn listing(input: &[u8]) -> String {
     let mut lines: Vec<&[u8]> = input.split(|c| *c == b'\n').collect();
     if lines.last() == Some(&&b""[..]) {
         lines.pop();
@@ -44,7 +44,7 @@ fn run(input: &[u8]) -> String {
     for n in 0..3 {
         let good = match (n, lines.get(n)) {
             (0, Some(l)) => *l == NAMES[0].as_bytes(),
-            (1, Some(l)) => numbers(l, 11).map_or(false, |w| model::open(&mut h, &mut a, &mut j, &w) == 0),
+            (1, Some(l)) => numbers(l, 11).map_or(false, |w| crate::open(&mut h, &mut a, &mut j, &w) == 0),
             (2, Some(l)) => *l == NAMES[1].as_bytes(),
             _ => false,
         };
@@ -53,7 +53,7 @@ fn run(input: &[u8]) -> String {
         }
     }
     let mut out = String::from("event,answer,row,rows,raised,removed\n");
-    let Some(mut book) = model::read_book(&h, &a, &j) else { return out };
+    let Some(mut book) = crate::read_book(&h, &a, &j) else { return out };
     for (i, l) in lines[3..].iter().enumerate() {
         let Some(e) = numbers(l, 7) else {
             out += &format!("bad line {}\n", i + 4);
@@ -71,10 +71,4 @@ fn run(input: &[u8]) -> String {
         out += &format!("{},{},{}\n", i + 1, x.state, book.balance(i as i64 + 1));
     }
     out
-}
-
-fn main() -> std::io::Result<()> {
-    let mut input = Vec::new();
-    std::io::stdin().read_to_end(&mut input)?;
-    std::io::stdout().write_all(run(&input).as_bytes())
 }
