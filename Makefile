@@ -15,7 +15,7 @@ LISTING = target/bin/listing
 # What `make list` lists.
 FILE = examples/listing.csv
 
-.PHONY: build install uninstall host listing list test times clean
+.PHONY: build install uninstall host listing list test times bench clean
 
 build:
 	$(RT) check toll_ledger
@@ -60,5 +60,10 @@ times: $(LIBRARY)
 	$(CC) $(CFLAGS) -Iinclude -o target/times tests/c/times.c tests/c/book.c $(LIBRARY)
 	target/times
 
+# The calls beside the same calls in plain C: first that both agree, then how long each takes.
+bench: $(LIBRARY)
+	$(CC) $(CFLAGS) -O3 -Iinclude -o target/bench bench/*.c $(LIBRARY)
+	target/bench
+
 clean:
-	rm -rf target/tests target/host target/times $(LIBRARY) $(LISTING)
+	rm -rf target/tests target/host target/times target/bench $(LIBRARY) $(LISTING)

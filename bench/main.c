@@ -1,0 +1,301 @@
+/* How long the calls take beside the same calls in plain C: both libraries in one process, in turns,
+ * on fresh copies of the same books. Prints medians in microseconds, ours to plain C, and how time
+ * grows with the rows. docs/SPEED.md quotes a run. */
+#define _POSIX_C_SOURCE 199309L
+#include <stdio.h>
+#include <stdlib.h>
+#include <time.h>
+
+#include "books.h"
+
+#define ACCOUNTS TOLL_LEDGER_MOST_ACCOUNTS
+#define SIZES 3
+#define CALLS 5
+#define CALL_RUNS 2001
+#define BATCH_RUNS 61
+#define PART 1024 /* events of a batch onto a book with rows */
+#define MOST_RUNS CALL_RUNS
+
+static const size_t sizes[SIZES] = {512, 2048, 8192};
+static const int64_t schedule[TOLL_LEDGER_SCHEDULE_WORDS] = {1,   30,  500, 2500, 3000, 250,
+                                                             500, 600, 900, 1200, 1600};
+static const struct mix filling = {.payments = 300, .returns = 15, .disputes = 60, .decisions = 15,
+                                   .topups = 30, .closes = 4};
+static const struct mix batched = {.payments = 330, .returns = 10, .disputes = 20, .decisions = 10,
+                                   .topups = 15, .closes = 5, .ticks = 10};
+
+static struct tables book, lent;
+static event events[TOLL_LEDGER_MOST_EVENTS];
+static event drawn[CALL_RUNS];
+static int64_t answers[TOLL_LEDGER_MOST_EVENTS * TOLL_LEDGER_ANSWER_WORDS];
+
+/* Medians of one case. */
+struct pair {
+    double ours, plain;
+};
+
+/* What one run does with the lent book; `run` counts from 0. */
+typedef void work(const struct library *library, size_t run);
+
+static double now(void)
+{
+    struct timespec t;
+    clock_gettime(CLOCK_MONOTONIC, &t);
+    return (double)t.tv_sec * 1e6 + (double)t.tv_nsec / 1e3;
+}
+
+static double time_once(const struct library *library, work *task, size_t run)
+{
+    copy_tables(&lent, &book);
+    const double start = now();
+    task(library, run);
+    return now() - start;
+}
+
+static int by_size(const void *x, const void *y)
+{
+    const double a = *(const double *)x, b = *(const double *)y;
+    return (a > b) - (a < b);
+}
+
+static double median(double *times, size_t runs)
+{
+    qsort(times, runs, sizeof *times, by_size);
+    return times[runs / 2];
+}
+
+/* In turns, the first of the two changing from run to run. */
+static struct pair measure(work *task, size_t runs)
+{
+    static double times[2][MOST_RUNS];
+    for (size_t run = 0; run < runs; run++)
+        for (size_t turn = 0; turn < 2; turn++) {
+            const size_t which = (run + turn) % 2;
+            times[which][run] = time_once(which == 0 ? &ours : &plain, task, run);
+        }
+    return (struct pair){median(times[0], runs), median(times[1], runs)};
+}
+
+static void post_drawn(const struct library *library, size_t run)
+{
+    must(library->event(LENT(&lent), &drawn[run].kind, TOLL_LEDGER_EVENT_WORDS, answers,
+                        TOLL_LEDGER_ANSWER_WORDS) == TOLL_LEDGER_POSTED,
+         "a timed event is posted");
+}
+
+static void ask_balance(const struct library *library, size_t run)
+{
+    must(library->balance(LENT(&lent), drawn[run].account, answers) == TOLL_LEDGER_POSTED,
+         "a timed balance is given");
+}
+
+static void ask_topup_due(const struct library *library, size_t run)
+{
+    must(library->topup_due(LENT(&lent), drawn[run].account, answers) == TOLL_LEDGER_POSTED,
+         "a timed top-up is told");
+}
+
+static size_t batch_events; /* how many the timed batch has */
+
+static void post_batch(const struct library *library, size_t run)
+{
+    (void)run;
+    must(library->batch(LENT(&lent), events, batch_events, answers,
+                        sizeof answers / sizeof answers[0]) == TOLL_LEDGER_POSTED,
+         "a timed batch is run");
+}
+
+static void open_book(size_t rows)
+{
+    shape(&book, ACCOUNTS, rows);
+    must(plain.open(LENT(&book), schedule, TOLL_LEDGER_SCHEDULE_WORDS) == TOLL_LEDGER_POSTED,
+         "the book is opened");
+}
+
+static int64_t post_to_book(const event *e)
+{
+    const struct book b = book_of(&book);
+    return post(&b, e).number;
+}
+
+/* Event n of those that open the accounts, all but some with a top-up. */
+static event opening_of(struct host *host, int64_t n)
+{
+    const int64_t topup = once_in(host, 5) ? 0 : draw(host, 1000, 4000);
+    return (event){.kind = TOLL_LEDGER_EVENT_OPEN,
+                   .account = n,
+                   .a = topup == 0 ? 0 : draw(host, 0, 1000),
+                   .b = topup};
+}
+
+static void open_accounts(struct host *host)
+{
+    for (int64_t n = 1; n <= ACCOUNTS; n++) {
+        const event e = opening_of(host, n);
+        post_to_book(&e);
+    }
+}
+
+/* A book of so many rows, of which about `used` are used after some 120 days. */
+static void fill_book(struct host *host, size_t rows, size_t used)
+{
+    const event day = {.kind = TOLL_LEDGER_EVENT_TICK};
+    open_book(rows);
+    open_accounts(host);
+    const struct book b = book_of(&book);
+    for (size_t i = 1; rows_used(&b) < used; i++) {
+        const event e = next_event(host, &b);
+        post_to_book(&e);
+        if (i % (used / 120 + 1) == 0)
+            post_to_book(&day);
+    }
+}
+
+static void print_book(void)
+{
+    const struct book b = book_of(&book);
+    long kinds[TOLL_LEDGER_KIND_REFUND + 1] = {0}, settled = 0, held = 0;
+    for (size_t i = 0; i < rows_used(&b); i++) {
+        kinds[b.rows[i].kind]++;
+        settled += b.rows[i].kind == TOLL_LEDGER_KIND_TOLL && left_of(&b.rows[i]) == 0;
+        held += is_held_toll(&b.rows[i]);
+    }
+    printf("%zu rows, %zu used: tolls %ld (%ld settled, %ld held), fees %ld, reversals %ld, payments %ld, "
+           "credits %ld, refunds %ld; day %ld\n",
+           b.room, rows_used(&b), kinds[1], settled, held, kinds[2], kinds[3], kinds[4], kinds[5],
+           kinds[6], (long)b.header->day);
+    copy_tables(&lent, &book);
+    const struct book next = book_of(&lent);
+    const struct answer a = tick(&next);
+    printf("    its tick raises %ld tolls and adds %ld rows\n", (long)a.raised, (long)a.new_rows);
+}
+
+static int64_t drawn_account(struct host *host)
+{
+    const struct book b = book_of(&book);
+    int64_t n = draw(host, 1, ACCOUNTS);
+    while (b.accounts[n - 1].state == TOLL_LEDGER_STATE_CLOSED)
+        n = draw(host, 1, ACCOUNTS);
+    return n;
+}
+
+/* The events of the runs of one case: payments, tolls or ticks. A question takes the account alone. */
+static void draw_events(struct host *host, int64_t kind)
+{
+    const struct book b = book_of(&book);
+    for (size_t i = 0; i < CALL_RUNS; i++) {
+        const int64_t account = drawn_account(host);
+        if (kind == TOLL_LEDGER_EVENT_TICK)
+            drawn[i] = (event){.kind = kind};
+        else if (kind == TOLL_LEDGER_EVENT_TOLL)
+            drawn[i] = toll_for(host, &b, account);
+        else
+            drawn[i] = payment_for(host, &b, account);
+        if (drawn[i].kind == TOLL_LEDGER_EVENT_PAYMENT)
+            drawn[i].b = TOLL_LEDGER_METHOD_CARD;
+    }
+}
+
+static void print_pair(const char *name, size_t rows, struct pair p)
+{
+    printf("%-34s %6zu %10.2f %10.2f %8.2f\n", name, rows, p.ours, p.plain, p.ours / p.plain);
+}
+
+static const struct {
+    const char *name;
+    work *task;
+    int64_t kind; /* of the events drawn */
+} calls[CALLS] = {{"payment", post_drawn, TOLL_LEDGER_EVENT_PAYMENT},
+                  {"toll", post_drawn, TOLL_LEDGER_EVENT_TOLL},
+                  {"tick", post_drawn, TOLL_LEDGER_EVENT_TICK},
+                  {"balance", ask_balance, TOLL_LEDGER_EVENT_PAYMENT},
+                  {"top-up due", ask_topup_due, TOLL_LEDGER_EVENT_PAYMENT}};
+
+static void measure_calls(struct pair medians[CALLS][SIZES])
+{
+    for (size_t s = 0; s < SIZES; s++) {
+        struct host host = {.state = 1 + s, .mix = filling};
+        fill_book(&host, sizes[s], sizes[s] - sizes[s] / 16);
+        print_book();
+        for (size_t c = 0; c < CALLS; c++) {
+            draw_events(&host, calls[c].kind);
+            medians[c][s] = measure(calls[c].task, CALL_RUNS);
+        }
+    }
+}
+
+static void print_growth(struct pair medians[CALLS][SIZES])
+{
+    printf("\n%-34s %13s %10s %10s\n", "growth", "rows", "ours", "plain C");
+    for (size_t c = 0; c < CALLS; c++)
+        for (size_t s = 1; s < SIZES; s++)
+            printf("%-34s %5zu to %4zu %10.2f %10.2f\n", calls[c].name, sizes[s - 1], sizes[s],
+                   medians[c][s].ours / medians[c][s - 1].ours,
+                   medians[c][s].plain / medians[c][s - 1].plain);
+}
+
+/* A list of events that suit the book one after another. */
+static void draw_batch(struct host *host, size_t first, size_t count)
+{
+    copy_tables(&lent, &book);
+    const struct book b = book_of(&lent);
+    for (size_t i = 0; i < count; i++) {
+        events[i] = i < first ? opening_of(host, (int64_t)i + 1) : next_event(host, &b);
+        post(&b, &events[i]);
+    }
+    batch_events = count;
+}
+
+static void print_batch_events(void)
+{
+    long kinds[TOLL_LEDGER_EVENT_TICK + 1] = {0};
+    for (size_t i = 0; i < batch_events; i++)
+        kinds[events[i].kind]++;
+    printf("\nThe batch of %zu, by kind 1 to 9:", batch_events);
+    for (int kind = 1; kind <= TOLL_LEDGER_EVENT_TICK; kind++)
+        printf(" %ld", kinds[kind]);
+    printf("\n%-34s %6s %10s %10s %8s\n", "batch, us", "rows", "ours", "plain C", "ratio");
+}
+
+/* The whole batch on a book just opened. */
+static void measure_empty(void)
+{
+    struct host host = {.state = 11, .mix = batched};
+    open_book(TOLL_LEDGER_MOST_ROWS);
+    draw_batch(&host, ACCOUNTS, TOLL_LEDGER_MOST_EVENTS);
+    print_batch_events();
+    print_pair("4,096 events, no row used before", TOLL_LEDGER_MOST_ROWS,
+               measure(post_batch, BATCH_RUNS));
+}
+
+/* A part of a batch onto so many rows, by event. */
+static void measure_onto(size_t used)
+{
+    struct host host = {.state = 12 + used, .mix = filling};
+    char name[64];
+    fill_book(&host, TOLL_LEDGER_MOST_ROWS, used);
+    host.mix = batched;
+    draw_batch(&host, 0, PART);
+    struct pair p = measure(post_batch, BATCH_RUNS);
+    p.ours /= PART;
+    p.plain /= PART;
+    snprintf(name, sizeof name, "an event of %d onto %zu used", PART, used);
+    print_pair(name, TOLL_LEDGER_MOST_ROWS, p);
+}
+
+int main(void)
+{
+    static struct pair medians[CALLS][SIZES];
+    setvbuf(stdout, NULL, _IOLBF, 0);
+    compare_libraries();
+    measure_calls(medians);
+    printf("\n%-34s %6s %10s %10s %8s\n", "single call, us", "rows", "ours", "plain C", "ratio");
+    for (size_t c = 0; c < CALLS; c++)
+        for (size_t s = 0; s < SIZES; s++)
+            print_pair(calls[c].name, sizes[s], medians[c][s]);
+    print_growth(medians);
+    measure_empty();
+    for (size_t used = 0; used < TOLL_LEDGER_MOST_ROWS - PART; used += 2 * PART)
+        measure_onto(used);
+    return 0;
+}
