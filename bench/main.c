@@ -24,9 +24,10 @@ static const struct mix filling = {.payments = 300, .returns = 15, .disputes = 6
 static const struct mix batched = {.payments = 330, .returns = 10, .disputes = 20, .decisions = 10,
                                    .topups = 15, .closes = 5, .ticks = 10};
 
-static struct tables book, lent;
+static struct tables books[SIZES], lent;
+static struct tables *book = books; /* the one in hand */
 static event events[TOLL_LEDGER_MOST_EVENTS];
-static event drawn[CALL_RUNS];
+static event drawn[SIZES][CALL_RUNS];
 static int64_t answers[TOLL_LEDGER_MOST_EVENTS * TOLL_LEDGER_ANSWER_WORDS];
 
 /* Medians of one case. */
@@ -34,8 +35,8 @@ struct pair {
     double ours, plain;
 };
 
-/* What one run does with the lent book; `run` counts from 0. */
-typedef void work(const struct library *library, size_t run);
+/* What one run does with the lent book; the event is the run's. */
+typedef void work(const struct library *library, const event *e);
 
 static double now(void)
 {
@@ -44,11 +45,11 @@ static double now(void)
     return (double)t.tv_sec * 1e6 + (double)t.tv_nsec / 1e3;
 }
 
-static double time_once(const struct library *library, work *task, size_t run)
+static double time_once(const struct library *library, work *task, const event *e)
 {
-    copy_tables(&lent, &book);
+    copy_tables(&lent, book);
     const double start = now();
-    task(library, run);
+    task(library, e);
     return now() - start;
 }
 
@@ -64,42 +65,45 @@ static double median(double *times, size_t runs)
     return times[runs / 2];
 }
 
-/* In turns, the first of the two changing from run to run. */
-static struct pair measure(work *task, size_t runs)
+/* In turns: from run to run through the sizes, and each time both libraries, the first of the two
+ * changing, so that noise hits all alike. */
+static void measure(work *task, size_t count, size_t runs, struct pair *medians)
 {
-    static double times[2][MOST_RUNS];
+    static double times[SIZES][2][MOST_RUNS];
     for (size_t run = 0; run < runs; run++)
-        for (size_t turn = 0; turn < 2; turn++) {
-            const size_t which = (run + turn) % 2;
-            times[which][run] = time_once(which == 0 ? &ours : &plain, task, run);
+        for (size_t turn = 0; turn < 2 * count; turn++) {
+            const size_t s = turn / 2, which = (run + turn) % 2;
+            book = &books[s];
+            times[s][which][run] = time_once(which == 0 ? &ours : &plain, task, &drawn[s][run]);
         }
-    return (struct pair){median(times[0], runs), median(times[1], runs)};
+    for (size_t s = 0; s < count; s++)
+        medians[s] = (struct pair){median(times[s][0], runs), median(times[s][1], runs)};
 }
 
-static void post_drawn(const struct library *library, size_t run)
+static void post_drawn(const struct library *library, const event *e)
 {
-    must(library->event(LENT(&lent), &drawn[run].kind, TOLL_LEDGER_EVENT_WORDS, answers,
+    must(library->event(LENT(&lent), &e->kind, TOLL_LEDGER_EVENT_WORDS, answers,
                         TOLL_LEDGER_ANSWER_WORDS) == TOLL_LEDGER_POSTED,
          "a timed event is posted");
 }
 
-static void ask_balance(const struct library *library, size_t run)
+static void ask_balance(const struct library *library, const event *e)
 {
-    must(library->balance(LENT(&lent), drawn[run].account, answers) == TOLL_LEDGER_POSTED,
+    must(library->balance(LENT(&lent), e->account, answers) == TOLL_LEDGER_POSTED,
          "a timed balance is given");
 }
 
-static void ask_topup_due(const struct library *library, size_t run)
+static void ask_topup_due(const struct library *library, const event *e)
 {
-    must(library->topup_due(LENT(&lent), drawn[run].account, answers) == TOLL_LEDGER_POSTED,
+    must(library->topup_due(LENT(&lent), e->account, answers) == TOLL_LEDGER_POSTED,
          "a timed top-up is told");
 }
 
 static size_t batch_events; /* how many the timed batch has */
 
-static void post_batch(const struct library *library, size_t run)
+static void post_batch(const struct library *library, const event *e)
 {
-    (void)run;
+    (void)e;
     must(library->batch(LENT(&lent), events, batch_events, answers,
                         sizeof answers / sizeof answers[0]) == TOLL_LEDGER_POSTED,
          "a timed batch is run");
@@ -107,14 +111,14 @@ static void post_batch(const struct library *library, size_t run)
 
 static void open_book(size_t rows)
 {
-    shape(&book, ACCOUNTS, rows);
-    must(plain.open(LENT(&book), schedule, TOLL_LEDGER_SCHEDULE_WORDS) == TOLL_LEDGER_POSTED,
+    shape(book, ACCOUNTS, rows);
+    must(plain.open(LENT(book), schedule, TOLL_LEDGER_SCHEDULE_WORDS) == TOLL_LEDGER_POSTED,
          "the book is opened");
 }
 
 static int64_t post_to_book(const event *e)
 {
-    const struct book b = book_of(&book);
+    const struct book b = book_of(book);
     return post(&b, e).number;
 }
 
@@ -142,7 +146,7 @@ static void fill_book(struct host *host, size_t rows, size_t used)
     const event day = {.kind = TOLL_LEDGER_EVENT_TICK};
     open_book(rows);
     open_accounts(host);
-    const struct book b = book_of(&book);
+    const struct book b = book_of(book);
     for (size_t i = 1; rows_used(&b) < used; i++) {
         const event e = next_event(host, &b);
         post_to_book(&e);
@@ -153,7 +157,7 @@ static void fill_book(struct host *host, size_t rows, size_t used)
 
 static void print_book(void)
 {
-    const struct book b = book_of(&book);
+    const struct book b = book_of(book);
     long kinds[TOLL_LEDGER_KIND_REFUND + 1] = {0}, settled = 0, held = 0;
     for (size_t i = 0; i < rows_used(&b); i++) {
         kinds[b.rows[i].kind]++;
@@ -164,7 +168,7 @@ static void print_book(void)
            "credits %ld, refunds %ld; day %ld\n",
            b.room, rows_used(&b), kinds[1], settled, held, kinds[2], kinds[3], kinds[4], kinds[5],
            kinds[6], (long)b.header->day);
-    copy_tables(&lent, &book);
+    copy_tables(&lent, book);
     const struct book next = book_of(&lent);
     const struct answer a = tick(&next);
     printf("    its tick raises %ld tolls and adds %ld rows\n", (long)a.raised, (long)a.new_rows);
@@ -172,28 +176,31 @@ static void print_book(void)
 
 static int64_t drawn_account(struct host *host)
 {
-    const struct book b = book_of(&book);
+    const struct book b = book_of(book);
     int64_t n = draw(host, 1, ACCOUNTS);
     while (b.accounts[n - 1].state == TOLL_LEDGER_STATE_CLOSED)
         n = draw(host, 1, ACCOUNTS);
     return n;
 }
 
-/* The events of the runs of one case: payments, tolls or ticks. A question takes the account alone. */
-static void draw_events(struct host *host, int64_t kind)
+/* An event of one case: a payment, a toll or a tick. A question takes the account alone. */
+static event timed_event(struct host *host, const struct book *b, int64_t kind)
 {
-    const struct book b = book_of(&book);
-    for (size_t i = 0; i < CALL_RUNS; i++) {
-        const int64_t account = drawn_account(host);
-        if (kind == TOLL_LEDGER_EVENT_TICK)
-            drawn[i] = (event){.kind = kind};
-        else if (kind == TOLL_LEDGER_EVENT_TOLL)
-            drawn[i] = toll_for(host, &b, account);
-        else
-            drawn[i] = payment_for(host, &b, account);
-        if (drawn[i].kind == TOLL_LEDGER_EVENT_PAYMENT)
-            drawn[i].b = TOLL_LEDGER_METHOD_CARD;
-    }
+    const int64_t account = drawn_account(host);
+    if (kind == TOLL_LEDGER_EVENT_TICK)
+        return (event){.kind = kind};
+    if (kind == TOLL_LEDGER_EVENT_TOLL)
+        return toll_for(host, b, account);
+    event e = payment_for(host, b, account);
+    e.b = TOLL_LEDGER_METHOD_CARD; /* never barred */
+    return e;
+}
+
+static void draw_events(struct host *host, event *list, int64_t kind)
+{
+    const struct book b = book_of(book);
+    for (size_t i = 0; i < CALL_RUNS; i++)
+        list[i] = timed_event(host, &b, kind);
 }
 
 static void print_pair(const char *name, size_t rows, struct pair p)
@@ -213,14 +220,19 @@ static const struct {
 
 static void measure_calls(struct pair medians[CALLS][SIZES])
 {
+    struct host hosts[SIZES];
     for (size_t s = 0; s < SIZES; s++) {
-        struct host host = {.state = 1 + s, .mix = filling};
-        fill_book(&host, sizes[s], sizes[s] - sizes[s] / 16);
+        hosts[s] = (struct host){.state = 1 + s, .mix = filling};
+        book = &books[s];
+        fill_book(&hosts[s], sizes[s], sizes[s] - sizes[s] / 16);
         print_book();
-        for (size_t c = 0; c < CALLS; c++) {
-            draw_events(&host, calls[c].kind);
-            medians[c][s] = measure(calls[c].task, CALL_RUNS);
+    }
+    for (size_t c = 0; c < CALLS; c++) {
+        for (size_t s = 0; s < SIZES; s++) {
+            book = &books[s];
+            draw_events(&hosts[s], drawn[s], calls[c].kind);
         }
+        measure(calls[c].task, SIZES, CALL_RUNS, medians[c]);
     }
 }
 
@@ -237,7 +249,7 @@ static void print_growth(struct pair medians[CALLS][SIZES])
 /* A list of events that suit the book one after another. */
 static void draw_batch(struct host *host, size_t first, size_t count)
 {
-    copy_tables(&lent, &book);
+    copy_tables(&lent, book);
     const struct book b = book_of(&lent);
     for (size_t i = 0; i < count; i++) {
         events[i] = i < first ? opening_of(host, (int64_t)i + 1) : next_event(host, &b);
@@ -261,22 +273,24 @@ static void print_batch_events(void)
 static void measure_empty(void)
 {
     struct host host = {.state = 11, .mix = batched};
+    struct pair p;
     open_book(TOLL_LEDGER_MOST_ROWS);
     draw_batch(&host, ACCOUNTS, TOLL_LEDGER_MOST_EVENTS);
     print_batch_events();
-    print_pair("4,096 events, no row used before", TOLL_LEDGER_MOST_ROWS,
-               measure(post_batch, BATCH_RUNS));
+    measure(post_batch, 1, BATCH_RUNS, &p);
+    print_pair("4,096 events, no row used before", TOLL_LEDGER_MOST_ROWS, p);
 }
 
 /* A part of a batch onto so many rows, by event. */
 static void measure_onto(size_t used)
 {
     struct host host = {.state = 12 + used, .mix = filling};
+    struct pair p;
     char name[64];
     fill_book(&host, TOLL_LEDGER_MOST_ROWS, used);
     host.mix = batched;
     draw_batch(&host, 0, PART);
-    struct pair p = measure(post_batch, BATCH_RUNS);
+    measure(post_batch, 1, BATCH_RUNS, &p);
     p.ours /= PART;
     p.plain /= PART;
     snprintf(name, sizeof name, "an event of %d onto %zu used", PART, used);
@@ -294,6 +308,7 @@ int main(void)
         for (size_t s = 0; s < SIZES; s++)
             print_pair(calls[c].name, sizes[s], medians[c][s]);
     print_growth(medians);
+    book = books;
     measure_empty();
     for (size_t used = 0; used < TOLL_LEDGER_MOST_ROWS - PART; used += 2 * PART)
         measure_onto(used);
