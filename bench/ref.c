@@ -84,36 +84,39 @@ int64_t ref_batch(int64_t *header, size_t header_words, int64_t *accounts, size_
     return TOLL_LEDGER_POSTED;
 }
 
-/* Why a question on the account is refused, 0 where it isn't. */
-static int64_t question_refusal(struct book *b, const int64_t *header, size_t header_words,
-                                const int64_t *accounts, size_t accounts_words,
-                                const int64_t *journal, size_t journal_words, int64_t account)
+/* The answer's number to a question on the account; its value by `answer`, 0 where it is refused. */
+static int64_t ask(int64_t (*answer)(const struct book *, int64_t), const int64_t *header,
+                   size_t header_words, const int64_t *accounts, size_t accounts_words,
+                   const int64_t *journal, size_t journal_words, int64_t account, int64_t *value)
 {
-    if (!take_up(b, header, header_words, accounts, accounts_words, journal, journal_words))
+    struct book b;
+    *value = 0;
+    if (!take_up(&b, header, header_words, accounts, accounts_words, journal, journal_words))
         return TOLL_LEDGER_UNSOUND;
-    const struct account *x = account_of(b, account);
-    return x == NULL || x->state == TOLL_LEDGER_STATE_UNUSED ? TOLL_LEDGER_UNKNOWN
-                                                             : TOLL_LEDGER_POSTED;
+    const struct account *x = account_of(&b, account);
+    if (x == NULL || x->state == TOLL_LEDGER_STATE_UNUSED)
+        return TOLL_LEDGER_UNKNOWN;
+    *value = answer(&b, account);
+    return TOLL_LEDGER_POSTED;
+}
+
+static int64_t topup_due_of(const struct book *b, int64_t account)
+{
+    return is_topup_due(b, account);
 }
 
 int64_t ref_balance(const int64_t *header, size_t header_words, const int64_t *accounts,
                     size_t accounts_words, const int64_t *journal, size_t journal_words,
                     int64_t account, int64_t *value)
 {
-    struct book b;
-    const int64_t number = question_refusal(&b, header, header_words, accounts, accounts_words,
-                                            journal, journal_words, account);
-    *value = number == TOLL_LEDGER_POSTED ? balance_of(&b, account) : 0;
-    return number;
+    return ask(balance_of, header, header_words, accounts, accounts_words, journal, journal_words,
+               account, value);
 }
 
 int64_t ref_topup_due(const int64_t *header, size_t header_words, const int64_t *accounts,
                       size_t accounts_words, const int64_t *journal, size_t journal_words,
                       int64_t account, int64_t *value)
 {
-    struct book b;
-    const int64_t number = question_refusal(&b, header, header_words, accounts, accounts_words,
-                                            journal, journal_words, account);
-    *value = number == TOLL_LEDGER_POSTED ? is_topup_due(&b, account) : 0;
-    return number;
+    return ask(topup_due_of, header, header_words, accounts, accounts_words, journal, journal_words,
+               account, value);
 }

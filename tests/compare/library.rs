@@ -59,6 +59,23 @@ mod foreign {
     }
 }
 
+/// The single event and the batch: header, accounts, journal, events, answers, each with its length.
+type Posting<T> = unsafe extern "C" fn(
+    *mut i64,
+    usize,
+    *mut i64,
+    usize,
+    *mut i64,
+    usize,
+    *const T,
+    usize,
+    *mut i64,
+    usize,
+) -> i64;
+
+/// Balance and top-up due: header, accounts, journal, each with its length, the account, and the place of the value.
+type Question = unsafe extern "C" fn(*const i64, usize, *const i64, usize, *const i64, usize, i64, *mut i64) -> i64;
+
 const GUARD: usize = 8;
 const GUARD_WORD: i64 = 0x5AFE_5AFE_5AFE_5AFE;
 
@@ -106,78 +123,35 @@ impl Book {
         }
     }
 
-    pub fn event(&mut self, event: &[i64], answer: &mut Table) -> i64 {
+    fn post<T>(&mut self, call: Posting<T>, events: &[T], answers: &mut Table) -> i64 {
         let (h, a, j) = (&mut self.header, &mut self.accounts, &mut self.journal);
-        let (hn, an, jn, n) = (h.words().len(), a.words().len(), j.words().len(), answer.words().len());
-        unsafe {
-            foreign::toll_ledger_event(
-                h.start(),
-                hn,
-                a.start(),
-                an,
-                j.start(),
-                jn,
-                event.as_ptr(),
-                event.len(),
-                answer.start(),
-                n,
-            )
-        }
+        let (hn, an, jn, n) = (h.words().len(), a.words().len(), j.words().len(), answers.words().len());
+        let (from, count) = (events.as_ptr(), events.len());
+        unsafe { call(h.start(), hn, a.start(), an, j.start(), jn, from, count, answers.start(), n) }
+    }
+
+    pub fn event(&mut self, event: &[i64], answer: &mut Table) -> i64 {
+        self.post(foreign::toll_ledger_event, event, answer)
     }
 
     pub fn batch(&mut self, events: &[[i64; 7]], answers: &mut Table) -> i64 {
-        let (h, a, j) = (&mut self.header, &mut self.accounts, &mut self.journal);
-        let (hn, an, jn, n) = (h.words().len(), a.words().len(), j.words().len(), answers.words().len());
-        unsafe {
-            foreign::toll_ledger_batch(
-                h.start(),
-                hn,
-                a.start(),
-                an,
-                j.start(),
-                jn,
-                events.as_ptr(),
-                events.len(),
-                answers.start(),
-                n,
-            )
-        }
+        self.post(foreign::toll_ledger_batch, events, answers)
+    }
+
+    fn ask(&self, call: Question, account: i64) -> (i64, i64) {
+        let (h, a, j) = (self.header.words(), self.accounts.words(), self.journal.words());
+        let mut value = GUARD_WORD;
+        let number =
+            unsafe { call(h.as_ptr(), h.len(), a.as_ptr(), a.len(), j.as_ptr(), j.len(), account, &mut value) };
+        (number, value)
     }
 
     pub fn balance(&self, account: i64) -> (i64, i64) {
-        let (h, a, j) = (self.header.words(), self.accounts.words(), self.journal.words());
-        let mut value = GUARD_WORD;
-        let number = unsafe {
-            foreign::toll_ledger_balance(
-                h.as_ptr(),
-                h.len(),
-                a.as_ptr(),
-                a.len(),
-                j.as_ptr(),
-                j.len(),
-                account,
-                &mut value,
-            )
-        };
-        (number, value)
+        self.ask(foreign::toll_ledger_balance, account)
     }
 
     pub fn top_up_due(&self, account: i64) -> (i64, i64) {
-        let (h, a, j) = (self.header.words(), self.accounts.words(), self.journal.words());
-        let mut value = GUARD_WORD;
-        let number = unsafe {
-            foreign::toll_ledger_topup_due(
-                h.as_ptr(),
-                h.len(),
-                a.as_ptr(),
-                a.len(),
-                j.as_ptr(),
-                j.len(),
-                account,
-                &mut value,
-            )
-        };
-        (number, value)
+        self.ask(foreign::toll_ledger_topup_due, account)
     }
 
     pub fn guarded(&self) -> bool {
