@@ -48,6 +48,31 @@ document-01 : listing example
 unfolding shown
 document-01 = refl
 
+-- "A bad line N prints `bad line N` in place of its answer and ends the output": a number of line 5 is missing, and line 6 is not read
+bad-event :
+    listing
+    (bytesOf "day,len,f2,f3,f4,r1t,r1p,r2t,r2p,r3t,r3p\n"
+    ++ bytesOf "1,30,500,2500,3000,250,500,600,900,1200,1600\n"
+    ++ bytesOf "kind,account,a,b,c,d,e\n"
+    ++ bytesOf "1,7,0,0,0,0,0\n"
+    ++ bytesOf "2,7,41,1,2,60\n"
+    ++ bytesOf "1,8,0,0,0,0,0\n")
+    ≡ bytesOf "event,answer,row,rows,raised,removed\n" ++ bytesOf "1,0,0,0,0,0\n" ++ bytesOf "bad line 5\n"
+unfolding shown
+bad-event = refl
+
+-- "for line 2, if the opening refuses it": there is no day 0; "for lines 1 to 3 that is the whole output"
+refused :
+    listing (bytesOf "day,len,f2,f3,f4,r1t,r1p,r2t,r2p,r3t,r3p\n" ++ bytesOf "0,30,500,2500,3000,250,500,600,900,1200,1600\n" ++ bytesOf "kind,account,a,b,c,d,e\n")
+    ≡ bytesOf "bad line 2\n"
+unfolding shown
+refused = refl
+
+-- "Lines end in a line feed, the last one's optional": line 2 is taken without it, and line 3 is missing
+unended : listing (bytesOf "day,len,f2,f3,f4,r1t,r1p,r2t,r2p,r3t,r3p\n" ++ bytesOf "1,30,500,2500,3000,250,500,600,900,1200,1600") ≡ bytesOf "bad line 3\n"
+unfolding shown
+unended = refl
+
 -- "So is a missing one of lines 1 to 3": an empty input
 empty : listing (bytesOf "") ≡ bytesOf "bad line 1\n"
 unfolding shown

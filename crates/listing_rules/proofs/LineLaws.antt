@@ -34,7 +34,7 @@ unfolding linesOf indexOf indexAfter inFirst
 lines-last [] e h = absurd (not-suc-le-zero h)
 lines-last (b ∷ []) e h = go (eqb b 10) e
   where
-    go : (t : Bool) → indexAfter t 0 ≡ 1 → cond t ([] ∷ []) ((b ∷ []) ∷ []) ≡ (b ∷ []) ∷ []
+    go : (t : Bool) → indexAfter t 0 ≡ 1 → cond t ([] ∷ linesOf []) (inFirst b (linesOf [])) ≡ (b ∷ []) ∷ []
     go true q = absurd (omega arith)
     go false q = refl
 lines-last (b ∷ c ∷ bs) e h = go (eqb b 10) e (λ q. lines-last (c ∷ bs) q (omega arith))
