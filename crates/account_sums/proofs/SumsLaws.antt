@@ -155,19 +155,6 @@ debits-skip t used paid debt owed i e s =
 
 -- ---- bounds
 
-pub countable-less : (t : List ℤ) (used n : ℕ) → Countable t used → n ≤ used → Countable t n
-countable-less t used n c h =
-    let r = c .room in
-    let f = c .few in
-    record {
-      room = omega arith;
-      few = omega arith;
-      kind = λ i q. c .kind i (omega arith);
-      account = λ i q. c .account i (omega arith);
-      amount = λ i q. c .amount i (omega arith);
-      settled = λ i q. c .settled i (omega arith);
-    }
-
 module _ (t : List ℤ) (used : ℕ) (c : Countable t used) where
   pub one-small : (k : ℕ) → k < used → 1 ≤ highestRefund
   one-small k h = omega arith

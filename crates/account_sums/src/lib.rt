@@ -1,4 +1,4 @@
-// What the rows come to for each account, in one pass, as arrays by account number: returned checks, used sources, unused money, settled
+// What the rows come to for each account, a row at a time, as arrays by account number: returned checks, used sources, unused money, settled
 // debits, debts that settlement may pay, and all that is unsettled. Uses lists, records, rules and tables.
 use row_tests::is_held;
 use table_rows::kind_at;
@@ -9,8 +9,9 @@ use tables::codes::PAYMENT;
 use tables::limits::MOST_ACCOUNTS;
 ghost use mathlib.Core.Path.{_≡_};
 ghost use mathlib.Core.Bool.{true, false, cond};
-ghost use Prim.Native.Nat.{_+_, _^_, _<_};
-ghost use lib.ListN.{getD, set};
+ghost use Prim.Native.Nat.{_+_, _*_, _^_, _≤_, _<_};
+ghost use lib.ListN.{length, getD, set};
+ghost use Rattle.records.specs.Layout.{rowWidth};
 ghost use Rattle.records.specs.Encoding.{rowAt};
 ghost use Rattle.rules.specs.Rows.{source};
 ghost use Rattle.account_sums.specs.Tallies.{Countable, SourceTallies, DebitTallies};
@@ -63,7 +64,7 @@ fn add_debit(
     debt: &mut [u64; SEATS],
     owed: &mut [u64; SEATS],
 )
-    requires { ⌜ Countable (now journal) used × (i < used) × (source (rowAt (now journal) i) ≡ false) × DebitTallies (now journal) used (now paid) (now debt) (now owed) i ⌝ }
+    requires { ⌜ Countable (now journal) (i + 1) × (used * rowWidth ≤ length (now journal)) × (source (rowAt (now journal) i) ≡ false) × DebitTallies (now journal) used (now paid) (now debt) (now owed) i ⌝ }
     ensures { λ _. ⌜ DebitTallies (now (journal .entry)) used (now (paid .exit)) (now (debt .exit)) (now (owed .exit)) (i + 1) ⌝ }
 {
     let r = read_row(journal, i);
@@ -74,8 +75,8 @@ fn add_debit(
     add(owed, a, left);
 }
 
-// Row i to its account's sums.
-fn add_row(
+// Row i to its account's sums, where the rows up to it can be counted.
+pub fn add_row(
     journal: &[i64],
     used: usize,
     i: usize,
@@ -86,7 +87,7 @@ fn add_row(
     debt: &mut [u64; SEATS],
     owed: &mut [u64; SEATS],
 )
-    requires { ⌜ Countable (now journal) used × (i < used) × SourceTallies (now journal) (now returned) (now drawn) (now money) i × DebitTallies (now journal) used (now paid) (now debt) (now owed) i ⌝ }
+    requires { ⌜ Countable (now journal) (i + 1) × (used * rowWidth ≤ length (now journal)) × SourceTallies (now journal) (now returned) (now drawn) (now money) i × DebitTallies (now journal) used (now paid) (now debt) (now owed) i ⌝ }
     ensures { λ _. ⌜ SourceTallies (now (journal .entry)) (now (returned .exit)) (now (drawn .exit)) (now (money .exit)) (i + 1) × DebitTallies (now (journal .entry)) used (now (paid .exit)) (now (debt .exit)) (now (owed .exit)) (i + 1) ⌝ }
 {
     let kind = kind_at(journal, i);
@@ -95,25 +96,4 @@ fn add_row(
         return;
     }
     add_debit(journal, used, i, paid, debt, owed);
-}
-
-// The used rows, each to its account's sums.
-pub fn add_rows(
-    journal: &[i64],
-    used: usize,
-    returned: &mut [u64; SEATS],
-    drawn: &mut [u64; SEATS],
-    money: &mut [u64; SEATS],
-    paid: &mut [u64; SEATS],
-    debt: &mut [u64; SEATS],
-    owed: &mut [u64; SEATS],
-)
-    requires { ⌜ Countable (now journal) used × SourceTallies (now journal) (now returned) (now drawn) (now money) 0 × DebitTallies (now journal) used (now paid) (now debt) (now owed) 0 ⌝ }
-    ensures { λ _. ⌜ SourceTallies (now (journal .entry)) (now (returned .exit)) (now (drawn .exit)) (now (money .exit)) used × DebitTallies (now (journal .entry)) used (now (paid .exit)) (now (debt .exit)) (now (owed .exit)) used ⌝ }
-{
-    let mut i = 0;
-    while i < used {
-        add_row(journal, used, i, returned, drawn, money, paid, debt, owed);
-        i += 1;
-    }
 }

@@ -17,12 +17,11 @@ ghost use Rattle.records.specs.Encoding.{rowAt, rowsOf};
 ghost use Rattle.rules.specs.Limits.{mostRows};
 ghost use Rattle.rules.specs.Rows.{toll};
 ghost use Rattle.tables.specs.Changes.{RowIn};
-ghost use Rattle.sound_fees.specs.Fees.{feesFew};
 ghost use Rattle.account_sums.specs.Tallies.{Tallied};
 ghost use Rattle.sound_fees.specs.Fees.{feeOf, feesWithin, feesAllWithin};
 
-// A count for each row number, from 0 on.
-const COUNTS: usize = MOST_ROWS + 1;
+// A count for each row number, from 0 on: 16 KiB of a caller's stack.
+pub const COUNTS: usize = MOST_ROWS + 1;
 
 fn wide(x: u16) -> u64
     ensures { λ r. ⌜ r ≡ x ⌝ }
@@ -31,7 +30,7 @@ fn wide(x: u16) -> u64
 }
 
 // Row i, where it is a fee, is counted at the row that it names.
-fn count_fee(journal: &[i64], counts: &mut [u16; COUNTS], i: usize)
+pub fn count_fee(journal: &[i64], counts: &mut [u16; COUNTS], i: usize)
     requires { ⌜ RowIn (now journal) i × (i < mostRows) × Tallied feeOf 8193 (now journal) (now counts) i ⌝ }
     ensures { λ _. ⌜ Tallied feeOf 8193 (now (journal .entry)) (now (counts .exit)) (i + 1) ⌝ }
 {
@@ -47,17 +46,6 @@ fn count_fee(journal: &[i64], counts: &mut [u16; COUNTS], i: usize)
     counts[k] = c + 1;
 }
 
-fn count_fees(journal: &[i64], used: usize, counts: &mut [u16; COUNTS])
-    requires { ⌜ (used * rowWidth ≤ length (now journal)) × (used ≤ mostRows) × Tallied feeOf 8193 (now journal) (now counts) 0 ⌝ }
-    ensures { λ _. ⌜ Tallied feeOf 8193 (now (journal .entry)) (now (counts .exit)) used ⌝ }
-{
-    let mut i = 0;
-    while i < used {
-        count_fee(journal, counts, i);
-        i += 1;
-    }
-}
-
 // Row i, which c fees name.
 fn fees_within(journal: &[i64], i: usize, c: u64) -> bool
     requires { ⌜ RowIn (now journal) i ⌝ }
@@ -69,7 +57,7 @@ fn fees_within(journal: &[i64], i: usize, c: u64) -> bool
     implies(kind_at(journal, i) == TOLL, c < mark_at(journal, i))
 }
 
-fn fees_all_within(journal: &[i64], used: usize, counts: &[u16; COUNTS]) -> bool
+pub fn fees_all_within(journal: &[i64], used: usize, counts: &[u16; COUNTS]) -> bool
     requires { ⌜ (used * rowWidth ≤ length (now journal)) × (used ≤ mostRows) ⌝ }
     ensures { λ b. ⌜ b ≡ feesAllWithin (now (counts .entry)) (rowsOf (now (journal .entry)) used) ⌝ }
 {
@@ -81,14 +69,4 @@ fn fees_all_within(journal: &[i64], used: usize, counts: &[u16; COUNTS]) -> bool
         i += 1;
     }
     true
-}
-
-// The counts are 16 KiB of the stack.
-pub fn fees_few(journal: &[i64], used: usize) -> bool
-    requires { ⌜ (used * rowWidth ≤ length (now journal)) × (used ≤ mostRows) ⌝ }
-    ensures { λ b. ⌜ b ≡ feesFew (rowsOf (now (journal .entry)) used) ⌝ }
-{
-    let mut counts = [0u16; COUNTS];
-    count_fees(journal, used, &mut counts);
-    fees_all_within(journal, used, &counts)
 }

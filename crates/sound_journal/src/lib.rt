@@ -21,7 +21,7 @@ ghost use Rattle.records.specs.Layout.{rowWidth, accountWidth};
 ghost use Rattle.records.specs.Encoding.{rowAt, rowsOf, accountsOf};
 ghost use Rattle.rules.specs.Limits.{finalDay, longestStage};
 ghost use Rattle.rules.specs.Soundness.{accountUsed, names, referenceFits};
-ghost use Rattle.sound_header.specs.Clauses.{Bounds, rowStands, rowsStand, emptyRow, restZero};
+ghost use Rattle.sound_header.specs.Clauses.{Bounds, rowStands, emptyRow, restZero};
 
 fn account_used(accounts: &[i64], count: usize, r: Row) -> bool
     requires { ⌜ count * accountWidth ≤ length (now accounts) ⌝ }
@@ -57,7 +57,7 @@ fn reference_fits(journal: &[i64], used: usize, n: u64, r: Row) -> bool
 }
 
 // Row i and its neighbours: all but the two clauses that count rows.
-fn row_stands(
+pub fn row_stands(
     accounts: &[i64],
     count: usize,
     journal: &[i64],
@@ -77,27 +77,6 @@ fn row_stands(
         return false;
     }
     reference_fits(journal, used, (i + 1) as u64, r)
-}
-
-pub fn rows_stand(
-    accounts: &[i64],
-    count: usize,
-    journal: &[i64],
-    used: usize,
-    today: u64,
-    stage: u64,
-) -> bool
-    requires { ⌜ Bounds (now accounts) (now journal) count used today stage ⌝ }
-    ensures { λ b. ⌜ b ≡ rowsStand (accountsOf (now (accounts .entry)) count) (rowsOf (now (journal .entry)) used) today stage ⌝ }
-{
-    let mut i = 0;
-    while i < used {
-        if !row_stands(accounts, count, journal, used, today, stage, i) {
-            return false;
-        }
-        i += 1;
-    }
-    true
 }
 
 fn row_empty(r: Row) -> bool

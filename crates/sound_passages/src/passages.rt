@@ -1,4 +1,4 @@
-// "Passage numbers differ", in linear time: the tolls read so far stand in digital search trees, so that no choice of numbers makes
+// "Passage numbers differ", in linear time, a row at a time: the tolls read so far stand in digital search trees, so that no choice of numbers makes
 // a way down longer than the bits that tell two numbers apart.
 use table_rows::kind_at;
 use table_rows::reference_at;
@@ -7,16 +7,15 @@ ghost use mathlib.Core.Path.{_≡_};
 ghost use Prim.Native.Nat.{_+_, _*_, _≤_, _<_};
 ghost use lib.ListN.{length};
 ghost use Rattle.records.specs.Layout.{rowWidth};
-ghost use Rattle.records.specs.Encoding.{rowsOf};
 ghost use Rattle.rules.specs.Limits.{mostRows};
 ghost use Rattle.tables.specs.Changes.{RowIn};
-ghost use Rattle.sound_passages.specs.Trees.{passagesDiffer};
 ghost use Rattle.sound_passages.specs.Trees.{mixOf, Grown, Spot, Planted};
 
 // A cell holds a row's number, 0 for none. The first ROOTS cells are the trees' roots; then each row has two cells, its branches.
 const ROOTS: usize = 16384;
 
-const CELLS: usize = 32768;
+// 64 KiB of a caller's stack.
+pub const CELLS: usize = 32768;
 
 // A passage number's bits spread by an odd multiplier: the first 14 of 32 choose the tree, the others the way down.
 fn mix(passage: u64) -> usize
@@ -51,7 +50,7 @@ fn spot(journal: &[i64], cells: &[u16; CELLS], n: usize, x: u64) -> usize
 }
 
 // Row n goes to its cell, where it is a toll: false where an earlier toll has its passage number.
-fn plant(journal: &[i64], cells: &mut [u16; CELLS], n: usize) -> bool
+pub fn plant(journal: &[i64], cells: &mut [u16; CELLS], n: usize) -> bool
     requires { ⌜ RowIn (now journal) n × (n < mostRows) × Grown (now journal) (now cells) n ⌝ }
     ensures { λ r. ⌜ Planted (now (journal .entry)) (now (cells .exit)) n r ⌝ }
 {
@@ -64,21 +63,5 @@ fn plant(journal: &[i64], cells: &mut [u16; CELLS], n: usize) -> bool
         return false;
     }
     cells[c] = (n + 1) as u16;
-    true
-}
-
-// The cells are 64 KiB of the stack.
-pub fn passages_differ(journal: &[i64], used: usize) -> bool
-    requires { ⌜ (used * rowWidth ≤ length (now journal)) × (used ≤ mostRows) ⌝ }
-    ensures { λ r. ⌜ r ≡ passagesDiffer (rowsOf (now (journal .entry)) used) ⌝ }
-{
-    let mut cells = [0u16; CELLS];
-    let mut i = 0;
-    while i < used {
-        if !plant(journal, &mut cells, i) {
-            return false;
-        }
-        i += 1;
-    }
     true
 }

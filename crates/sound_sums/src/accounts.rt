@@ -1,6 +1,5 @@
 // The accounts: each by itself, and against the sums of its rows.
 use account_sums::SEATS;
-use account_sums::add_rows;
 use records::Account;
 use sound_accounts::account_alone;
 use sound_header::tests::implies;
@@ -10,10 +9,9 @@ ghost use mathlib.Core.Path.{_≡_};
 ghost use Prim.Native.Nat.{_+_, _*_, _≤_, _<_};
 ghost use lib.ListN.{length};
 ghost use Rattle.records.specs.Layout.{accountWidth};
-ghost use Rattle.records.specs.Encoding.{rowsOf, accountAt, accountsOf};
+ghost use Rattle.records.specs.Encoding.{accountAt, accountsOf};
 ghost use Rattle.rules.specs.Limits.{mostAccounts};
-ghost use Rattle.account_sums.specs.Tallies.{Countable};
-ghost use Rattle.sound_sums.specs.Accounts.{sumsAgree, sumsAt, accountStands, allAgree, accountsStand};
+ghost use Rattle.sound_sums.specs.Accounts.{sumsAgree, sumsAt, accountStands, allAgree};
 
 // What an account's rows come to.
 pub struct Sums {
@@ -42,7 +40,7 @@ fn account_stands(accounts: &[i64], i: usize, today: u64, s: Sums) -> bool
     account_alone(today, x) & sums_agree(x, s)
 }
 
-fn all_agree(
+pub fn all_agree(
     accounts: &[i64],
     count: usize,
     today: u64,
@@ -73,44 +71,4 @@ fn all_agree(
         i += 1;
     }
     true
-}
-
-// The sums are 12 KiB of the stack.
-pub fn accounts_stand(
-    accounts: &[i64],
-    count: usize,
-    journal: &[i64],
-    used: usize,
-    today: u64,
-) -> bool
-    requires { ⌜ (count * accountWidth ≤ length (now accounts)) × (count ≤ mostAccounts) × Countable (now journal) used ⌝ }
-    ensures { λ b. ⌜ b ≡ accountsStand today (rowsOf (now (journal .entry)) used) (accountsOf (now (accounts .entry)) count) ⌝ }
-{
-    let mut returned = [0u64; SEATS];
-    let mut drawn = [0u64; SEATS];
-    let mut money = [0u64; SEATS];
-    let mut paid = [0u64; SEATS];
-    let mut debt = [0u64; SEATS];
-    let mut owed = [0u64; SEATS];
-    add_rows(
-        journal,
-        used,
-        &mut returned,
-        &mut drawn,
-        &mut money,
-        &mut paid,
-        &mut debt,
-        &mut owed,
-    );
-    all_agree(
-        accounts,
-        count,
-        today,
-        &returned,
-        &drawn,
-        &money,
-        &paid,
-        &debt,
-        &owed,
-    )
 }

@@ -5,31 +5,38 @@ use Prim.Native.Nat.{ℕ, _+_, _/_, _≤_, _<_, min}
 use native.Mathlib.Omega.{arith}
 use mathlib.Core.List.{List, [], _∷_}
 use lib.IntN.{ℤ}
-use lib.ListN.{length, getD}
+use lib.ListN.{length, replicate}
 use lib.Dec.{leb, eqb}
-use borrow.Author.Tests.{leb-true, le-leb, not-true}
-use Rattle.lists.specs.Tests.{_is_, _implies_, allOf}
+use borrow.Author.Tests.{le-leb}
+use borrow.Author.Count.{below-none}
+use Rattle.lists.specs.Tests.{allOf}
 use Rattle.lists.specs.Lists.{every}
-use Rattle.lists.proofs.TestLaws.{and-left, and-right, allOf-at}
-use Rattle.lists.proofs.ListLaws.{every-ext, every-and, tabulate-every, length-tabulate}
+use Rattle.lists.proofs.TestLaws.{and-right}
+use Rattle.lists.proofs.ListLaws.{every-ext, every-and, every-tabulate, length-tabulate}
 use Rattle.records.specs.Layout.{dayPlace, usedPlace, headerSchedule, stagePlace, accountWidth, rowWidth}
-use Rattle.records.specs.Encoding.{word, rowAt, rowsOf, accountAt, accountsOf}
-use Rattle.rules.specs.Limits.{finalDay, longestStage, mostAccounts, highestRefund}
-use Rattle.rules.specs.Rows.{Row, Refund}
+use Rattle.records.specs.Encoding.{word, rowAt, rowsOf, accountsOf}
+use Rattle.rules.specs.Limits.{finalDay}
+use Rattle.rules.specs.Rows.{Row}
 use Rattle.rules.specs.Schedule.{scheduleFits}
 use Rattle.rules.specs.Book.{Account, Book}
 use Rattle.rules.specs.Opening.{dayFits, sizesFit}
-use Rattle.rules.specs.Soundness.{kindFits, mostOf, amountFits, settledFits, accountUsed, referenceFits, passageOnce, feesFit, rowSound, returnedFits, even, spent, closedClear, accountSound, sound}
+use Rattle.rules.specs.Soundness.{passageOnce, feesFit, rowSound, returnedFits, even, spent, closedClear, accountSound, sound}
 use Rattle.rules.specs.Tables.{Tables, accountsIn, roomIn, rowsUsed, scheduleFrom, bookOf, wholeRecords, lengthsFit, usedFits, laterRowsZero, soundTables}
-use Rattle.rules.proofs.StorableLaws.{mostOf-le, used-inside, between-le, schedule-storable}
+use Rattle.rules.proofs.StorableLaws.{between-le, schedule-storable}
 use Rattle.sound_header.specs.Clauses.{ownWords, rowAlone, rowStands, rowsStand, restZero, tablesAt, Bounds}
 use Rattle.sound_header.proofs.LengthLaws.{lengths-known}
 use Rattle.sound_passages.specs.Trees.{passagesDiffer}
-use Rattle.sound_fees.specs.Fees.{feesFew}
+use Rattle.sound_passages.proofs.PassageLaws.{clean-differ}
+use Rattle.sound_passages.proofs.TreeLaws.{grown-none}
+use Rattle.sound_fees.specs.Fees.{feesFew, feeOf, feesAllWithin}
+use Rattle.sound_fees.proofs.FeeLaws.{fees-counted}
 use Rattle.soundness.specs.Book.{bookStands}
-use Rattle.sound_sums.specs.Accounts.{sumsAgree, accountStands, sumsOf, allAgree, accountsStand}
+use Rattle.sound_sums.specs.Accounts.{sumsAgree, accountStands, sumsAt, sumsOf, allAgree, accountsStand}
+use Rattle.sound_sums.proofs.AccountLaws.{all-stand}
 use Rattle.sound_accounts.specs.Alone.{accountAlone}
-use Rattle.account_sums.specs.Tallies.{Countable}
+use Rattle.account_sums.specs.Tallies.{returnOf, drawnOf, moneyOf, paidOf, debtOf, owedOf}
+use Rattle.account_sums.proofs.TallyLaws.{tallied-none}
+use Rattle.sound_walk.specs.Walks.{Walked, Unfit}
 
 -- ---- rows and accounts
 
@@ -139,32 +146,41 @@ module _ (h a j : List ℤ) (used today stage : ℕ) (f : Fit h a j used today s
         length = omega (arith, f .readStage, schedule-storable (scheduleFrom h headerSchedule) (f .schedule) .stage);
       }
 
--- ---- rows that stand can be counted
+-- ---- the rows once they are walked
 
-module _ (accounts journal : List ℤ) (count used today stage : ℕ) (b : Bounds accounts journal count used today stage)
-    (e : rowsStand (accountsOf accounts count) (rowsOf journal used) today stage ≡ true) where
-  row-at : (k : ℕ) → k < used → rowStands (accountsOf accounts count) (rowsOf journal used) today stage (k + 1) (rowAt journal k) ≡ true
-  unfolding rowsStand
-  row-at k h = tabulate-every _ (rowAt journal) used e k h
+-- no fees, sums or passage numbers before the first row
+pub walked-none : (accounts journal : List ℤ) (count used today stage : ℕ) → Walked accounts journal count used today stage (replicate 32768 0) (replicate 8193 0) (replicate 257 0) (replicate 257 0) (replicate 257 0) (replicate 257 0) (replicate 257 0) (replicate 257 0) 0
+walked-none accounts journal count used today stage = record {
+  stood = below-none _;
+  grown = grown-none journal 32768 refl;
+  fees = tallied-none feeOf 8193 journal;
+  sources = record { returns = tallied-none returnOf 257 journal; draws = tallied-none drawnOf 257 journal; moneys = tallied-none moneyOf 257 journal };
+  debits = record { payments = tallied-none paidOf 257 journal; debts = tallied-none (debtOf (rowsOf journal used)) 257 journal; owings = tallied-none owedOf 257 journal };
+}
 
-  pub countable : Countable journal used
-  countable = record { room = b .room; few = b .few; kind = kind-fits; account = account-le; amount = amount-le; settled = settled-le }
-    where
-      part : (k : ℕ) → k < used → (i : ℕ) → getD (rowAlone today stage (rowAt journal k) ∷ accountUsed (accountsOf accounts count) (rowAt journal k) ∷ referenceFits (rowsOf journal used) (k + 1) (rowAt journal k) ∷ []) i true ≡ true
-      part k h = unfold rowStands in allOf-at _ (row-at k h)
+module _ (accounts journal : List ℤ) (count used today stage : ℕ) where
+  pub unfit-stands : Unfit accounts journal count used today stage → false ≡ bookStands (accountsOf accounts count) (rowsOf journal used) today stage
+  unfolding bookStands allOf
+  unfit-stands e = rw (← and-assoc (rowsStand (accountsOf accounts count) (rowsOf journal used) today stage) (passagesDiffer (rowsOf journal used)) (feesFew (rowsOf journal used) && (accountsStand today (rowsOf journal used) (accountsOf accounts count) && true)), e)
 
-      kind-fits : (k : ℕ) → k < used → kindFits (rowAt journal k) ≡ true
-      kind-fits k h = unfold rowAlone in allOf-at _ (part k h 0) 0
+  module _ (b : Bounds accounts journal count used today stage) {cells counts returned drawn money paid debt owed : List ℕ} (w : Walked accounts journal count used today stage cells counts returned drawn money paid debt owed used) where
+    rows-stand : rowsStand (accountsOf accounts count) (rowsOf journal used) today stage ≡ true
+    unfolding rowsStand
+    rows-stand = every-tabulate _ (rowAt journal) used (w .stood)
 
-      account-le : (k : ℕ) → k < used → rowAt journal k .account ≤ mostAccounts
-      account-le k h = unfold accountUsed in
-          (let n = used-inside (accountsOf accounts count) (rowAt journal k .account) (not-true _ (part k h 1)) in
-          omega (arith, b .fewer, length-tabulate (accountAt accounts) count))
+    passages-differ : passagesDiffer (rowsOf journal used) ≡ true
+    passages-differ = clean-differ journal used (w .grown .clean)
 
-      amount-le : (k : ℕ) → k < used → rowAt journal k .amount ≤ highestRefund
-      amount-le k h = unfold rowAlone amountFits in
-          omega (arith, between-le 1 (mostOf (rowAt journal k .kind)) (rowAt journal k .amount) (allOf-at _ (part k h 0) 1), mostOf-le (rowAt journal k .kind))
+    -- too many fees
+    pub fees-unfit : feesAllWithin counts (rowsOf journal used) ≡ false → false ≡ bookStands (accountsOf accounts count) (rowsOf journal used) today stage
+    unfolding bookStands allOf
+    fees-unfit e =
+        let f : feesFew (rowsOf journal used) ≡ false = sym (fees-counted journal counts used (b .few) (w .fees)) ∙ e in
+        rw (rows-stand, passages-differ, f)
 
-      settled-le : (k : ℕ) → k < used → rowAt journal k .settled ≤ rowAt journal k .amount
-      settled-le k h = unfold rowAlone settledFits in
-          leb-true _ _ (and-left (leb (rowAt journal k .settled) (rowAt journal k .amount)) (rowAt journal k .kind is Refund implies rowAt journal k .settled is rowAt journal k .amount) (allOf-at _ (part k h 0) 2))
+    -- few fees: the accounts decide
+    pub sums-decide : feesAllWithin counts (rowsOf journal used) ≡ true → allAgree today (sumsAt returned drawn money paid debt owed) (accountsOf accounts count) ≡ bookStands (accountsOf accounts count) (rowsOf journal used) today stage
+    unfolding bookStands allOf
+    sums-decide e =
+        let f : feesFew (rowsOf journal used) ≡ true = sym (fees-counted journal counts used (b .few) (w .fees)) ∙ e in
+        all-stand journal used returned drawn money paid debt owed (w .sources) (w .debits) today accounts count (b .fewer) ∙ rw (rows-stand, passages-differ, f, and-true)

@@ -1,13 +1,15 @@
 // The check of a whole book: whether three lent tables of any lengths and contents are sound, in time that grows with the rows and
 // accounts. Uses lists, records, rules, tables and the crates of its clauses.
-use sound_fees::fees_few;
+use account_sums::SEATS;
+use sound_fees::COUNTS;
+use sound_fees::fees_all_within;
 use sound_header::header::day_fits;
 use sound_header::header::lengths_fit;
 use sound_header::header::schedule_fits;
 use sound_journal::later_rows_zero;
-use sound_journal::rows_stand;
-use sound_passages::passages::passages_differ;
-use sound_sums::accounts::accounts_stand;
+use sound_passages::passages::CELLS;
+use sound_sums::accounts::all_agree;
+use sound_walk::walk;
 use tables::layout::ACCOUNT_WIDTH;
 use tables::layout::DAY_PLACE;
 use tables::layout::HEADER_SCHEDULE;
@@ -24,8 +26,8 @@ ghost use Rattle.rules.specs.Tables.{soundTables};
 ghost use Rattle.sound_header.specs.Clauses.{tablesAt, Bounds};
 ghost use Rattle.soundness.specs.Book.{bookStands};
 
-// The used rows and the accounts, once the lengths and the header are found fit. Each pass starts only where the ones before it found
-// nothing, so the sums are of amounts that are known to be small.
+// The used rows and the accounts, once the lengths and the header are found fit: one pass over the rows, then the counts of fees and the
+// sums of accounts that it leaves.
 fn book_stands(
     accounts: &[i64],
     count: usize,
@@ -37,16 +39,46 @@ fn book_stands(
     requires { ⌜ Bounds (now accounts) (now journal) count used today stage ⌝ }
     ensures { λ b. ⌜ b ≡ bookStands (accountsOf (now (accounts .entry)) count) (rowsOf (now (journal .entry)) used) today stage ⌝ }
 {
-    if !rows_stand(accounts, count, journal, used, today, stage) {
+    let mut cells = [0u16; CELLS];
+    let mut counts = [0u16; COUNTS];
+    let mut returned = [0u64; SEATS];
+    let mut drawn = [0u64; SEATS];
+    let mut money = [0u64; SEATS];
+    let mut paid = [0u64; SEATS];
+    let mut debt = [0u64; SEATS];
+    let mut owed = [0u64; SEATS];
+    if !walk(
+        accounts,
+        count,
+        journal,
+        used,
+        today,
+        stage,
+        &mut cells,
+        &mut counts,
+        &mut returned,
+        &mut drawn,
+        &mut money,
+        &mut paid,
+        &mut debt,
+        &mut owed,
+    ) {
         return false;
     }
-    if !passages_differ(journal, used) {
+    if !fees_all_within(journal, used, &counts) {
         return false;
     }
-    if !fees_few(journal, used) {
-        return false;
-    }
-    accounts_stand(accounts, count, journal, used, today)
+    all_agree(
+        accounts,
+        count,
+        today,
+        &returned,
+        &drawn,
+        &money,
+        &paid,
+        &debt,
+        &owed,
+    )
 }
 
 // Whether the tables are sound. It takes 93 KiB of the stack in all: 64 for passage numbers, 16 for fees, 12 for sums.

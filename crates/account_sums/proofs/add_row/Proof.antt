@@ -1,9 +1,7 @@
 -- `add_row` meets its contract: a row is a source or a debit, and leaves the sums of the other side.
-use Rattle.account_sums.proofs.SumsLaws.{countable-less, sources-skip, debits-skip}
+use Rattle.account_sums.proofs.SumsLaws.{sources-skip, debits-skip}
 use Rattle.rules.specs.Rows.{source}
 use Rattle.records.specs.Encoding.{rowAt}
-use Prim.Native.Nat.{_+_}
-use native.Mathlib.Omega.{arith}
 use mathlib.Core.Bool.{true, false}
 use mathlib.Core.Path.{_≡_}
 use borrow.Author.Needs.{needs}
@@ -16,7 +14,7 @@ kind-at-requires c κs = search needs
 add-source-requires : tie.Need-add-source-requires
 add-source-requires c κs =
     let s = c .before .before .before .before .before in
-    (countable-less (s .args .journal .now) (s .args .used) (s .args .i + 1) (s .pre .0) (omega arith), rw (← c .before .before .before .before .kind-at .ensures) (c .before .before .before .if1 .taken), s .pre .2)
+    (s .pre .0, rw (← c .before .before .before .before .kind-at .ensures) (c .before .before .before .if1 .taken), s .pre .2)
 
 returns : tie.Need-returns
 returns c =

@@ -1,0 +1,60 @@
+-- `walk` meets its contract: the invariant is what the rows passed have shown; the measure is the rows left.
+use borrow.Author.Needs.{needs}
+use Rattle.sound_walk.specs.Walks.{Walked}
+use borrow.Author.Tests.{not-true, not-false}
+use Rattle.sound_walk.proofs.WalkLaws.{walks-good, walks-bad}
+use mathlib.Core.Path.{_≡_}
+use native.Mathlib.Omega.{arith}
+use Prim.Native.Nat.{_-_, _≤_}
+use Rattle.sound_walk.proofs.walk.Statement.{statement}
+use Rattle.sound_walk.proofs.walk.Tie as tie
+
+abbrev Inv-loop : tie.InvT-loop
+Inv-loop accounts count journal used today stage cells₀ counts₀ returned₀ drawn₀ money₀ paid₀ debt₀ owed₀ i₀ cells counts returned drawn money paid debt owed i =
+    (i ≤ used) × Walked accounts journal count used today stage cells counts returned drawn money paid debt owed i
+
+abbrev μ-loop : tie.MeasureT-loop
+μ-loop accounts count journal used today stage cells₀ counts₀ returned₀ drawn₀ money₀ paid₀ debt₀ owed₀ i₀ cells counts returned drawn money paid debt owed i =
+    used - i
+
+loop-holds : tie.Need-loop-holds Inv-loop μ-loop
+loop-holds c = (omega arith, c .pre .1)
+
+turn-requires : tie.Need-turn-requires Inv-loop μ-loop
+turn-requires c κs =
+    let t = c .before .before .before .before .before .before .before .before in
+    (t .before .before .pre .0, t .loop-test .taken, t .before .loop .inv .1)
+
+returns : tie.Need-returns Inv-loop μ-loop
+returns c =
+    let s = c .before .before .before .before .before .before .before .before .before .before .before .before in
+    walks-bad (s .args .accounts .now) (s .args .journal .now) (s .args .count) (s .args .used) (s .args .today) (s .args .stage) (c .before .turn .ensures .bad (not-true _ (c .if1 .taken)))
+
+add-i : tie.Need-add-i Inv-loop μ-loop
+add-i c = search needs
+
+loop-less : tie.Need-loop-less Inv-loop μ-loop
+loop-less c = search needs
+
+loop-again : tie.Need-loop-again Inv-loop μ-loop
+loop-again c = (omega arith, c .before .turn .ensures .good (not-false _ (c .if1 .left)))
+
+returns-2 : tie.Need-returns-2 Inv-loop μ-loop
+returns-2 c =
+    let s = c .before .before in
+    let e : c .before .loop .i ≡ s .args .used = omega arith in
+    walks-good (s .args .accounts .now) (s .args .journal .now) (s .args .count) (s .args .used) (s .args .today) (s .args .stage) (rw e at (c .before .loop .inv .1))
+
+pub walk-spec : {M : Type 1} → statement M
+walk-spec =
+    tie.close
+    (tie.spec
+    Inv-loop
+    μ-loop
+    loop-holds
+    turn-requires
+    returns
+    add-i
+    loop-less
+    loop-again
+    returns-2)
