@@ -17,6 +17,7 @@ use Rattle.records.specs.Encoding.{rowAt, rowsOf}
 use Rattle.rules.specs.Limits.{mostRows, highestRefund}
 use Rattle.rules.specs.Rows.{Row, Test, Payment, remaining, source, debit, held, sourceOf, debitOf, payable}
 use Rattle.rules.specs.Soundness.{kindFits, returnedOf}
+use Rattle.tables.specs.Changes.{RowIn}
 use Rattle.account_sums.specs.Tallies.{Tallied, returnOf, drawnOf, moneyOf, paidOf, debtOf, owedOf, SourceTallies, DebitTallies, Countable}
 use Rattle.account_sums.proofs.TallyLaws.{tallied-skip, tallied-add, tallied-small}
 
@@ -46,21 +47,28 @@ module _ (f : ℕ → Row → ℕ) (u : Test) (v : Row → ℕ) (share : Share f
   pub share-skipped : (t : List ℤ) (xs : List ℕ) (i : ℕ) → Tallied f 257 t xs i → u (rowAt t i) ≡ false → Tallied f 257 t xs (i + 1)
   share-skipped t xs i s e = tallied-skip f 257 t xs i s (λ n b. share .form n (rowAt t i) ∙ rw (e, and-false))
 
-  -- row i is added: r is the row, w its share
+  -- row i is added: a is its account, w its share
+  module _ (t : List ℤ) (xs : List ℕ) (i : ℕ) (s : Tallied f 257 t xs i) (used : ℕ) (c : Countable t used) (h : i < used) (a : ℕ) (e : a ≡ rowAt t i .account) (w : ℕ) (q : w ≡ cond (u (rowAt t i)) (v (rowAt t i)) 0) where
+    pub seat-asked : ((k : ℕ) → k < used → v (rowAt t k) ≤ highestRefund) → (a < 257) × (getD xs a 0 + w < 2 ^ 64)
+    seat-asked small =
+        let d : a < 257 = rw e (omega (arith, c .account i h)) in
+        let b : w ≤ highestRefund = rw q (part-le (u (rowAt t i)) (v (rowAt t i)) highestRefund (small i h)) in
+        let few = c .few in
+        let sum = tallied-small f 257 t highestRefund xs i a s d (λ k m. omega (arith, share-le a (rowAt t k), small k (omega arith))) in
+        (d, omega arith)
+
+    pub seat-added : (ys : List ℕ) → ys ≡ set xs a (getD xs a 0 + w) → Tallied f 257 t ys (i + 1)
+    seat-added ys z =
+        let d : a < 257 = rw e (omega (arith, c .account i h)) in
+        rw z (tallied-add f 257 t xs i a w s d (q ∙ sym (share-own a (rowAt t i) e)) (λ m n. share-other m (rowAt t i) (λ x. n (x ∙ sym e))))
+
+  -- the same, where the row was read: r is the row
   module _ (t : List ℤ) (xs : List ℕ) (i : ℕ) (s : Tallied f 257 t xs i) (used : ℕ) (c : Countable t used) (h : i < used) (r : Row) (e : r ≡ rowAt t i) (w : ℕ) (q : w ≡ cond (u r) (v r) 0) where
     pub share-asked : ((k : ℕ) → k < used → v (rowAt t k) ≤ highestRefund) → (r .account < 257) × (getD xs (r .account) 0 + w < 2 ^ 64)
-    share-asked small =
-        let a : r .account < 257 = rw e (omega (arith, c .account i h)) in
-        let b : w ≤ highestRefund = rw (q, e) (part-le (u (rowAt t i)) (v (rowAt t i)) highestRefund (small i h)) in
-        let few = c .few in
-        let sum = tallied-small f 257 t highestRefund xs i (r .account) s a (λ k d. omega (arith, share-le (r .account) (rowAt t k), small k (omega arith))) in
-        (a, omega arith)
+    share-asked = seat-asked t xs i s used c h (r .account) (rw e) w (q ∙ rw e)
 
     pub share-added : (ys : List ℕ) → ys ≡ set xs (r .account) (getD xs (r .account) 0 + w) → Tallied f 257 t ys (i + 1)
-    share-added ys z =
-        let a : r .account < 257 = rw e (omega (arith, c .account i h)) in
-        rw z
-        (tallied-add f 257 t xs i (r .account) w s a (q ∙ rw (← e) (sym (share-own (r .account) r refl))) (λ m d. rw (← e) (share-other m r d)))
+    share-added = seat-added t xs i s used c h (r .account) (rw e) w (q ∙ rw e)
 
 -- ---- the six sums
 
@@ -164,3 +172,13 @@ module _ (t : List ℤ) (used : ℕ) (c : Countable t used) where
 
   pub remaining-small : (k : ℕ) → k < used → rowAt t k .amount - rowAt t k .settled ≤ highestRefund
   remaining-small k h = omega (arith, c .amount k h)
+
+  -- a counted row is in its table, and its words can be read as plain numbers
+  pub account-plain : (k : ℕ) → k < used → RowIn t k × (rowAt t k .account < 2 ^ 63)
+  account-plain k h = let r = c .room in (omega arith, omega (arith, c .account k h))
+
+  pub settled-plain : (k : ℕ) → k < used → RowIn t k × (rowAt t k .settled < 2 ^ 63)
+  settled-plain k h = let r = c .room in (omega arith, omega (arith, settled-small k h))
+
+  pub amount-plain : (k : ℕ) → k < used → RowIn t k × (rowAt t k .amount < 2 ^ 63)
+  amount-plain k h = let r = c .room in (omega arith, omega (arith, c .amount k h))

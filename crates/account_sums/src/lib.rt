@@ -1,7 +1,11 @@
 // What the rows come to for each account, a row at a time, as arrays by account number: returned checks, used sources, unused money, settled
 // debits, debts that settlement may pay, and all that is unsettled. Uses lists, records, rules and tables.
+use plain_rows::small_account;
+use plain_rows::small_amount;
+use plain_rows::small_settled;
 use row_tests::is_held;
 use table_rows::kind_at;
+use table_rows::mark_at;
 use table_rows::read_row;
 use tables::codes::CHECK_RETURNED;
 use tables::codes::CREDIT;
@@ -44,15 +48,13 @@ fn add_source(
     requires { ⌜ Countable (now journal) (i + 1) × (source (rowAt (now journal) i) ≡ true) × SourceTallies (now journal) (now returned) (now drawn) (now money) i ⌝ }
     ensures { λ _. ⌜ SourceTallies (now (journal .entry)) (now (returned .exit)) (now (drawn .exit)) (now (money .exit)) (i + 1) ⌝ }
 {
-    let r = read_row(journal, i);
-    let a = r.account as usize;
-    add(
-        returned,
-        a,
-        part((r.kind == PAYMENT) & (r.mark == CHECK_RETURNED), 1),
-    );
-    add(drawn, a, r.settled);
-    add(money, a, r.amount - r.settled);
+    let a = small_account(journal, i) as usize;
+    let settled = small_settled(journal, i);
+    let check = kind_at(journal, i) == PAYMENT;
+    let bounced = mark_at(journal, i) == CHECK_RETURNED;
+    add(returned, a, part(check & bounced, 1));
+    add(drawn, a, settled);
+    add(money, a, small_amount(journal, i) - settled);
 }
 
 // Row i, a debit.
@@ -67,11 +69,15 @@ fn add_debit(
     requires { ⌜ Countable (now journal) (i + 1) × (used * rowWidth ≤ length (now journal)) × (source (rowAt (now journal) i) ≡ false) × DebitTallies (now journal) used (now paid) (now debt) (now owed) i ⌝ }
     ensures { λ _. ⌜ DebitTallies (now (journal .entry)) used (now (paid .exit)) (now (debt .exit)) (now (owed .exit)) (i + 1) ⌝ }
 {
-    let r = read_row(journal, i);
-    let a = r.account as usize;
-    let left = r.amount - r.settled;
-    add(paid, a, r.settled);
-    add(debt, a, part(!is_held(journal, used, r), left));
+    let a = small_account(journal, i) as usize;
+    let settled = small_settled(journal, i);
+    let left = small_amount(journal, i) - settled;
+    add(paid, a, settled);
+    add(
+        debt,
+        a,
+        part(!is_held(journal, used, read_row(journal, i)), left),
+    );
     add(owed, a, left);
 }
 

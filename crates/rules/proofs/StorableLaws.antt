@@ -45,7 +45,7 @@ mostOf-le (suc (suc (suc (suc (suc (suc (suc k))))))) = omega arith
 pub between-le : (lo hi n : ℕ) → n from lo to hi ≡ true → n ≤ hi
 between-le lo hi n e = leb-true n hi (and-right (leb lo n) (leb n hi) e)
 
-mark-le : (r : Row) → markFits r ≡ true → r .mark ≤ 4
+pub mark-le : (r : Row) → markFits r ≡ true → r .mark ≤ 4
 unfolding markFits
 mark-le r = go (toll r) (r .kind is Payment)
   where
@@ -70,7 +70,7 @@ module _ (r : Row) (w : tollWordsFit r ≡ true) where
         eqb-true (r .hold) 0 (and-right (r .due is 0 && r .dispute is 0) (r .hold is 0) z),
       )
 
-  dispute-le : r .dispute ≤ 3
+  pub dispute-le : r .dispute ≤ 3
   unfolding tollWordsFit
   dispute-le = go (toll r) refl w
     where
@@ -78,12 +78,12 @@ module _ (r : Row) (w : tollWordsFit r ≡ true) where
       go true e t = leb-true (r .dispute) 3 (and-left (leb (r .dispute) 3) (r .reference from 1 to highestPassage) t)
       go false e t = omega (arith, other-zero e .1)
 
-  due-le : (past last : ℕ) → dueWithin past last r ≡ true → r .due ≤ last
+  pub due-le : (past last : ℕ) → dueWithin past last r ≡ true → r .due ≤ last
   unfolding dueWithin
   due-le past last e =
       implied-le (toll r) _ (r .due) last e (λ c. leb-true (r .due) last (and-left (leb (r .due) last) _ c)) (λ o. other-zero o .0)
 
-  hold-le : (today L : ℕ) → holdFits today L r ≡ true → r .hold ≤ today
+  pub hold-le : (today L : ℕ) → holdFits today L r ≡ true → r .hold ≤ today
   unfolding holdFits
   hold-le today L e = implied-le (toll r) _ (r .hold) today e (go (eqb (r .dispute) 1)) (λ o. other-zero o .2)
     where
@@ -129,7 +129,7 @@ module _ (rows : List Row) (n : ℕ) (r : Row) (k : kindFits r ≡ true) (w : to
   abbrev credit-part : Bool
   credit-part = r .kind is Credit implies names rows n r Toll
 
-  reference-le : r .reference ≤ highestPassage + n
+  pub reference-le : r .reference ≤ highestPassage + n
   unfolding kindFits tollWordsFit noReference referenceFits
   reference-le = go (eqb (r .kind) 1) (eqb (r .kind) 2) (eqb (r .kind) 3) (eqb (r .kind) 4) (eqb (r .kind) 5) (eqb (r .kind) 6) refl refl refl refl refl refl
     where

@@ -1,21 +1,121 @@
 -- What the passes over the rows leave to show.
 use mathlib.Core.Path.{_≡_, refl, sym, ap, _∙_}
-use mathlib.Core.Bool.{Bool, true, _&&_, and-assoc}
+use mathlib.Core.Logic.{_≢_}
+use mathlib.Core.Bool.{Bool, true, _&&_, _||_, and-assoc, and-true, and-false}
 use Prim.Native.Nat.{ℕ, zero, suc, _+_, _*_, _≤_, _<_}
 use native.Mathlib.Omega.{arith}
 use mathlib.Core.List.{List, [], _∷_, _++_}
 use lib.IntN.{ℤ, pos}
 use lib.ListN.{length, getD, take, drop, take-append-drop}
 use lib.Seq.{drop-drop, drop-length, length-take-le}
-use Rattle.lists.specs.Tests.{_is_, allOf}
+use lib.Dec.{eqb, leb}
+use borrow.Author.Tests.{leb-true, eqb-true, eq-eqb, ne-eqb, lt-ltb, le-ltb, not-true}
+use Rattle.lists.specs.Tests.{_is_, _implies_, allOf}
+use Rattle.lists.proofs.TestLaws.{and-left, allOf-at}
 use Rattle.lists.specs.Lists.{everyFrom, tabulate}
-use Rattle.lists.proofs.ListLaws.{tabulate-getD}
+use Rattle.lists.proofs.ListLaws.{tabulate-getD, length-tabulate}
 use Rattle.records.specs.Layout.{rowWidth}
-use Rattle.records.specs.Encoding.{word, rowFrom, rowAt}
-use Rattle.rules.specs.Rows.{Row}
+use Rattle.records.specs.Encoding.{word, rowFrom, rowAt, rowsOf, accountAt, accountsOf, StorableRow}
+use Rattle.rules.specs.Limits.{finalDay, longestStage, mostAccounts, mostRows, highestRefund}
+use Rattle.rules.specs.Rows.{Row, Toll, Fee, Reversal, Payment, Credit, Refund, rowNo}
+use Rattle.rules.specs.Book.{Account}
+use Rattle.rules.specs.Soundness.{kindFits, mostOf, amountFits, settledFits, markFits, tollWordsFit, noReference, rowDayFits, dueFits, holdFits, accountUsed, names, referenceFits}
+use Rattle.rules.proofs.StorableLaws.{between-le, used-inside, mostOf-le, mark-le, due-le, dispute-le, hold-le, reference-le}
 use Rattle.rules.specs.Tables.{zeroWord}
 use Rattle.tables.specs.Changes.{RowIn}
-use Rattle.sound_header.specs.Clauses.{emptyRow, restZero}
+use Rattle.plain_rows.specs.Alike.{AlikeRow}
+use Rattle.plain_rows.proofs.AlikeLaws.{alike-test}
+use Rattle.sound_header.specs.Clauses.{ownWords, rowAlone, rowStands, Bounds, emptyRow, restZero}
+
+-- ---- the row that is named
+
+module _ (rows : List Row) (n : ℕ) (r : Row) (m : ℕ) where
+  pub names-later : n ≤ r .reference → m ≢ 0 → eqb 0 m ≡ names rows n r m
+  unfolding names
+  names-later h q = rw (ne-eqb 0 m (λ e. q (sym e)), le-ltb (r .reference) n h)
+
+  module _ (named : Row) (e : named ≡ rowNo rows (r .reference)) where
+    pub names-other : named .account ≢ r .account → m ≢ 0 → eqb 0 m ≡ names rows n r m
+    unfolding names
+    names-other a q = rw (← e, ne-eqb 0 m (λ e. q (sym e)), ne-eqb (named .account) (r .account) a, and-false)
+
+    pub names-same : r .reference < n → named .account ≡ r .account → eqb (named .kind) m ≡ names rows n r m
+    unfolding names
+    names-same h a = rw (← e, lt-ltb (r .reference) n h, eq-eqb (named .account) (r .account) a, and-true)
+
+-- the clause on references, by the kind of the row that is named
+module _ (rows : List Row) (n : ℕ) (r : Row) (k : ℕ) (f : (m : ℕ) → m ≢ 0 → eqb k m ≡ names rows n r m) where
+  pub fits-fee : r .kind ≡ Fee → (eqb k Toll || eqb k Payment) ≡ referenceFits rows n r
+  unfolding referenceFits
+  fits-fee e = simp (e, f 1 (λ q. omega arith), f 4 (λ q. omega arith), and-true)
+
+  pub fits-reversal : r .kind ≡ Reversal → eqb k Payment ≡ referenceFits rows n r
+  unfolding referenceFits
+  fits-reversal e = simp (e, f 4 (λ q. omega arith), and-true)
+
+  pub fits-credit : r .kind ≢ Fee → r .kind ≢ Reversal → (eqb (r .kind) Credit implies eqb k Toll) ≡ referenceFits rows n r
+  unfolding referenceFits
+  fits-credit a b = rw (f 1 (λ q. omega arith), ne-eqb (r .kind) Fee a, ne-eqb (r .kind) Reversal b)
+
+-- ---- rows that pass have small words
+
+-- a row that stands
+pub stands-small : (xs : List Account) (rows : List Row) (today L n : ℕ) → today ≤ finalDay → L ≤ longestStage → length xs ≤ mostAccounts → n ≤ mostRows → (r : Row) → rowStands xs rows today L n r ≡ true → StorableRow r
+stands-small xs rows today L n d l a m r e =
+    record {
+      kind = unfold kindFits in omega (arith, between-le 1 6 (r .kind) (alone 0));
+      account = unfold accountUsed in omega (arith, used-inside xs (r .account) (not-true _ (part 1)));
+      day = unfold rowDayFits in omega (arith, between-le 1 today (r .day) (own 3));
+      amount = omega (arith, amount-le);
+      settled = omega (arith, amount-le, settled-le);
+      mark = omega (arith, mark-le r (own 0));
+      due = omega (arith, due-le r (own 1) today (today + L) (own 4));
+      dispute = omega (arith, dispute-le r (own 1));
+      hold = omega (arith, hold-le r (own 1) today L (own 5));
+      reference = omega (arith, reference-le rows n r (alone 0) (own 1) (own 2) (part 2));
+    }
+  where
+    part : (i : ℕ) → getD (rowAlone today L r ∷ accountUsed xs r ∷ referenceFits rows n r ∷ []) i true ≡ true
+    part = unfold rowStands in allOf-at _ e
+
+    alone : (i : ℕ) → getD (kindFits r ∷ amountFits r ∷ settledFits r ∷ ownWords today L r ∷ []) i true ≡ true
+    alone = unfold rowAlone in allOf-at _ (part 0)
+
+    own : (i : ℕ) → getD (markFits r ∷ tollWordsFit r ∷ noReference r ∷ rowDayFits today r ∷ dueFits today L r ∷ holdFits today L r ∷ []) i true ≡ true
+    own = unfold ownWords in allOf-at _ (alone 3)
+
+    amount-le : r .amount ≤ highestRefund
+    amount-le = unfold amountFits in omega (arith, between-le 1 (mostOf (r .kind)) (r .amount) (alone 1), mostOf-le (r .kind))
+
+    settled-le : r .settled ≤ r .amount
+    settled-le = unfold settledFits in leb-true _ _ (and-left (leb (r .settled) (r .amount)) (r .kind is Refund implies r .settled is r .amount) (alone 2))
+
+-- so it stands as it is read
+pub stands-alike : (accounts journal : List ℤ) (count used today stage i : ℕ) → Bounds accounts journal count used today stage → i < used → (r : Row) → AlikeRow r (rowAt journal i)
+    → (b : Bool) → b ≡ rowStands (accountsOf accounts count) (rowsOf journal used) today stage (i + 1) r → b ≡ rowStands (accountsOf accounts count) (rowsOf journal used) today stage (i + 1) (rowAt journal i)
+stands-alike accounts journal count used today stage i l h r a b e =
+    e
+    ∙ alike-test (rowStands (accountsOf accounts count) (rowsOf journal used) today stage (i + 1))
+    (stands-small (accountsOf accounts count) (rowsOf journal used) today stage (i + 1) (l .day) (l .length) (omega (arith, l .fewer, length-tabulate (accountAt accounts) count)) (omega (arith, l .few)))
+    r (rowAt journal i) a
+
+-- an empty row
+pub empty-small : (r : Row) → emptyRow r ≡ true → StorableRow r
+unfolding emptyRow
+empty-small r e =
+    let zero-at : (i : ℕ) → getD (eqb (r .kind) 0 ∷ eqb (r .account) 0 ∷ eqb (r .day) 0 ∷ eqb (r .amount) 0 ∷ eqb (r .settled) 0 ∷ eqb (r .mark) 0 ∷ eqb (r .due) 0 ∷ eqb (r .dispute) 0 ∷ eqb (r .hold) 0 ∷ eqb (r .reference) 0 ∷ []) i true ≡ true = allOf-at _ e in
+    record {
+      kind = omega (arith, eqb-true (r .kind) 0 (zero-at 0));
+      account = omega (arith, eqb-true (r .account) 0 (zero-at 1));
+      day = omega (arith, eqb-true (r .day) 0 (zero-at 2));
+      amount = omega (arith, eqb-true (r .amount) 0 (zero-at 3));
+      settled = omega (arith, eqb-true (r .settled) 0 (zero-at 4));
+      mark = omega (arith, eqb-true (r .mark) 0 (zero-at 5));
+      due = omega (arith, eqb-true (r .due) 0 (zero-at 6));
+      dispute = omega (arith, eqb-true (r .dispute) 0 (zero-at 7));
+      hold = omega (arith, eqb-true (r .hold) 0 (zero-at 8));
+      reference = omega (arith, eqb-true (r .reference) 0 (zero-at 9));
+    }
 
 -- ---- words that are 0
 

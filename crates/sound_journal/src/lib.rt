@@ -1,10 +1,10 @@
 // The clauses of soundness on each row of the journal: its own, its account, its reference; and the rows past the used ones. Uses lists,
-// records, rules, tables, row_tests, sound_header and sound_rows.
+// records, rules, tables, plain_rows, sound_header and sound_rows.
+use plain_rows::plain_row;
 use records::Row;
 use sound_header::tests::implies;
 use sound_rows::row::row_alone;
 use table_accounts::account_numbered;
-use table_rows::read_row;
 use table_rows::row_numbered;
 use tables::codes::CREDIT;
 use tables::codes::FEE;
@@ -13,10 +13,9 @@ use tables::codes::REVERSAL;
 use tables::codes::TOLL;
 use tables::codes::UNUSED;
 ghost use mathlib.Core.Path.{_≡_};
-ghost use mathlib.Core.Bool.{_&&_};
-ghost use Prim.Native.Nat.{_+_, _*_, _≤_, _<_};
+ghost use Prim.Native.Nat.{ℕ, _+_, _*_, _≤_, _<_};
 ghost use lib.ListN.{length};
-ghost use lib.Dec.{ltb, eqb};
+ghost use lib.Dec.{eqb};
 ghost use Rattle.records.specs.Layout.{rowWidth, accountWidth};
 ghost use Rattle.records.specs.Encoding.{rowAt, rowsOf, accountsOf};
 ghost use Rattle.rules.specs.Limits.{finalDay, longestStage};
@@ -31,11 +30,19 @@ fn account_used(accounts: &[i64], count: usize, r: Row) -> bool
     x.state != UNUSED
 }
 
-// Row number n refers to an earlier row of the kind and of the same account; `named` is the row of that number.
-fn names_row(n: u64, r: Row, named: Row, kind: u64) -> bool
-    ensures { λ b. ⌜ b ≡ (ltb (r .reference) n && eqb (named .kind) kind && eqb (named .account) (r .account)) ⌝ }
+// The kind of the earlier row of the same account that row number n, r, refers to; 0 where there is none.
+fn named_kind(journal: &[i64], used: usize, n: u64, r: Row) -> u64
+    requires { ⌜ used * rowWidth ≤ length (now journal) ⌝ }
+    ensures { λ k. ⌜ ((m : ℕ) → (m ≡ 0 → ⊥) → eqb k m ≡ names (rowsOf (now (journal .entry)) used) n r m) ⌝ }
 {
-    (r.reference < n) & (named.kind == kind) & (named.account == r.account)
+    if r.reference >= n {
+        return 0;
+    }
+    let named = row_numbered(journal, used, r.reference);
+    if named.account != r.account {
+        return 0;
+    }
+    named.kind
 }
 
 fn reference_fits(journal: &[i64], used: usize, n: u64, r: Row) -> bool
@@ -48,15 +55,40 @@ fn reference_fits(journal: &[i64], used: usize, n: u64, r: Row) -> bool
     if r.kind == PAYMENT {
         return true;
     }
-    let named = row_numbered(journal, used, r.reference);
-    let toll = names_row(n, r, named, TOLL);
-    let payment = names_row(n, r, named, PAYMENT);
-    implies(r.kind == FEE, toll | payment)
-        & implies(r.kind == REVERSAL, payment)
-        & implies(r.kind == CREDIT, toll)
+    let named = named_kind(journal, used, n, r);
+    if r.kind == FEE {
+        return (named == TOLL) | (named == PAYMENT);
+    }
+    if r.kind == REVERSAL {
+        return named == PAYMENT;
+    }
+    implies(r.kind == CREDIT, named == TOLL)
 }
 
-// Row i and its neighbours: all but the two clauses that count rows.
+// Row number n, r, and its neighbours: all but the two clauses that count rows.
+fn stands(
+    accounts: &[i64],
+    count: usize,
+    journal: &[i64],
+    used: usize,
+    today: u64,
+    stage: u64,
+    n: u64,
+    r: Row,
+) -> bool
+    requires { ⌜ Bounds (now accounts) (now journal) count used today stage ⌝ }
+    ensures { λ b. ⌜ b ≡ rowStands (accountsOf (now (accounts .entry)) count) (rowsOf (now (journal .entry)) used) today stage n r ⌝ }
+{
+    if !row_alone(today, stage, r) {
+        return false;
+    }
+    if !account_used(accounts, count, r) {
+        return false;
+    }
+    reference_fits(journal, used, n, r)
+}
+
+// Row i with its words as they are: none that is negative passes its tests.
 pub fn row_stands(
     accounts: &[i64],
     count: usize,
@@ -69,14 +101,17 @@ pub fn row_stands(
     requires { ⌜ Bounds (now accounts) (now journal) count used today stage × (i < used) ⌝ }
     ensures { λ b. ⌜ b ≡ rowStands (accountsOf (now (accounts .entry)) count) (rowsOf (now (journal .entry)) used) today stage (i + 1) (rowAt (now (journal .entry)) i) ⌝ }
 {
-    let r = read_row(journal, i);
-    if !row_alone(today, stage, r) {
-        return false;
-    }
-    if !account_used(accounts, count, r) {
-        return false;
-    }
-    reference_fits(journal, used, (i + 1) as u64, r)
+    let r = plain_row(journal, i);
+    stands(
+        accounts,
+        count,
+        journal,
+        used,
+        today,
+        stage,
+        (i + 1) as u64,
+        r,
+    )
 }
 
 fn row_empty(r: Row) -> bool
@@ -97,7 +132,7 @@ pub fn later_rows_zero(journal: &[i64], used: usize, room: usize) -> bool
 {
     let mut i = used;
     while i < room {
-        if !row_empty(read_row(journal, i)) {
+        if !row_empty(plain_row(journal, i)) {
             return false;
         }
         i += 1;

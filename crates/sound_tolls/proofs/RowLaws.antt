@@ -1,10 +1,10 @@
 -- What the tests on one row leave to show.
 use mathlib.Core.Path.{_≡_, refl}
 use mathlib.Core.Logic.{_≢_}
-use mathlib.Core.Bool.{Bool, true, _&&_}
-use Prim.Native.Nat.{ℕ, zero, suc, _+_}
+use mathlib.Core.Bool.{Bool, true, _&&_, and-true}
+use Prim.Native.Nat.{ℕ, zero, suc, _+_, _≤_}
 use lib.Dec.{leb, ltb}
-use borrow.Author.Tests.{eq-eqb, ne-eqb}
+use borrow.Author.Tests.{eq-eqb, ne-eqb, le-leb}
 use Rattle.lists.specs.Tests.{_implies_}
 use Rattle.rules.specs.Rows.{Row, Toll, Held, LastStage}
 use Rattle.rules.specs.Soundness.{mostOf, noReference, dueWithin, dueFits, holdFits}
@@ -34,8 +34,8 @@ pub other-hold : (today L : ℕ) (r : Row) → r .kind ≢ Toll → holdFits tod
 unfolding holdFits
 other-hold today L r q = rw (ne-eqb (r .kind) Toll q)
 
--- a held toll's own tests
-pub held-fits : (today L : ℕ) (r : Row) (after : Bool) → r .kind ≡ Toll → r .dispute ≡ Held → after ≡ (ltb (r .mark) LastStage implies ltb (r .hold) (r .due))
-    → (leb 1 (r .hold) && leb today (r .hold + 29) && leb (r .hold) today && ltb (r .settled) (r .amount) && leb (r .due) (r .hold + L) && after) ≡ holdFits today L r
+-- a held toll's own tests, where its hold starts by today
+pub held-fits : (today L : ℕ) (r : Row) (after : Bool) → r .kind ≡ Toll → r .dispute ≡ Held → r .hold ≤ today → after ≡ (ltb (r .mark) LastStage implies ltb (r .hold) (r .due))
+    → (leb 1 (r .hold) && leb today (r .hold + 29) && ltb (r .settled) (r .amount) && leb (r .due) (r .hold + L) && after) ≡ holdFits today L r
 unfolding holdFits
-held-fits today L r after k d a = rw (a, eq-eqb (r .kind) Toll k, eq-eqb (r .dispute) Held d)
+held-fits today L r after k d h a = rw (a, eq-eqb (r .kind) Toll k, eq-eqb (r .dispute) Held d, le-leb (r .hold) today h, and-true)

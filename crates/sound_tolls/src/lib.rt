@@ -8,9 +8,11 @@ use tables::codes::LAST_STAGE;
 use tables::codes::UPHELD;
 use tables::limits::HIGHEST_PASSAGE;
 ghost use mathlib.Core.Path.{_≡_};
+ghost use mathlib.Core.Bool.{not, _&&_};
 ghost use Prim.Native.Nat.{_≤_};
+ghost use lib.Dec.{ltb};
 ghost use Rattle.rules.specs.Limits.{finalDay, longestStage};
-ghost use Rattle.rules.specs.Rows.{Toll};
+ghost use Rattle.rules.specs.Rows.{Toll, LastStage, unsettled, heldToll};
 ghost use Rattle.rules.specs.Soundness.{markFits, tollWordsFit, rowDayFits, dueFits, holdFits};
 ghost use Rattle.sound_header.specs.Clauses.{ownWords};
 
@@ -41,6 +43,20 @@ fn toll_words_fit(r: Row) -> bool
     between(1, r.reference, HIGHEST_PASSAGE)
 }
 
+// An unsettled unheld toll under the last stage.
+fn running(r: Row) -> bool
+    requires { ⌜ r .kind ≡ Toll ⌝ }
+    ensures { λ b. ⌜ b ≡ (unsettled r && not (heldToll r) && ltb (r .mark) LastStage) ⌝ }
+{
+    if r.settled >= r.amount {
+        return false;
+    }
+    if r.dispute == HELD {
+        return false;
+    }
+    r.mark < LAST_STAGE
+}
+
 fn due_fits(today: u64, stage: u64, r: Row) -> bool
     requires { ⌜ (r .kind ≡ Toll) × (today ≤ finalDay) × (stage ≤ longestStage) ⌝ }
     ensures { λ b. ⌜ b ≡ dueFits today stage r ⌝ }
@@ -48,16 +64,10 @@ fn due_fits(today: u64, stage: u64, r: Row) -> bool
     if r.due > today + stage {
         return false;
     }
-    if r.settled >= r.amount {
-        return 1 <= r.due;
+    if running(r) {
+        return today < r.due;
     }
-    if r.dispute == HELD {
-        return 1 <= r.due;
-    }
-    if r.mark >= LAST_STAGE {
-        return 1 <= r.due;
-    }
-    today < r.due
+    1 <= r.due
 }
 
 // A hold that starts after today is met before the sums, so that none of them wraps.
@@ -68,10 +78,10 @@ fn hold_fits(today: u64, stage: u64, r: Row) -> bool
     if r.dispute != HELD {
         return r.hold == 0;
     }
-    if r.hold > today {
+    if r.hold >= today + 1 {
         return false;
     }
-    let started = (1 <= r.hold) & (today <= r.hold + HOLD_LASTS) & (r.hold <= today);
+    let started = (1 <= r.hold) & (today <= r.hold + HOLD_LASTS);
     let after = implies(r.mark < LAST_STAGE, r.hold < r.due);
     started & (r.settled < r.amount) & (r.due <= r.hold + stage) & after
 }

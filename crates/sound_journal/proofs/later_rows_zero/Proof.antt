@@ -1,11 +1,12 @@
 -- `later_rows_zero` meets its contract: the invariant is that the words from here on decide; the measure is the rows left.
 use borrow.Author.Needs.{needs}
-use Rattle.sound_journal.proofs.JournalLaws.{rest-more, rest-none}
+use Rattle.sound_journal.proofs.JournalLaws.{empty-small, rest-more, rest-none}
+use Rattle.plain_rows.proofs.AlikeLaws.{alike-test}
 use Rattle.sound_header.specs.Clauses.{emptyRow, restZero}
 use Rattle.records.specs.Encoding.{rowAt}
 use borrow.Author.Tests.{not-true, not-false}
 use mathlib.Core.Bool.{true, false, _&&_}
-use mathlib.Core.Path.{_≡_, refl, sym, ap, _∙_}
+use mathlib.Core.Path.{_≡_, refl, sym, _∙_}
 use native.Mathlib.Omega.{arith}
 use Prim.Native.Nat.{ℕ, _+_, _*_, _-_, _≤_, _<_}
 use Rattle.sound_journal.proofs.later_rows_zero.Statement.{statement}
@@ -20,8 +21,8 @@ abbrev μ-loop : tie.MeasureT-loop
 loop-holds : tie.Need-loop-holds Inv-loop μ-loop
 loop-holds c = (omega arith, refl)
 
-read-row-requires : tie.Need-read-row-requires Inv-loop μ-loop
-read-row-requires c κs = search needs
+plain-row-requires : tie.Need-plain-row-requires Inv-loop μ-loop
+plain-row-requires c κs = search needs
 
 row-empty-requires : tie.Need-row-empty-requires Inv-loop μ-loop
 row-empty-requires c κs = search needs
@@ -31,7 +32,7 @@ returns c =
     let n = c .before in
     let a = n .before .before .before in
     let s = a .before in
-    let e : emptyRow (rowAt (s .args .journal .now) (a .loop .i)) ≡ false = ap emptyRow (sym (n .before .read-row .ensures)) ∙ sym (n .row-empty .ensures) ∙ not-true _ (c .if1 .taken) in
+    let e : emptyRow (rowAt (s .args .journal .now) (a .loop .i)) ≡ false = sym (alike-test emptyRow empty-small _ _ (n .before .plain-row .ensures)) ∙ sym (n .row-empty .ensures) ∙ not-true _ (c .if1 .taken) in
     sym (sym (a .loop .inv .1) ∙ rest-more (s .args .journal .now) (a .loop .i) (omega arith) ∙ rw e)
 
 add-i : tie.Need-add-i Inv-loop μ-loop
@@ -45,7 +46,7 @@ loop-again c =
     let n = c .before in
     let a = n .before .before .before in
     let s = a .before in
-    let e : emptyRow (rowAt (s .args .journal .now) (a .loop .i)) ≡ true = ap emptyRow (sym (n .before .read-row .ensures)) ∙ sym (n .row-empty .ensures) ∙ not-false _ (c .if1 .left) in
+    let e : emptyRow (rowAt (s .args .journal .now) (a .loop .i)) ≡ true = sym (alike-test emptyRow empty-small _ _ (n .before .plain-row .ensures)) ∙ sym (n .row-empty .ensures) ∙ not-false _ (c .if1 .left) in
     let m : restZero (s .args .journal .now) (a .loop .i) ≡ restZero (s .args .journal .now) (a .loop .i + 1) = rest-more (s .args .journal .now) (a .loop .i) (omega arith) ∙ rw e in
     (omega arith, sym m ∙ a .loop .inv .1)
 
@@ -63,7 +64,7 @@ later-rows-zero-spec =
     Inv-loop
     μ-loop
     loop-holds
-    read-row-requires
+    plain-row-requires
     row-empty-requires
     returns
     add-i

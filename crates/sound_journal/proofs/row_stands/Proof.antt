@@ -1,58 +1,23 @@
--- `row_stands` meets its contract: the first test that fails decides.
-use Rattle.sound_header.specs.Clauses.{rowStands}
-use Rattle.lists.specs.Tests.{allOf}
-use borrow.Author.Tests.{not-true, not-false}
-use mathlib.Core.Bool.{and-true, and-false}
-use mathlib.Core.Path.{_≡_, sym, _∙_}
+-- `row_stands` meets its contract: a row that passes has small words, and those are the table's.
+use Rattle.sound_journal.proofs.JournalLaws.{stands-alike}
 use borrow.Author.Needs.{needs}
 use Rattle.sound_journal.proofs.row_stands.Statement.{statement}
 use Rattle.sound_journal.proofs.row_stands.Tie as tie
 
-read-row-requires : tie.Need-read-row-requires
-read-row-requires c κs = search needs
+plain-row-requires : tie.Need-plain-row-requires
+plain-row-requires c κs = search needs
 
-row-alone-requires : tie.Need-row-alone-requires
-row-alone-requires c κs = search needs
+add-stands : tie.Need-add-stands
+add-stands c = search needs
+
+stands-requires : tie.Need-stands-requires
+stands-requires c κs = search needs
 
 returns : tie.Need-returns
-unfolding rowStands allOf
 returns c =
-    let e = sym (c .before .row-alone .ensures) ∙ not-true _ (c .if1 .taken) in
-    rw (← c .before .before .read-row .ensures, e)
-
-account-used-requires : tie.Need-account-used-requires
-account-used-requires c κs = search needs
-
-returns-2 : tie.Need-returns-2
-unfolding rowStands allOf
-returns-2 c =
-    let e = sym (c .before .account-used .ensures) ∙ not-true _ (c .if2 .taken) in
-    rw (← c .before .before .before .before .read-row .ensures, e, and-false)
-
-add-reference-fits : tie.Need-add-reference-fits
-add-reference-fits c = search needs
-
-reference-fits-requires : tie.Need-reference-fits-requires
-reference-fits-requires c κs = search needs
-
-returns-3 : tie.Need-returns-3
-unfolding rowStands allOf
-returns-3 c =
-    let u = c .before in
-    let a = u .before .before in
-    let t1 = sym (a .before .row-alone .ensures) ∙ not-false _ (a .if1 .left) in
-    let t2 = sym (u .before .account-used .ensures) ∙ not-false _ (u .if2 .left) in
-    rw (← a .before .before .read-row .ensures, t1, t2, and-true) (c .reference-fits .ensures)
+    let s = c .before .before in
+    stands-alike (s .args .accounts .now) (s .args .journal .now) (s .args .count) (s .args .used) (s .args .today) (s .args .stage) (s .args .i) (s .pre .0) (s .pre .1)
+    (c .before .plain-row .result) (c .before .plain-row .ensures) (c .stands .result) (c .stands .ensures)
 
 pub row-stands-spec : {M : Type 1} → statement M
-row-stands-spec =
-    tie.close
-    (tie.spec
-    read-row-requires
-    row-alone-requires
-    returns
-    account-used-requires
-    returns-2
-    add-reference-fits
-    reference-fits-requires
-    returns-3)
+row-stands-spec = tie.close (tie.spec plain-row-requires add-stands stands-requires returns)

@@ -1,7 +1,8 @@
 -- `due_fits` meets its contract: each way through the tests decides the clause.
 use Prim.Native.Nat.{_+_}
 use Rattle.rules.specs.Soundness.{dueWithin}
-use borrow.Author.Tests.{eq-eqb, le-leb, le-ltb, lt-leb, lt-ltb, ne-eqb}
+use borrow.Author.Tests.{eq-eqb, le-leb, lt-leb}
+use mathlib.Core.Path.{sym, _∙_}
 use native.Mathlib.Omega.{arith}
 use borrow.Author.Needs.{needs}
 use Rattle.sound_tolls.proofs.due_fits.Statement.{statement}
@@ -17,33 +18,24 @@ returns c =
     let r = s .args .r in
     simp (eq-eqb (r .kind) 1 (omega arith), lt-leb (r .due) (s .args .today + s .args .stage) (omega arith))
 
+running-requires : tie.Need-running-requires
+running-requires c κs = search needs
+
 returns-2 : tie.Need-returns-2
 unfolding dueWithin
 returns-2 c =
     let s = c .before .before .before .before .before in
     let r = s .args .r in
-    simp (eq-eqb (r .kind) 1 (omega arith), le-leb (r .due) (s .args .today + s .args .stage) (omega arith), le-ltb (r .settled) (r .amount) (omega arith))
+    let e = sym (c .before .before .running .ensures) ∙ c .before .if2 .taken in
+    rw (e, eq-eqb (r .kind) 1 (omega arith), le-leb (r .due) (s .args .today + s .args .stage) (omega arith))
 
 returns-3 : tie.Need-returns-3
 unfolding dueWithin
 returns-3 c =
-    let s = c .before .before .before .before .before .before .before in
+    let s = c .before .before .before .before .before in
     let r = s .args .r in
-    simp (eq-eqb (r .kind) 1 (omega arith), le-leb (r .due) (s .args .today + s .args .stage) (omega arith), lt-ltb (r .settled) (r .amount) (omega arith), eq-eqb (r .dispute) 1 (omega arith))
-
-returns-4 : tie.Need-returns-4
-unfolding dueWithin
-returns-4 c =
-    let s = c .before .before .before .before .before .before .before .before .before in
-    let r = s .args .r in
-    simp (eq-eqb (r .kind) 1 (omega arith), le-leb (r .due) (s .args .today + s .args .stage) (omega arith), lt-ltb (r .settled) (r .amount) (omega arith), ne-eqb (r .dispute) 1 (λ e. omega arith), le-ltb (r .mark) 4 (omega arith))
-
-returns-5 : tie.Need-returns-5
-unfolding dueWithin
-returns-5 c =
-    let s = c .before .before .before .before .before .before .before .before .before in
-    let r = s .args .r in
-    simp (eq-eqb (r .kind) 1 (omega arith), le-leb (r .due) (s .args .today + s .args .stage) (omega arith), lt-ltb (r .settled) (r .amount) (omega arith), ne-eqb (r .dispute) 1 (λ e. omega arith), lt-ltb (r .mark) 4 (omega arith))
+    let e = sym (c .before .before .running .ensures) ∙ c .before .if2 .left in
+    rw (e, eq-eqb (r .kind) 1 (omega arith), le-leb (r .due) (s .args .today + s .args .stage) (omega arith))
 
 pub due-fits-spec : {M : Type 1} → statement M
-due-fits-spec = tie.close (tie.spec add-if1 returns returns-2 returns-3 returns-4 returns-5)
+due-fits-spec = tie.close (tie.spec add-if1 returns running-requires returns-2 returns-3)

@@ -15,6 +15,9 @@ returns c =
     let r = s .args .r in
     simp (eq-eqb (r .kind) 1 (omega arith), ne-eqb (r .dispute) 1 (λ e. omega arith))
 
+add-if2 : tie.Need-add-if2
+add-if2 c = search needs
+
 returns-2 : tie.Need-returns-2
 unfolding holdFits
 returns-2 c =
@@ -29,14 +32,16 @@ implies-requires : tie.Need-implies-requires
 implies-requires c κs = search needs
 
 add-result : tie.Need-add-result
-add-result c = omega (arith, c .before .before .before .before .before .before .before .before)
+add-result c = search needs
 
 returns-3 : tie.Need-returns-3
 returns-3 c =
-    let s = c .before .before .before .before .before .before .before .before .before .before .before .before .before in
+    let l = c .before .before .before .before .before .before .before .before in
+    let s = l .before .before .before .before in
     let r = s .args .r in
-    held-fits (s .args .today) (s .args .stage) r (c .before .before .before .implies .result) (s .pre .0) (omega (arith, c .before .before .before .before .before .before .before .before .before)) (c .before .before .before .implies .ensures)
+    held-fits (s .args .today) (s .args .stage) r (c .before .before .before .implies .result) (s .pre .0) (omega (arith, l .before .before)) (omega (arith, l)) (c .before .before .before .implies .ensures)
 
 pub hold-fits-spec : {M : Type 1} → statement M
 hold-fits-spec =
-    tie.close (tie.spec returns returns-2 add-started implies-requires add-result returns-3)
+    tie.close
+    (tie.spec returns add-if2 returns-2 add-started implies-requires add-result returns-3)
