@@ -15,6 +15,7 @@ use tables::limits::HIGHEST_PAYMENT;
 use tables::limits::HIGHEST_RATE;
 use tables::limits::HIGHEST_REFUND;
 ghost use mathlib.Core.Path.{_≡_};
+ghost use mathlib.Core.Bool.{_&&_};
 ghost use Prim.Native.Nat.{ℕ, _≤_};
 ghost use Rattle.rules.specs.Limits.{finalDay, longestStage};
 ghost use Rattle.rules.specs.Rows.{Toll};
@@ -63,16 +64,6 @@ fn settled_fits(r: Row) -> bool
 
 // ---- another row
 
-fn method_fits(r: Row) -> bool
-    requires { ⌜ (r .kind ≡ Toll → ⊥) ⌝ }
-    ensures { λ b. ⌜ b ≡ markFits r ⌝ }
-{
-    if r.kind == PAYMENT {
-        return between(CARD, r.mark, CHECK_RETURNED);
-    }
-    r.mark == 0
-}
-
 fn no_toll_words(r: Row) -> bool
     requires { ⌜ (r .kind ≡ Toll → ⊥) ⌝ }
     ensures { λ b. ⌜ b ≡ tollWordsFit r ⌝ }
@@ -80,32 +71,34 @@ fn no_toll_words(r: Row) -> bool
     (r.due == 0) & (r.dispute == 0) & (r.hold == 0)
 }
 
-fn no_reference(r: Row) -> bool
-    ensures { λ b. ⌜ b ≡ noReference r ⌝ }
+// Its method, where it is a payment, and no mark otherwise; no reference, where it is a payment or a refund.
+fn method_and_reference_fit(r: Row) -> bool
+    requires { ⌜ (r .kind ≡ Toll → ⊥) ⌝ }
+    ensures { λ b. ⌜ b ≡ (markFits r && noReference r) ⌝ }
 {
     if r.kind == PAYMENT {
-        return r.reference == 0;
+        return between(CARD, r.mark, CHECK_RETURNED) & (r.reference == 0);
     }
-    if r.kind == REFUND {
-        return r.reference == 0;
+    if r.mark != 0 {
+        return false;
     }
-    true
+    if r.kind != REFUND {
+        return true;
+    }
+    r.reference == 0
 }
 
 fn other_fits(today: u64, r: Row) -> bool
     requires { ⌜ (r .kind ≡ Toll → ⊥) ⌝ }
     ensures { λ b. ⌜ ((L : ℕ) → b ≡ ownWords today L r) ⌝ }
 {
-    if !method_fits(r) {
-        return false;
-    }
     if !no_toll_words(r) {
         return false;
     }
-    if !no_reference(r) {
+    if !row_day_fits(today, r) {
         return false;
     }
-    row_day_fits(today, r)
+    method_and_reference_fit(r)
 }
 
 // ---- all that a row is tested for by itself
