@@ -1,10 +1,10 @@
 // The settlement of one account over the journal: unused sources in row order pay unsettled unheld debits in row order, until either
 // side is spent. Uses lists, records, rules and tables.
-use records::Row;
 use row_tests::is_debit;
 use row_tests::is_held;
 use row_tests::is_source;
 use row_tests::remaining_of;
+use table_rows::account_at;
 use table_rows::put_settled;
 use table_rows::read_row;
 ghost use mathlib.Core.Path.{_≡_};
@@ -17,27 +17,30 @@ ghost use Rattle.rules.specs.Rows.{remaining, settleMore, sourceOf, payable};
 ghost use Rattle.tables.specs.Changes.{RowIn, RowChanged};
 ghost use Rattle.settlement.specs.Settling.{Journal, NextDebit, Settled};
 
-// What the row has as a source of the account.
-fn unused(r: Row, account: u64) -> u64
-    ensures { λ n. ⌜ n ≡ only (sourceOf account) remaining r ⌝ }
+// What row i has as a source of the account. Most rows are other accounts', so the account is read first and alone.
+fn unused(journal: &[i64], i: usize, account: u64) -> u64
+    requires { ⌜ RowIn (now journal) i ⌝ }
+    ensures { λ n. ⌜ n ≡ only (sourceOf account) remaining (rowAt (now (journal .entry)) i) ⌝ }
 {
-    if r.account != account {
+    if account_at(journal, i) != account {
         return 0;
     }
+    let r = read_row(journal, i);
     if is_source(r) {
         return remaining_of(r);
     }
     0
 }
 
-// What the row wants as a debit of the account that is not held.
-fn wanted(journal: &[i64], used: usize, r: Row, account: u64) -> u64
-    requires { ⌜ used * rowWidth ≤ length (now journal) ⌝ }
-    ensures { λ n. ⌜ n ≡ only (payable (rowsOf (now (journal .entry)) used) account) remaining r ⌝ }
+// What row i wants as a debit of the account that is not held; the account is read first here too.
+fn wanted(journal: &[i64], used: usize, i: usize, account: u64) -> u64
+    requires { ⌜ (used * rowWidth ≤ length (now journal)) × (i < used) ⌝ }
+    ensures { λ n. ⌜ n ≡ only (payable (rowsOf (now (journal .entry)) used) account) remaining (rowAt (now (journal .entry)) i) ⌝ }
 {
-    if r.account != account {
+    if account_at(journal, i) != account {
         return 0;
     }
+    let r = read_row(journal, i);
     if is_debit(r) {
         if is_held(journal, used, r) {
             return 0;
@@ -54,7 +57,7 @@ fn next_debit(journal: &[i64], used: usize, j: usize, account: u64) -> usize
 {
     let mut k = j;
     while k < used {
-        if 0 < wanted(journal, used, read_row(journal, k), account) {
+        if 0 < wanted(journal, used, k, account) {
             return k;
         }
         k += 1;
@@ -85,13 +88,13 @@ pub fn settle(journal: &mut [i64], used: usize, account: u64)
     let mut i = 0;
     let mut j = 0;
     'sources: while i < used {
-        let mut x = unused(read_row(journal, i), account);
+        let mut x = unused(journal, i, account);
         while 0 < x {
             j = next_debit(journal, used, j, account);
             if used <= j {
                 break 'sources;
             }
-            let m = lesser(x, wanted(journal, used, read_row(journal, j), account));
+            let m = lesser(x, wanted(journal, used, j, account));
             add_settled(journal, i, m);
             add_settled(journal, j, m);
             x = x - m;

@@ -41,12 +41,19 @@ pub fn read_row(journal: &[i64], i: usize) -> Row
     }
 }
 
-// One word of row i, where a pass reads no other.
+// One word of row i, where a pass reads no other, or this one first.
 pub fn kind_at(journal: &[i64], i: usize) -> u64
     requires { ⌜ RowIn (now journal) i ⌝ }
     ensures { λ r. ⌜ r ≡ rowAt (now (journal .entry)) i .kind ⌝ }
 {
     get(journal, i * ROW_WIDTH + KIND_PLACE)
+}
+
+pub fn account_at(journal: &[i64], i: usize) -> u64
+    requires { ⌜ RowIn (now journal) i ⌝ }
+    ensures { λ r. ⌜ r ≡ rowAt (now (journal .entry)) i .account ⌝ }
+{
+    get(journal, i * ROW_WIDTH + ACCOUNT_PLACE)
 }
 
 pub fn mark_at(journal: &[i64], i: usize) -> u64

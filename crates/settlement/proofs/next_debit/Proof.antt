@@ -20,20 +20,17 @@ abbrev μ-loop : tie.MeasureT-loop
 loop-holds : tie.Need-loop-holds Inv-loop μ-loop
 loop-holds c = (omega arith, omega arith, λ i h l. absurd (omega arith))
 
-read-row-requires : tie.Need-read-row-requires Inv-loop μ-loop
-read-row-requires c κs = omega arith
-
 wanted-requires : tie.Need-wanted-requires Inv-loop μ-loop
-wanted-requires c κs = omega arith
+wanted-requires c κs = (c .before .before .pre .0, c .loop-test .taken)
 
 returns : tie.Need-returns Inv-loop μ-loop
 returns c =
-    let l = c .before .before .before .before .loop in
+    let l = c .before .before .before .loop in
     record {
       after = l .inv .0;
       within = l .inv .1;
       passed = l .inv .2;
-      wants = λ h. rw (c .before .wanted .ensures, c .before .before .read-row .ensures) at (c .if1 .taken);
+      wants = λ h. rw (c .before .wanted .ensures) at (c .if1 .taken);
     }
 
 add-k : tie.Need-add-k Inv-loop μ-loop
@@ -44,8 +41,8 @@ loop-less c = omega arith
 
 loop-again : tie.Need-loop-again Inv-loop μ-loop
 loop-again c =
-    let l = c .before .before .before .before .loop in
-    let w = rw (c .before .wanted .ensures, c .before .before .read-row .ensures) at (c .if1 .left) in (
+    let l = c .before .before .before .loop in
+    let w = rw (c .before .wanted .ensures) at (c .if1 .left) in (
       omega arith,
       omega arith,
       λ i h q.
@@ -67,7 +64,6 @@ next-debit-spec =
     Inv-loop
     μ-loop
     loop-holds
-    read-row-requires
     wanted-requires
     returns
     add-k

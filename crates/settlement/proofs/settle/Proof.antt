@@ -19,7 +19,6 @@ use Rattle.settlement.proofs.lesser.Reads as lesser-reads
 use Rattle.settlement.proofs.next_debit.Reads as next-debit-reads
 use Rattle.settlement.proofs.unused.Reads as unused-reads
 use Rattle.settlement.proofs.wanted.Reads as wanted-reads
-use Rattle.table_rows.proofs.read_row.Reads as read-row-reads
 
 abbrev Inv-loop : tie.InvT-loop
 Inv-loop journal₀ used account i j₀ x₀ journal j x =
@@ -40,8 +39,6 @@ abbrev μ-sources : tie.MeasureT-sources
 abbrev Found : Type 0
 Found =
     lts.After-lesser (
-      read-row-reads.Asked,
-      read-row-reads.Learnt,
       unused-reads.Asked,
       unused-reads.Learnt,
       next-debit-reads.Asked,
@@ -56,21 +53,20 @@ Found =
     reads.Pre reads.Post Inv-loop μ-loop Inv-sources μ-sources
 
 turn-from : (c : Found) (old : List ℤ)
-    → Walking (c .before .before .before .before .before .before .before .before .before .before .before .before .before .before .args .account) (c .before .before .before .before .before .before .before .before .before .before .before .before .before .before .args .used) old (c .before .before .before .before .before .before .before .before .before .before .before .before .before .sources .journal) (c .before .before .before .before .before .before .before .before .before .before .before .before .before .sources .i) (c .before .before .before .before .before .before .before .before .before .before .before .before .before .sources .j)
-    → Turn (c .before .before .before .before .before .before .before .before .before .before .before .before .before .before .args .account) (c .before .before .before .before .before .before .before .before .before .before .before .before .before .before .args .used) old (c .before .before .before .before .before .before .before .before .loop .journal) (c .before .before .before .before .before .before .before .before .before .before .before .before .before .sources .i) (c .before .before .before .before .before .next-debit .result) (c .lesser .result)
+    → Walking (c .before .before .before .before .before .before .before .before .before .before .before .before .args .account) (c .before .before .before .before .before .before .before .before .before .before .before .before .args .used) old (c .before .before .before .before .before .before .before .before .before .before .before .sources .journal) (c .before .before .before .before .before .before .before .before .before .before .before .sources .i) (c .before .before .before .before .before .before .before .before .before .before .before .sources .j)
+    → Turn (c .before .before .before .before .before .before .before .before .before .before .before .before .args .account) (c .before .before .before .before .before .before .before .before .before .before .before .before .args .used) old (c .before .before .before .before .before .before .before .loop .journal) (c .before .before .before .before .before .before .before .before .before .before .before .sources .i) (c .before .before .before .before .next-debit .result) (c .lesser .result)
 turn-from c old start =
-    let l = c .before .before .before .before .before .before .before .before .loop in
-    let n = c .before .before .before .before .before .next-debit in
-    let y : c .before .wanted .result ≡ only (payable (rowsOf (l .journal) (c .before .before .before .before .before .before .before .before .before .before .before .before .before .before .args .used)) (c .before .before .before .before .before .before .before .before .before .before .before .before .before .before .args .account)) remaining (rowAt (l .journal) (n .result)) =
-    rw (c .before .before .read-row2 .ensures) at (c .before .wanted .ensures) in
+    let l = c .before .before .before .before .before .before .before .loop in
+    let n = c .before .before .before .before .next-debit in
+    let y : c .before .wanted .result ≡ only (payable (rowsOf (l .journal) (c .before .before .before .before .before .before .before .before .before .before .before .before .args .used)) (c .before .before .before .before .before .before .before .before .before .before .before .before .args .account)) remaining (rowAt (l .journal) (n .result)) = c .before .wanted .ensures in
     let m : c .lesser .result ≡ min (l .x) (c .before .wanted .result) = c .lesser .ensures in
     let x = l .inv .1 in
-    let h = c .before .before .before .before .if1 .left in
+    let h = c .before .before .before .if1 .left in
     let p = n .ensures .wants h in
-    let q = c .before .before .before .before .before .before .before .loop-test .taken in
+    let q = c .before .before .before .before .before .before .loop-test .taken in
     record {
       walk = walking-debit _ _ _ _ _ _ _ (l .inv .0 old start) (n .ensures);
-      in-i = c .before .before .before .before .before .before .before .before .before .before .before .before .sources-test .taken;
+      in-i = c .before .before .before .before .before .before .before .before .before .before .sources-test .taken;
       in-k = h;
       has = omega arith;
       wants = omega arith;
@@ -78,38 +74,29 @@ turn-from c old start =
     }
 
 turn : (c : Found)
-    → Turn (c .before .before .before .before .before .before .before .before .before .before .before .before .before .before .args .account) (c .before .before .before .before .before .before .before .before .before .before .before .before .before .before .args .used) (c .before .before .before .before .before .before .before .before .before .before .before .before .before .before .args .journal .now) (c .before .before .before .before .before .before .before .before .loop .journal) (c .before .before .before .before .before .before .before .before .before .before .before .before .before .sources .i) (c .before .before .before .before .before .next-debit .result) (c .lesser .result)
-turn c = turn-from c (c .before .before .before .before .before .before .before .before .before .before .before .before .before .before .args .journal .now) (c .before .before .before .before .before .before .before .before .before .before .before .before .before .sources .inv)
+    → Turn (c .before .before .before .before .before .before .before .before .before .before .before .before .args .account) (c .before .before .before .before .before .before .before .before .before .before .before .before .args .used) (c .before .before .before .before .before .before .before .before .before .before .before .before .args .journal .now) (c .before .before .before .before .before .before .before .loop .journal) (c .before .before .before .before .before .before .before .before .before .before .before .sources .i) (c .before .before .before .before .next-debit .result) (c .lesser .result)
+turn c = turn-from c (c .before .before .before .before .before .before .before .before .before .before .before .before .args .journal .now) (c .before .before .before .before .before .before .before .before .before .before .before .sources .inv)
 
 -- ---- the needs
 
 sources-holds : tie.Need-sources-holds Inv-loop μ-loop Inv-sources μ-sources
 sources-holds c = walking-start _ _ _ (c .pre)
 
-read-row-requires : tie.Need-read-row-requires Inv-loop μ-loop Inv-sources μ-sources
-read-row-requires c κs =
+unused-requires : tie.Need-unused-requires Inv-loop μ-loop Inv-sources μ-sources
+unused-requires c κs =
     let w = c .before .before .sources .inv .journal .room in
     omega (arith, c .before .sources-test .taken)
 
-unused-requires : tie.Need-unused-requires Inv-loop μ-loop Inv-sources μ-sources
-unused-requires c κs = tt
-
 loop-holds : tie.Need-loop-holds Inv-loop μ-loop Inv-sources μ-sources
-loop-holds c = (λ old w. w, c .unused .ensures ∙ rw (c .before .read-row .ensures))
+loop-holds c = (λ old w. w, c .unused .ensures)
 
 next-debit-requires : tie.Need-next-debit-requires Inv-loop μ-loop Inv-sources μ-sources
 next-debit-requires c κs =
-    let w = c .before .before .loop .inv .0 (c .before .before .before .before .before .before .before .before .args .journal .now) (c .before .before .before .before .before .before .before .sources .inv) in
+    let w = c .before .before .loop .inv .0 (c .before .before .before .before .before .before .before .args .journal .now) (c .before .before .before .before .before .before .sources .inv) in
     (w .journal .room, w .j-in)
 
-read-row-requires-2 : tie.Need-read-row-requires-2 Inv-loop μ-loop Inv-sources μ-sources
-read-row-requires-2 c κs =
-    let w = c .before .before .before .before .before .loop .inv .0 (c .before .before .before .before .before .before .before .before .before .before .before .args .journal .now) (c .before .before .before .before .before .before .before .before .before .before .sources .inv) in
-    let r = w .journal .room in
-    omega (arith, c .before .if1 .left)
-
 wanted-requires : tie.Need-wanted-requires Inv-loop μ-loop Inv-sources μ-sources
-wanted-requires c κs = c .before .before .before .before .before .before .loop .inv .0 (c .before .before .before .before .before .before .before .before .before .before .before .before .args .journal .now) (c .before .before .before .before .before .before .before .before .before .before .before .sources .inv) .journal .room
+wanted-requires c κs = (c .before .before .before .before .before .loop .inv .0 (c .before .before .before .before .before .before .before .before .before .before .args .journal .now) (c .before .before .before .before .before .before .before .before .before .sources .inv) .journal .room, c .before .if1 .left)
 
 lesser-requires : tie.Need-lesser-requires Inv-loop μ-loop Inv-sources μ-sources
 lesser-requires c κs = tt
@@ -129,10 +116,10 @@ add-settled-requires-2 c κs =
     (omega (arith, w .in-k), debit-fits _ _ _ _ _ _ _ w _ s)
 
 sub-x : tie.Need-sub-x Inv-loop μ-loop Inv-sources μ-sources
-sub-x c = let w = turn (c .before .before .before .before .before .before) in omega (arith, w .has, c .before .before .before .before .before .before .before .before .before .before .before .before .before .before .loop .inv .1)
+sub-x c = let w = turn (c .before .before .before .before .before .before) in omega (arith, w .has, c .before .before .before .before .before .before .before .before .before .before .before .before .before .loop .inv .1)
 
 loop-less : tie.Need-loop-less Inv-loop μ-loop Inv-sources μ-sources
-loop-less c = let w = turn (c .before .before .before .before .before .before) in omega (arith, w .some, w .has, c .before .before .before .before .before .before .before .before .before .before .before .before .before .before .loop .inv .1)
+loop-less c = let w = turn (c .before .before .before .before .before .before) in omega (arith, w .some, w .has, c .before .before .before .before .before .before .before .before .before .before .before .before .before .loop .inv .1)
 
 loop-again : tie.Need-loop-again Inv-loop μ-loop Inv-sources μ-sources
 loop-again c =
@@ -140,19 +127,19 @@ loop-again c =
     let d = c .before .add-settled2 .ensures in
     let w = turn (c .before .before .before .before .before .before) in (
       λ old start. let v = turn-from (c .before .before .before .before .before .before) old start in walking-pay _ _ _ _ _ _ _ _ _ (v .walk) (v .in-i) (v .in-k) (v .has) (v .wants) s d,
-      rw (c .before .before .before .before .before .before .before .before .before .before .before .before .before .before .loop .inv .1) (sym (source-left _ _ _ _ _ _ _ _ _ (w .walk) (w .in-i) (w .in-k) (w .has) (w .wants) s d)),
+      rw (c .before .before .before .before .before .before .before .before .before .before .before .before .before .loop .inv .1) (sym (source-left _ _ _ _ _ _ _ _ _ (w .walk) (w .in-i) (w .in-k) (w .has) (w .wants) s d)),
     )
 
 add-i : tie.Need-add-i Inv-loop μ-loop Inv-sources μ-sources
-add-i c = omega (arith, c .before .before .before .before .before .sources-test .taken)
+add-i c = omega (arith, c .before .before .before .before .sources-test .taken)
 
 sources-less : tie.Need-sources-less Inv-loop μ-loop Inv-sources μ-sources
-sources-less c = omega (arith, c .before .before .before .before .before .sources-test .taken)
+sources-less c = omega (arith, c .before .before .before .before .sources-test .taken)
 
 sources-again : tie.Need-sources-again Inv-loop μ-loop Inv-sources μ-sources
 sources-again c =
     let l = c .before .loop in
-    walking-source _ _ _ _ _ _ (l .inv .0 (c .before .before .before .before .before .before .before .args .journal .now) (c .before .before .before .before .before .before .sources .inv)) (c .before .before .before .before .before .sources-test .taken) (omega (arith, c .loop-test .left, l .inv .1))
+    walking-source _ _ _ _ _ _ (l .inv .0 (c .before .before .before .before .before .before .args .journal .now) (c .before .before .before .before .before .sources .inv)) (c .before .before .before .before .sources-test .taken) (omega (arith, c .loop-test .left, l .inv .1))
 
 same-length : tie.Need-same-length Inv-loop μ-loop Inv-sources μ-sources
 same-length c = c .before .sources .inv .size
@@ -161,11 +148,11 @@ returns : tie.Need-returns Inv-loop μ-loop Inv-sources μ-sources
 returns c = no-source-left _ _ _ _ _ _ (c .before .sources .inv) (c .sources-test .left)
 
 same-length-2 : tie.Need-same-length-2 Inv-loop μ-loop Inv-sources μ-sources
-same-length-2 c = c .before .before .before .before .loop .inv .0 (c .before .before .before .before .before .before .before .before .before .before .args .journal .now) (c .before .before .before .before .before .before .before .before .before .sources .inv) .size
+same-length-2 c = c .before .before .before .before .loop .inv .0 (c .before .before .before .before .before .before .before .before .before .args .journal .now) (c .before .before .before .before .before .before .before .before .sources .inv) .size
 
 returns-2 : tie.Need-returns-2 Inv-loop μ-loop Inv-sources μ-sources
 returns-2 c =
-    let w = c .before .before .before .before .loop .inv .0 (c .before .before .before .before .before .before .before .before .before .before .args .journal .now) (c .before .before .before .before .before .before .before .before .before .sources .inv) in
+    let w = c .before .before .before .before .loop .inv .0 (c .before .before .before .before .before .before .before .before .before .args .journal .now) (c .before .before .before .before .before .before .before .before .sources .inv) in
     no-debit-left _ _ _ _ _ _ (walking-debit _ _ _ _ _ _ _ w (c .before .next-debit .ensures)) (c .if1 .taken)
 
 pub settle-spec : {M : Type 1} → statement M
@@ -177,11 +164,9 @@ settle-spec =
     Inv-sources
     μ-sources
     sources-holds
-    read-row-requires
     unused-requires
     loop-holds
     next-debit-requires
-    read-row-requires-2
     wanted-requires
     lesser-requires
     add-settled-requires

@@ -6,8 +6,14 @@ use Rattle.settlement.proofs.RowTestLaws.{no-source-of-others, source-h
 use Rattle.settlement.proofs.unused.Statement.{statement}
 use Rattle.settlement.proofs.unused.Tie as tie
 
+account-at-requires : tie.Need-account-at-requires
+account-at-requires c κs = search needs
+
 returns : tie.Need-returns
-returns c = no-source-of-others _ _ (c .if1 .taken)
+returns c = no-source-of-others _ _ _ (c .before .account-at .ensures) (c .if1 .taken)
+
+read-row-requires : tie.Need-read-row-requires
+read-row-requires c κs = search needs
 
 is-source-requires : tie.Need-is-source-requires
 is-source-requires c κs = search needs
@@ -17,11 +23,23 @@ remaining-of-requires c κs = search needs
 
 returns-2 : tie.Need-returns-2
 returns-2 c =
-    c .remaining-of .ensures ∙ source-has _ _ true (c .before .before .before .if1 .left) (sym (c .before .before .is-source .ensures) ∙ c .before .if2 .taken)
+    let t = c .before .before .before in
+    c .remaining-of .ensures
+    ∙ source-has _ _ _ (t .before .before .account-at .ensures) (t .before .if1 .left) _ (t .read-row .ensures) true (sym (c .before .before .is-source .ensures) ∙ c .before .if2 .taken)
 
 returns-3 : tie.Need-returns-3
-returns-3 c = source-has _ _ false (c .before .before .if1 .left) (sym (c .before .is-source .ensures) ∙ c .if2 .left)
+returns-3 c =
+    let t = c .before .before in
+    source-has _ _ _ (t .before .before .account-at .ensures) (t .before .if1 .left) _ (t .read-row .ensures) false (sym (c .before .is-source .ensures) ∙ c .if2 .left)
 
 pub unused-spec : {M : Type 1} → statement M
 unused-spec =
-    tie.close (tie.spec returns is-source-requires remaining-of-requires returns-2 returns-3)
+    tie.close
+    (tie.spec
+    account-at-requires
+    returns
+    read-row-requires
+    is-source-requires
+    remaining-of-requires
+    returns-2
+    returns-3)
