@@ -1,5 +1,5 @@
 -- What the tests on a row say of its amount as a source and as a debit, and how large the sums of amounts become.
-use mathlib.Core.Path.{_≡_}
+use mathlib.Core.Path.{_≡_, sym, _∙_}
 use mathlib.Core.Bool.{Bool, true, false, cond}
 use Prim.Native.Nat.{ℕ, _+_, _*_, _^_, _≤_, _<_}
 use native.Mathlib.Omega.{arith}
@@ -20,22 +20,25 @@ amountIf t = only t (λ x. x .amount)
 
 -- ---- a row
 
-module _ (r : Row) (a : ℕ) where
-  pub no-source-of-others : (r .account ≡ a → ⊥) → 0 ≡ amountIf (sourceOf a) r
+-- n is the row's account, read before the rest of it
+module _ (x : Row) (n a : ℕ) (k : n ≡ x .account) where
+  pub no-source-of-others : (n ≡ a → ⊥) → 0 ≡ amountIf (sourceOf a) x
   unfolding only sourceOf
-  no-source-of-others n = rw (ne-eqb (r .account) a n)
+  no-source-of-others m = rw (ne-eqb (x .account) a (λ e. m (k ∙ e)))
 
-  pub source-brings : (b : Bool) → r .account ≡ a → source r ≡ b → cond b (r .amount) 0 ≡ amountIf (sourceOf a) r
-  unfolding only sourceOf
-  source-brings b e s = rw (eq-eqb (r .account) a e, s)
-
-  pub no-debit-of-others : (r .account ≡ a → ⊥) → 0 ≡ amountIf (debitOf a) r
+  pub no-debit-of-others : (n ≡ a → ⊥) → 0 ≡ amountIf (debitOf a) x
   unfolding only debitOf
-  no-debit-of-others n = rw (ne-eqb (r .account) a n)
+  no-debit-of-others m = rw (ne-eqb (x .account) a (λ e. m (k ∙ e)))
 
-  pub debit-takes : (b : Bool) → r .account ≡ a → debit r ≡ b → cond b (r .amount) 0 ≡ amountIf (debitOf a) r
-  unfolding only debitOf
-  debit-takes b e s = rw (eq-eqb (r .account) a e, s)
+  -- it is the account's, and r is the row
+  module _ (h : n ≡ a) (r : Row) (e : r ≡ x) where
+    pub source-brings : (b : Bool) → source r ≡ b → cond b (r .amount) 0 ≡ amountIf (sourceOf a) x
+    unfolding only sourceOf
+    source-brings b s = rw (eq-eqb (x .account) a (sym k ∙ h), ← e, s)
+
+    pub debit-takes : (b : Bool) → debit r ≡ b → cond b (r .amount) 0 ≡ amountIf (debitOf a) x
+    unfolding only debitOf
+    debit-takes b s = rw (eq-eqb (x .account) a (sym k ∙ h), ← e, s)
 
 -- ---- sums
 
@@ -52,14 +55,13 @@ module _ (j : List ℤ) (used : ℕ) (m : Amounts j used) where
   sum-small t n h = sumBy-small (amountIf t) (rowAt j) highestRefund n (λ k l. omega (arith, amountIf-le t (rowAt j k), m .small k (omega arith)))
 
   -- one row more: what it adds to a sum fits, whatever the test, and by the sum's own test it makes the sum of one row more
-  pub sum-fits : (t u : Test) (i sum x : ℕ) (r : Row) → i < used → sum ≡ sumBy (amountIf t) (rowsOf j i) → r ≡ rowAt j i → x ≡ amountIf u r → sum + x < 2 ^ 63
-  sum-fits t u i sum x r h e a b =
-      let q : x ≤ rowAt j i .amount = rw (b, a) (amountIf-le u (rowAt j i)) in
+  pub sum-fits : (t u : Test) (i sum x : ℕ) → i < used → sum ≡ sumBy (amountIf t) (rowsOf j i) → x ≡ amountIf u (rowAt j i) → sum + x < 2 ^ 63
+  sum-fits t u i sum x h e b =
+      let q : x ≤ rowAt j i .amount = rw b (amountIf-le u (rowAt j i)) in
       omega (arith, sum-small t i (omega arith), m .small i h, m .few)
 
-  pub sum-more : (t : Test) (i sum x : ℕ) (r : Row) → sum ≡ sumBy (amountIf t) (rowsOf j i) → r ≡ rowAt j i → x ≡ amountIf t r
-      → sum + x ≡ sumBy (amountIf t) (rowsOf j (i + 1))
-  sum-more t i sum x r e a b = rw (sumBy-more, e, b, a)
+  pub sum-more : (t : Test) (i sum x : ℕ) → sum ≡ sumBy (amountIf t) (rowsOf j i) → x ≡ amountIf t (rowAt j i) → sum + x ≡ sumBy (amountIf t) (rowsOf j (i + 1))
+  sum-more t i sum x e b = rw (sumBy-more, e, b)
 
   pub sources-small : (a : ℕ) → sources (rowsOf j used) a ≤ used * highestRefund
   unfolding sources

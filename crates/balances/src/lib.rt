@@ -1,9 +1,9 @@
 // The sums of an account's sources and of its debits, and whether its top-up is due. Uses lists, records, rules, tables, row_tests,
 // settlement and posting.
-use records::Row;
 use row_tests::is_debit;
 use row_tests::is_source;
 use table_accounts::account_numbered;
+use table_rows::account_at;
 use table_rows::read_row;
 use tables::codes::OPEN;
 use tables::layout::ACCOUNT_WIDTH;
@@ -12,33 +12,38 @@ use tables::layout::USED_PLACE;
 use tables::words::get;
 ghost use mathlib.Core.Path.{_≡_};
 ghost use mathlib.Core.Bool.{true};
-ghost use Rattle.records.specs.Encoding.{rowsOf};
+ghost use Rattle.records.specs.Encoding.{rowAt, rowsOf};
 ghost use Rattle.lists.specs.Lists.{only};
 ghost use Rattle.rules.specs.Rows.{sourceOf, debitOf};
 ghost use Rattle.rules.specs.Book.{sources, debits, topUpDue};
 ghost use Rattle.rules.specs.Tables.{bookOf, soundTables};
+ghost use Rattle.tables.specs.Changes.{RowIn};
 ghost use Rattle.posting.specs.Posts.{tablesAt, Amounts};
 
-// What the row brings the account as a source.
-fn source_amount(r: Row, account: u64) -> u64
-    ensures { λ n. ⌜ n ≡ only (sourceOf account) (λ x. x .amount) r ⌝ }
+// What row i brings the account as a source. Most rows are other accounts', so the account is read first and alone.
+fn source_amount(journal: &[i64], i: usize, account: u64) -> u64
+    requires { ⌜ RowIn (now journal) i ⌝ }
+    ensures { λ n. ⌜ n ≡ only (sourceOf account) (λ x. x .amount) (rowAt (now (journal .entry)) i) ⌝ }
 {
-    if r.account != account {
+    if account_at(journal, i) != account {
         return 0;
     }
+    let r = read_row(journal, i);
     if is_source(r) {
         return r.amount;
     }
     0
 }
 
-// What the row takes from the account as a debit, held or not.
-fn debit_amount(r: Row, account: u64) -> u64
-    ensures { λ n. ⌜ n ≡ only (debitOf account) (λ x. x .amount) r ⌝ }
+// What row i takes from the account as a debit, held or not; the account is read first here too.
+fn debit_amount(journal: &[i64], i: usize, account: u64) -> u64
+    requires { ⌜ RowIn (now journal) i ⌝ }
+    ensures { λ n. ⌜ n ≡ only (debitOf account) (λ x. x .amount) (rowAt (now (journal .entry)) i) ⌝ }
 {
-    if r.account != account {
+    if account_at(journal, i) != account {
         return 0;
     }
+    let r = read_row(journal, i);
     if is_debit(r) {
         return r.amount;
     }
@@ -53,7 +58,7 @@ pub fn sources_of(journal: &[i64], used: usize, account: u64) -> u64
     let mut sum = 0;
     let mut i = 0;
     while i < used {
-        sum += source_amount(read_row(journal, i), account);
+        sum += source_amount(journal, i, account);
         i += 1;
     }
     sum
@@ -67,7 +72,7 @@ pub fn debits_of(journal: &[i64], used: usize, account: u64) -> u64
     let mut sum = 0;
     let mut i = 0;
     while i < used {
-        sum += debit_amount(read_row(journal, i), account);
+        sum += debit_amount(journal, i, account);
         i += 1;
     }
     sum

@@ -20,16 +20,13 @@ loop-holds : tie.Need-loop-holds Inv-loop μ-loop
 unfolding sumBy tabulate
 loop-holds c = (omega arith, refl)
 
-read-row-requires : tie.Need-read-row-requires Inv-loop μ-loop
-read-row-requires c κs = omega (arith, c .before .before .pre .room)
-
 debit-amount-requires : tie.Need-debit-amount-requires Inv-loop μ-loop
-debit-amount-requires c κs = tt
+debit-amount-requires c κs = omega (arith, c .before .before .pre .room)
 
 add-sum : tie.Need-add-sum Inv-loop μ-loop
 add-sum c =
-    let a = c .before .before .before in
-    omega (arith, sum-fits _ _ (a .before .pre) _ _ _ _ _ _ (c .before .before .loop-test .taken) (a .loop .inv .1) (c .before .read-row .ensures) (c .debit-amount .ensures))
+    let a = c .before .before in
+    omega (arith, sum-fits _ _ (a .before .pre) _ _ _ _ _ (c .before .loop-test .taken) (a .loop .inv .1) (c .debit-amount .ensures))
 
 add-i : tie.Need-add-i Inv-loop μ-loop
 add-i c = omega arith
@@ -39,8 +36,8 @@ loop-less c = omega arith
 
 loop-again : tie.Need-loop-again Inv-loop μ-loop
 loop-again c =
-    let a = c .before .before .before in
-    (omega arith, sum-more _ _ (a .before .pre) _ _ _ _ _ (a .loop .inv .1) (c .before .read-row .ensures) (c .debit-amount .ensures))
+    let a = c .before .before in
+    (omega arith, sum-more _ _ (a .before .pre) _ _ _ _ (a .loop .inv .1) (c .debit-amount .ensures))
 
 returns : tie.Need-returns Inv-loop μ-loop
 unfolding debits
@@ -53,7 +50,6 @@ debits-of-spec =
     Inv-loop
     μ-loop
     loop-holds
-    read-row-requires
     debit-amount-requires
     add-sum
     add-i
