@@ -38,15 +38,15 @@ ghost use Rattle.rules.specs.Tables.{bookOf, soundTables};
 ghost use Rattle.posting.specs.Posts.{tablesAt, Posts};
 ghost use Rattle.event_toll.specs.Toll.{passageRefusals};
 
-// The passage number stands in the journal.
+// The passage number stands in the journal. Hardly a row has it, so it is tested before the kind.
 fn passage_stands(journal: &[i64], used: usize, passage: u64) -> bool
     requires { ⌜ used * rowWidth ≤ length (now journal) ⌝ }
     ensures { λ b. ⌜ b ≡ exists (λ r. toll r && r .reference is passage) (rowsOf (now (journal .entry)) used) ⌝ }
 {
     let mut i = 0;
     while i < used {
-        if kind_at(journal, i) == TOLL {
-            if reference_at(journal, i) == passage {
+        if reference_at(journal, i) == passage {
+            if kind_at(journal, i) == TOLL {
                 return true;
             }
         }

@@ -19,16 +19,16 @@ abbrev μ-loop : tie.MeasureT-loop
 loop-holds : tie.Need-loop-holds Inv-loop μ-loop
 loop-holds c = (omega arith, λ k h. absurd (omega arith))
 
-kind-at-requires : tie.Need-kind-at-requires Inv-loop μ-loop
-kind-at-requires c κs = omega arith
-
 reference-at-requires : tie.Need-reference-at-requires Inv-loop μ-loop
 reference-at-requires c κs = omega arith
+
+kind-at-requires : tie.Need-kind-at-requires Inv-loop μ-loop
+kind-at-requires c κs = omega arith
 
 returns : tie.Need-returns Inv-loop μ-loop
 returns c =
     passage-found _ _ _ _ (c .before .before .before .before .loop-test .taken)
-    (sym (c .before .before .before .kind-at .ensures) ∙ c .before .before .if1 .taken) (sym (c .before .reference-at .ensures) ∙ c .if2 .taken)
+    (sym (c .before .kind-at .ensures) ∙ c .if2 .taken) (sym (c .before .before .before .reference-at .ensures) ∙ c .before .before .if1 .taken)
 
 add-i : tie.Need-add-i Inv-loop μ-loop
 add-i c = omega arith
@@ -43,7 +43,7 @@ loop-again c =
     let r : Row = rowAt (a .journal .now) (l .i) in (
       omega arith,
       passage-passed _ _ (l .i) (l .inv .1)
-          (⊎-elim (λ w. other-passage (a .passage) r (λ e. w .2 .left (w .1 .ensures ∙ e))) (λ w. other-kind (a .passage) r (λ e. w .left (c .before .kind-at .ensures ∙ e)))
+          (⊎-elim (λ w. other-kind (a .passage) r (λ e. w .2 .left (w .1 .ensures ∙ e))) (λ w. other-passage (a .passage) r (λ e. w .left (c .before .reference-at .ensures ∙ e)))
           (c .if1 .came)),
     )
 
@@ -59,8 +59,8 @@ passage-stands-spec =
     Inv-loop
     μ-loop
     loop-holds
-    kind-at-requires
     reference-at-requires
+    kind-at-requires
     returns
     add-i
     loop-less
