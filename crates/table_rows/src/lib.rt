@@ -63,6 +63,20 @@ pub fn mark_at(journal: &[i64], i: usize) -> u64
     get(journal, i * ROW_WIDTH + MARK_PLACE)
 }
 
+pub fn due_at(journal: &[i64], i: usize) -> u64
+    requires { ⌜ RowIn (now journal) i ⌝ }
+    ensures { λ r. ⌜ r ≡ rowAt (now (journal .entry)) i .due ⌝ }
+{
+    get(journal, i * ROW_WIDTH + DUE_PLACE)
+}
+
+pub fn dispute_at(journal: &[i64], i: usize) -> u64
+    requires { ⌜ RowIn (now journal) i ⌝ }
+    ensures { λ r. ⌜ r ≡ rowAt (now (journal .entry)) i .dispute ⌝ }
+{
+    get(journal, i * ROW_WIDTH + DISPUTE_PLACE)
+}
+
 pub fn reference_at(journal: &[i64], i: usize) -> u64
     requires { ⌜ RowIn (now journal) i ⌝ }
     ensures { λ r. ⌜ r ≡ rowAt (now (journal .entry)) i .reference ⌝ }

@@ -1,12 +1,12 @@
 -- Laws of the tests of a tick: the fees of a header, days counted back, a row that is no source.
 use mathlib.Core.Path.{_≡_, refl, sym}
-use mathlib.Core.Bool.{Bool, true, false, not}
+use mathlib.Core.Bool.{Bool, true, false, not, _&&_}
 use Prim.Native.Nat.{ℕ, zero, suc, _+_, _-_, _≤_, _<_}
 use native.Mathlib.Omega.{arith}
 use native.Mathlib.Decide.{decLt, ℕ-discrete}
 use mathlib.Core.List.{List}
 use lib.IntN.{ℤ}
-use lib.Dec.{eqb, leb}
+use lib.Dec.{eqb, leb, ltb}
 use borrow.Author.Tests.{eq-eqb, ne-eqb, le-leb, lt-leb}
 use Rattle.lists.specs.Tests.{_is_}
 use Rattle.lists.proofs.TestLaws.{and-false}
@@ -14,7 +14,7 @@ use Rattle.records.specs.Layout.{headerSchedule, fee2Place}
 use Rattle.records.specs.Encoding.{word}
 use Rattle.rules.specs.Limits.{holdDays, closingDays}
 use Rattle.rules.specs.Schedule.{Schedule, stageFee}
-use Rattle.rules.specs.Rows.{Row, heldToll, source, debit}
+use Rattle.rules.specs.Rows.{Row, Held, LastStage, toll, heldToll, unsettled, source, debit}
 use Rattle.rules.specs.Soundness.{kindFits}
 use Rattle.rules.specs.Book.{Account, Pending}
 use Rattle.rules.specs.Tick.{holdEnds, rises}
@@ -53,7 +53,20 @@ fee-place h (suc (suc (suc (suc (suc k))))) a b = absurd (omega arith)
 pub riser-low : (today : ℕ) (r : Row) → rises today r ≡ true → r .mark < 4
 riser-low today r e = rising today r e .under
 
+-- no toll rises that is not due today
+pub not-due : (today : ℕ) (r : Row) → (r .due ≡ today → ⊥) → rises today r ≡ false
+unfolding rises
+not-due today r n = rw (ne-eqb (r .due) today n) (and-false (toll r && not (heldToll r) && unsettled r && ltb (r .mark) LastStage))
+
 -- ---- days
+
+-- a row that is not in dispute is no held toll, and no hold of it ends
+pub not-held : (r : Row) → (r .dispute ≡ Held → ⊥) → heldToll r ≡ false
+not-held r n = rw (ne-eqb (r .dispute) Held n) (and-false (toll r))
+
+pub no-end : (today : ℕ) (r : Row) → (r .dispute ≡ Held → ⊥) → holdEnds today r ≡ false
+unfolding holdEnds
+no-end today r n = rw (not-held r n)
 
 pub ends-before : (today : ℕ) (r : Row) → heldToll r ≡ true → today < r .hold → false ≡ holdEnds today r
 unfolding holdEnds

@@ -1,5 +1,5 @@
 // The fee rows that a tick adds.
-use records::Row;
+use table_rows::due_at;
 use table_rows::read_row;
 use tick_base::stages::fee_due;
 ghost use mathlib.Core.Path.{_≡_};
@@ -7,17 +7,21 @@ ghost use Prim.Native.Nat.{ℕ, _*_, _≤_};
 ghost use lib.ListN.{length};
 ghost use Rattle.lists.specs.Lists.{gather};
 ghost use Rattle.records.specs.Layout.{headerWidth, headerSchedule, rowWidth};
-ghost use Rattle.records.specs.Encoding.{rowsOf};
+ghost use Rattle.records.specs.Encoding.{rowAt, rowsOf};
 ghost use Rattle.rules.specs.Limits.{mostRows};
 ghost use Rattle.rules.specs.Tick.{feeRow};
 ghost use Rattle.rules.specs.Tables.{scheduleFrom};
+ghost use Rattle.tables.specs.Changes.{RowIn};
 
-// How many fee rows the row brings: one or none.
-fn fee_rows(header: &[i64], r: Row, today: u64) -> usize
-    requires { ⌜ headerWidth ≤ length (now header) ⌝ }
-    ensures { λ n. ⌜ ((k : ℕ) → n ≡ length (feeRow (scheduleFrom (now (header .entry)) headerSchedule) today k r)) × (n ≤ 1) ⌝ }
+// How many fee rows row i brings: one or none. Few rows are due today, so the due day is read first and alone.
+fn fee_rows(header: &[i64], journal: &[i64], i: usize, today: u64) -> usize
+    requires { ⌜ (headerWidth ≤ length (now header)) × RowIn (now journal) i ⌝ }
+    ensures { λ n. ⌜ ((k : ℕ) → n ≡ length (feeRow (scheduleFrom (now (header .entry)) headerSchedule) today k (rowAt (now (journal .entry)) i))) × (n ≤ 1) ⌝ }
 {
-    if fee_due(header, r, today) == 0 {
+    if due_at(journal, i) != today {
+        return 0;
+    }
+    if fee_due(header, read_row(journal, i), today) == 0 {
         return 0;
     }
     1
@@ -31,7 +35,7 @@ pub fn fees_added(header: &[i64], journal: &[i64], used: usize, today: u64) -> u
     let mut n = 0;
     let mut i = 0;
     while i < used {
-        n += fee_rows(header, read_row(journal, i), today);
+        n += fee_rows(header, journal, i, today);
         i += 1;
     }
     n

@@ -6,8 +6,10 @@ use account_sums::add;
 use account_sums::part;
 use posting::rows::released;
 use settlement::settle;
+use table_rows::dispute_at;
 use table_rows::read_row;
 use table_rows::write_row;
+use tables::codes::HELD;
 use tables::layout::ACCOUNT_WIDTH;
 use tables::layout::DAY_PLACE;
 use tables::layout::USED_PLACE;
@@ -26,11 +28,14 @@ ghost use Rattle.settlement.specs.Settling.{Journal};
 ghost use Rattle.posting.specs.Posts.{tablesAt};
 ghost use Rattle.tick_holds.specs.Holds.{endsOf, Ending, Dawning, SettledIf, SettledThose, DuskRows};
 
-// Row i, where its hold ends, is counted at its account.
+// Row i, where its hold ends, is counted at its account. Few rows are in dispute, so that is read first and alone, here and below.
 fn count_end(journal: &[i64], used: usize, i: usize, today: u64, ends: &mut [u64; SEATS])
     requires { ⌜ Countable (now journal) used × (i < used) × Tallied (endsOf today) 257 (now journal) (now ends) i ⌝ }
     ensures { λ _. ⌜ Tallied (endsOf today) 257 (now (journal .entry)) (now (ends .exit)) (i + 1) ⌝ }
 {
+    if dispute_at(journal, i) != HELD {
+        return;
+    }
     let r = read_row(journal, i);
     add(ends, r.account as usize, part(hold_ends(r, today), 1));
 }
@@ -52,6 +57,9 @@ fn end_hold(journal: &mut [i64], i: usize, today: u64)
     requires { ⌜ RowIn (now journal) i × Ending today (rowAt (now journal) i) ⌝ }
     ensures { λ _. ⌜ RowChanged (now (journal .entry)) (now (journal .exit)) i (atDawn today (rowAt (now (journal .entry)) i)) ⌝ }
 {
+    if dispute_at(journal, i) != HELD {
+        return;
+    }
     let r = read_row(journal, i);
     if hold_ends(r, today) {
         write_row(journal, i, released(r, today));

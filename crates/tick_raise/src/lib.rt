@@ -3,6 +3,7 @@
 use posting::rows::add_row;
 use posting::rows::new_row;
 use records::Row;
+use table_rows::due_at;
 use table_rows::read_row;
 use table_rows::write_row;
 use tables::codes::FEE;
@@ -47,11 +48,14 @@ fn fee_naming(n: u64, account: u64, today: u64, fee: u64) -> Row
     row
 }
 
-// Row i, if it rises, and its fee: 1 where it does.
+// Row i, if it rises, and its fee: 1 where it does. Few rows are due today, so the due day is read first and alone.
 fn raise_row(header: &mut [i64], journal: &mut [i64], i: usize, today: u64) -> u64
     requires { ⌜ Raisable (now header) (now journal) i today ⌝ }
     ensures { λ n. ⌜ RowRaised (now (header .entry)) (now (header .exit)) (now (journal .entry)) (now (journal .exit)) i today n ⌝ }
 {
+    if due_at(journal, i) != today {
+        return 0;
+    }
     let r = read_row(journal, i);
     if !is_rising(r, today) {
         return 0;

@@ -23,15 +23,12 @@ loop-holds : tie.Need-loop-holds Inv-loop μ-loop
 unfolding gatherFrom tabulate
 loop-holds c = (omega arith, omega arith, refl)
 
-read-row-requires : tie.Need-read-row-requires Inv-loop μ-loop
-read-row-requires c κs = omega (arith, c .before .before .pre .1)
-
 fee-rows-requires : tie.Need-fee-rows-requires Inv-loop μ-loop
-fee-rows-requires c κs = c .before .before .before .pre .0
+fee-rows-requires c κs = (c .before .before .pre .0, omega (arith, c .before .before .pre .1))
 
 add-n : tie.Need-add-n Inv-loop μ-loop
 add-n c =
-    let a = c .before .before .before in
+    let a = c .before .before in
     omega (arith, a .loop .inv .1, c .fee-rows .ensures .1, a .before .pre .2)
 
 add-i : tie.Need-add-i Inv-loop μ-loop
@@ -42,10 +39,10 @@ loop-less c = omega arith
 
 loop-again : tie.Need-loop-again Inv-loop μ-loop
 loop-again c =
-    let a = c .before .before .before in
+    let a = c .before .before in
     let h = length-gather-tabulate (feeRow (scheduleFrom (a .before .args .header .now) headerSchedule) (a .before .args .today)) (rowAt (a .before .args .journal .now)) (a .loop .i) in
     let w = c .fee-rows .ensures .0 (a .loop .i + 1) in
-    (omega arith, omega (arith, a .loop .inv .1, c .fee-rows .ensures .1), omega (arith, a .loop .inv .2, rw (← c .before .read-row .ensures) at h))
+    (omega arith, omega (arith, a .loop .inv .1, c .fee-rows .ensures .1), omega (arith, a .loop .inv .2, h))
 
 returns : tie.Need-returns Inv-loop μ-loop
 returns c =
@@ -59,7 +56,6 @@ fees-added-spec =
     Inv-loop
     μ-loop
     loop-holds
-    read-row-requires
     fee-rows-requires
     add-n
     add-i
