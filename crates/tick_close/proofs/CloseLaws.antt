@@ -8,6 +8,7 @@ use lib.ListN.{length, getD, length-append}
 use lib.IntN.{ℤ}
 use borrow.Author.Tests.{lt-ltb}
 use Rattle.lists.specs.Lists.{tabulate, gatherFrom, changeFrom}
+use Rattle.lists.proofs.TestLaws.{and-false}
 use Rattle.lists.proofs.ListLaws.{length-tabulate}
 use Rattle.lists.proofs.GatherLaws.{gather-tabulate, length-gather-tabulate, length-gather-le, change-tabulate}
 use Rattle.records.specs.Layout.{usedPlace, rowWidth, accountWidth}
@@ -21,26 +22,30 @@ use Rattle.posting.specs.Posts.{tablesAt, RowRoom, RowAdded}
 use Rattle.posting_laws.proofs.UsedRowsLaws.{UsedRows, rows-before, rows-add, rows-room}
 use Rattle.tick_close.specs.Closing.{closesBy, closeBy, refundsBy, refundOf, Closable, ClosedOne, useUpBy, closeAt, refundAt, refundsTo, AllClosable, ClosedTo}
 
--- ---- one row: r is row i as read
+-- ---- one row: n is the account of row i, read first
 
-module _ (today : ℕ) (a : List ℤ) (owed : List ℕ) (t : List ℤ) (i : ℕ) (r : Row) (e : r ≡ rowAt t i) where
+module _ (today : ℕ) (a : List ℤ) (owed : List ℕ) (t : List ℤ) (i n : ℕ) (k : n ≡ rowAt t i .account) where
   abbrev after : Row
   after = useUpBy today a owed (rowAt t i)
 
   abbrev test : Bool
-  test = closesBy today (getD owed (r .account) 0) (accountAt a (r .account - 1))
+  test = closesBy today (getD owed n 0) (accountAt a (n - 1))
 
-  pub debit-stays : source r ≡ false → RowChanged t t i after
+  pub open-stays : test ≡ false → RowChanged t t i after
   unfolding useUpBy
-  debit-stays f = unchanged rowAt t i after (rw (← e, f))
+  open-stays g = unchanged rowAt t i after (rw (← k, g, and-false (source (rowAt t i))))
 
-  pub open-stays : source r ≡ true → test ≡ false → RowChanged t t i after
-  unfolding useUpBy
-  open-stays f g = unchanged rowAt t i after (rw (← e, f, g))
+  -- the account closes; r is the row
+  module _ (g : test ≡ true) (r : Row) (e : r ≡ rowAt t i) where
+    pub debit-stays : source r ≡ false → RowChanged t t i after
+    unfolding useUpBy
+    debit-stays f = unchanged rowAt t i after (rw (← e, f))
 
-  pub source-used : (u : List ℤ) → source r ≡ true → test ≡ true → RowChanged t u i (withSettled (r .amount) (rowAt t i)) → RowChanged t u i after
-  unfolding useUpBy
-  source-used u f g c = rw (← e, f, g) (rw (← e) at c)
+    pub source-used : (u : List ℤ) → source r ≡ true → RowChanged t u i (withSettled (r .amount) (rowAt t i)) → RowChanged t u i after
+    unfolding useUpBy
+    source-used u f c =
+        let q : closesBy today (getD owed (rowAt t i .account) 0) (accountAt a (rowAt t i .account - 1)) ≡ true = rw k at g in
+        rw (q, ← e, f) (rw (← e) at c)
 
 -- ---- one account
 

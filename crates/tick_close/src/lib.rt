@@ -7,6 +7,7 @@ use records::Account;
 use row_tests::is_source;
 use table_accounts::read_account;
 use table_accounts::write_account;
+use table_rows::account_at;
 use table_rows::put_settled;
 use table_rows::read_row;
 use tables::codes::REFUND;
@@ -36,17 +37,18 @@ fn is_closing(x: Account, today: u64, owed: u64) -> bool
     days_over(x, today) & (owed == 0)
 }
 
-// Row i is used whole if it is a source of a closing account.
+// Row i is used whole if it is a source of a closing account. Few accounts close, so that is tested first, and the row's account is
+// read alone.
 fn use_row(accounts: &[i64], journal: &mut [i64], i: usize, today: u64, owed: &[u64; SEATS])
     requires { ⌜ RowIn (now journal) i × Usable (now accounts) (rowAt (now journal) i) ⌝ }
     ensures { λ _. ⌜ RowChanged (now (journal .entry)) (now (journal .exit)) i (useUpBy today (now (accounts .entry)) (now (owed .entry)) (rowAt (now (journal .entry)) i)) ⌝ }
 {
-    let r = read_row(journal, i);
-    if !is_source(r) {
+    let n = account_at(journal, i) as usize;
+    if !is_closing(read_account(accounts, n - 1), today, owed[n]) {
         return;
     }
-    let n = r.account as usize;
-    if !is_closing(read_account(accounts, n - 1), today, owed[n]) {
+    let r = read_row(journal, i);
+    if !is_source(r) {
         return;
     }
     put_settled(journal, i, r.amount);
