@@ -2,9 +2,12 @@
 use account_sums::SEATS;
 use account_sums::add;
 use account_sums::part;
-use row_tests::is_source;
-use row_tests::remaining_of;
-use table_rows::read_row;
+use plain_rows::small_account;
+use plain_rows::small_amount;
+use plain_rows::small_settled;
+use table_rows::kind_at;
+use tables::codes::CREDIT;
+use tables::codes::PAYMENT;
 ghost use mathlib.Core.Path.{_≡_};
 ghost use Prim.Native.Nat.{_+_, _<_};
 ghost use Rattle.account_sums.specs.Tallies.{Countable};
@@ -21,10 +24,10 @@ fn add_remainder(
     requires { ⌜ Countable (now journal) used × (i < used) × Remainders (now journal) (now money) (now owed) i ⌝ }
     ensures { λ _. ⌜ Remainders (now (journal .entry)) (now (money .exit)) (now (owed .exit)) (i + 1) ⌝ }
 {
-    let r = read_row(journal, i);
-    let a = r.account as usize;
-    let left = remaining_of(r);
-    let source = is_source(r);
+    let a = small_account(journal, i) as usize;
+    let left = small_amount(journal, i) - small_settled(journal, i);
+    let kind = kind_at(journal, i);
+    let source = (kind == PAYMENT) | (kind == CREDIT);
     add(money, a, part(source, left));
     add(owed, a, part(!source, left));
 }
