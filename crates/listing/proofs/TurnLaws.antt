@@ -1,5 +1,5 @@
 -- A turn of the program leaves its buffers and tables ready for the next one.
-use mathlib.Core.Path.{_≡_, refl, sym, ap, _∙_}
+use mathlib.Core.Path.{_≡_, sym, ap, _∙_}
 use mathlib.Core.Bool.{true, false, true≢false}
 use Prim.Native.Nat.{ℕ, _+_, _-_, _≤_, _<_}
 use native.Mathlib.Omega.{arith}
@@ -9,9 +9,9 @@ use lib.Seq.{slice, take-at, length-take-le, length-slice}
 use Rattle.bytes.specs.Bytes.{indexOf}
 use Rattle.rules.specs.Tables.{Tables}
 use Rattle.listing_text.proofs.PutsLaws.{length-puts}
-use Rattle.listing_lines.specs.Lines.{Sized, Ready}
+use Rattle.listing_lines.specs.Lines.{Sized}
 use Rattle.listing_steps.specs.declared.Place.{Place}
-use Rattle.listing_steps.specs.Steps.{Stands, Waiting, Stepped}
+use Rattle.listing_steps.specs.Steps.{Waiting, Stepped}
 use Rattle.listing.specs.Turns.{placeAt, Standing, Goes, Roomy}
 
 -- ---- the end of the listing

@@ -6,7 +6,7 @@ use mathlib.Core.List.{List, _∷_, _++_}
 use Prim.Native.Nat.{ℕ, suc, _+_, _-_, _≤_, _<_}
 use native.Mathlib.Omega.{arith}
 use native.Mathlib.Numerals.{add-one}
-use lib.ListN.{length, take, drop, length-append}
+use lib.ListN.{length, take, length-append}
 use lib.Seq.{slice, length-slice, take-take, drop-drop}
 use Rattle.bytes.specs.Bytes.{indexOf}
 use Rattle.decimal.proofs.FieldLaws.{take-of-drop}

@@ -1,11 +1,11 @@
 -- Lines 1, 2, 3 and the event lines, each taken as the listing's definition says.
 use mathlib.Core.Path.{_≡_, refl, sym, ap, _∙_}
-use mathlib.Core.Bool.{Bool, true, false, cond, _&&_, true≢false}
-use Prim.Native.Nat.{ℕ, zero, suc, _+_, _-_, _*_, _≤_, _<_}
+use mathlib.Core.Bool.{true, false, true≢false}
+use Prim.Native.Nat.{ℕ, zero, suc, _+_, _-_, _*_, _≤_}
 use native.Mathlib.Omega.{arith}
-use mathlib.Core.List.{List, [], _∷_, _++_}
+use mathlib.Core.List.{List, []}
 use lib.IntN.{ℤ, pos}
-use lib.ListN.{length, take, getD, length-replicate}
+use lib.ListN.{length, take, length-replicate}
 use lib.Seq.{take-all, take-length}
 use borrow.Author.Tests.{eq-eqb, ne-eqb}
 use Rattle.records.specs.Layout.{headerWidth, accountWidth, rowWidth, openingWidth, eventWidth}
@@ -23,8 +23,8 @@ use Rattle.preservation.proofs.SoundKept.{post-keeps-sound}
 use Rattle.preservation.proofs.CallsKept.{bookOf-sound}
 use Rattle.posting.specs.Posts.{Posts}
 use Rattle.opening.specs.Opens.{Opens}
-use Rattle.listing_rules.specs.Texts.{bytesOf, same, openingNames, eventNames, line, answerText, badLine}
-use Rattle.listing_rules.specs.Listing.{listingTables, opens, isGood, posted, bookBy, goodText}
+use Rattle.listing_rules.specs.Texts.{bytesOf, same, openingNames, eventNames, line, answerText}
+use Rattle.listing_rules.specs.Listing.{listedAccounts, listedRows, listingTables, opens, isGood, posted, bookBy, goodText}
 use Rattle.listing_text.specs.Puts.{Puts}
 use Rattle.listing_lines.specs.declared.Line.{Line}
 use Rattle.listing_lines.specs.Lines.{Sized, Ready, lineText, Bad, Taken}
@@ -92,7 +92,7 @@ numbers-read l values n e h = sym (take-all n values (omega arith)) ∙ e ∙ ap
 -- the listing's tables have its sizes
 listing-sized : Sized listingTables
 unfolding listingTables
-listing-sized = record { header = length-replicate headerWidth (pos 0); accounts = length-replicate (64 * accountWidth) (pos 0); journal = length-replicate (512 * rowWidth) (pos 0) }
+listing-sized = record { header = length-replicate headerWidth (pos 0); accounts = length-replicate (listedAccounts * accountWidth) (pos 0); journal = length-replicate (listedRows * rowWidth) (pos 0) }
 
 -- opening reads nothing of the tables but their lengths
 refusals-sized : (t u : Tables) (w : List ℤ) → Sized t → Sized u → openRefusals t w ≡ openRefusals u w

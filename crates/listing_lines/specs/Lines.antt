@@ -8,15 +8,15 @@ use Rattle.records.specs.Layout.{headerWidth, accountWidth, rowWidth}
 use Rattle.rules.specs.Book.{Book}
 use Rattle.rules.specs.Tables.{Tables, bookOf, soundTables}
 use Rattle.listing_rules.specs.Texts.{badLine}
-use Rattle.listing_rules.specs.Listing.{isGood, goodText, bookBy}
+use Rattle.listing_rules.specs.Listing.{listedAccounts, listedRows, isGood, goodText, bookBy}
 use Rattle.listing_text.specs.Puts.{Puts}
 use Rattle.listing_lines.specs.declared.Line.{Line}
 
 -- "It holds 64 accounts and 512 rows"
 pub record Sized (t : Tables) : Type 0 where
   pub header : length (t .header) ≡ headerWidth
-  pub accounts : length (t .accounts) ≡ 64 * accountWidth
-  pub journal : length (t .journal) ≡ 512 * rowWidth
+  pub accounts : length (t .accounts) ≡ listedAccounts * accountWidth
+  pub journal : length (t .journal) ≡ listedRows * rowWidth
 
 -- the tables when n lines are taken: the book is sound once line 2 has opened it
 pub record Ready (n : ℕ) (t : Tables) : Type 0 where

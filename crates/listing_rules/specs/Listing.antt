@@ -16,11 +16,18 @@ use Rattle.rules.specs.Calls.{openRefusals, openedBook}
 use Rattle.listing_rules.specs.Texts.{bytesOf, same, linesOf, openingNames, eventNames, line, answerText, bookText, badLine}
 
 -- "It holds 64 accounts and 512 rows"
+abbrev pub listedAccounts : ℕ
+listedAccounts = 64
+
+abbrev pub listedRows : ℕ
+listedRows = 512
+
+-- the tables before line 2
 unfoldable pub listingTables : Tables
 listingTables = record {
   header = replicate headerWidth (pos 0);
-  accounts = replicate (64 * accountWidth) (pos 0);
-  journal = replicate (512 * rowWidth) (pos 0);
+  accounts = replicate (listedAccounts * accountWidth) (pos 0);
+  journal = replicate (listedRows * rowWidth) (pos 0);
 }
 
 -- ---- a line, n of them before it

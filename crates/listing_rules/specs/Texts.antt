@@ -5,7 +5,6 @@ use Prim.Native.String as Text
 use Prim.Native.Char.{code}
 use mathlib.Core.Bool.{Bool, true, false, cond, _&&_}
 use mathlib.Core.List.{List, [], _∷_, _++_}
-use lib.Dec.{eqb}
 use Rattle.lists.specs.Tests.{_is_}
 use Rattle.lists.specs.Lists.{gather}
 use Rattle.decimal.specs.Decimal.{digitsOf, textOf, dateText, inFirst}

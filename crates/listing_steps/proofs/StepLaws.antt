@@ -10,7 +10,7 @@ use lib.Seq.{slice}
 use Rattle.bytes.specs.Bytes.{indexOf}
 use Rattle.decimal.proofs.FieldLaws.{take-of-drop}
 use Rattle.rules.specs.Book.{Book}
-use Rattle.rules.specs.Tables.{Tables, accountsIn, roomIn, rowsUsed, bookOf, soundTables}
+use Rattle.rules.specs.Tables.{Tables, accountsIn, roomIn, rowsUsed, bookOf}
 use Rattle.rules.proofs.TableLaws.{used-le}
 use Rattle.listing_rules.specs.Texts.{linesOf, bookText, badLine}
 use Rattle.listing_rules.specs.Listing.{isGood, bookBy, goodText, listed}
@@ -21,7 +21,7 @@ use Rattle.listing_input.proofs.TakenLaws.{listed-line, line-taken, line-too-lo
 use Rattle.listing_lines.specs.declared.Line.{Line}
 use Rattle.listing_lines.specs.Lines.{Ready, lineText, Taken}
 use Rattle.listing_steps.specs.declared.Place.{Place}
-use Rattle.listing_steps.specs.Steps.{Stands, toList, Waiting, Stepped}
+use Rattle.listing_steps.specs.Steps.{Stands, toList, Stepped}
 
 -- the lent part of the input is the line
 pub part-slice : (xs : List ℕ) (from stop : ℕ) → from ≤ stop → take (stop - from) (drop from xs) ≡ slice from stop xs

@@ -1,9 +1,9 @@
 -- Texts put one after the other.
-use mathlib.Core.Path.{_≡_, refl, sym, ap, _∙_}
+use mathlib.Core.Path.{_≡_, sym, ap, _∙_}
 use mathlib.Core.List.{List, [], _∷_, _++_, append-nil}
 use Prim.Native.Nat.{ℕ, _+_, _≤_, _<_}
 use native.Mathlib.Omega.{arith}
-use lib.ListN.{length, set, take, drop, length-append, take-append-drop}
+use lib.ListN.{length, set, take, length-append, take-append-drop}
 use Rattle.decimal.specs.Decimal.{written}
 use Rattle.decimal.proofs.WritingLaws.{length-written, written-after, set-written}
 use Rattle.listing_text.specs.Puts.{Puts}

@@ -1,6 +1,6 @@
 -- What a row that stands, and one that does not, shows of the rows.
 use mathlib.Core.Path.{_≡_, sym, _∙_}
-use mathlib.Core.Bool.{Bool, true, false, _&&_, and-false, true≢false, false≢true}
+use mathlib.Core.Bool.{Bool, true, false, and-false, true≢false, false≢true}
 use Prim.Native.Nat.{ℕ, _+_, _≤_, _<_}
 use native.Mathlib.Omega.{arith}
 use mathlib.Core.List.{List, [], _∷_}

@@ -2,7 +2,6 @@
 use native.Mathlib.Omega.{arith}
 use mathlib.Core.Path.{sym, _∙_}
 use mathlib.Core.Bool.{true≢false}
-use borrow.Author.Tests.{not-true, not-false}
 use Rattle.listing.proofs.TurnLaws.{goes-done, standing-next, waiting-next}
 use borrow.Author.Needs.{needs}
 use Rattle.listing.proofs.turn.Statement.{statement}

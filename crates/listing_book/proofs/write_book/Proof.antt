@@ -6,7 +6,6 @@ use Rattle.rules.proofs.TableLaws.{header-length, accounts-length}
 use Rattle.posting.specs.Posts.{tablesAt}
 use Rattle.posting.proofs.BookLaws.{journal-summable}
 use Rattle.listing_rules.specs.Texts.{bytesOf, line}
-use Rattle.listing_text.proofs.PutsLaws.{puts-puts}
 use Rattle.listing_book.proofs.ListedLaws.{sound-dated, book-listed}
 use Rattle.listing_book.proofs.write_book.Statement.{statement}
 use Rattle.listing_book.proofs.write_book.Tie as tie

@@ -1,8 +1,7 @@
 -- `event_line` meets its contract: the event is posted and its answer printed, or the line is bad.
 use native.Mathlib.Omega.{arith}
-use mathlib.Core.Path.{_≡_, refl, sym, ap, _∙_}
+use mathlib.Core.Path.{refl, sym, ap, _∙_}
 use borrow.Author.Tests.{not-true, not-false}
-use lib.ListN.{length}
 use lib.Seq.{take-length}
 use Rattle.decimal.specs.Decimal.{isNumbers}
 use Rattle.listing_lines.proofs.TakenLaws.{taken-bad, taken-good, numbers-read, event-good, posted-text, posted-book, posted-sound}

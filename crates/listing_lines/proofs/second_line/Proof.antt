@@ -2,7 +2,6 @@
 use native.Mathlib.Omega.{arith}
 use mathlib.Core.Path.{_≡_, refl, sym, ap, _∙_}
 use borrow.Author.Tests.{not-true, not-false}
-use lib.ListN.{length}
 use lib.Seq.{take-length}
 use Rattle.decimal.specs.Decimal.{isNumbers}
 use Rattle.listing_text.proofs.PutsLaws.{puts-nothing}

@@ -1,7 +1,6 @@
 -- `same_bytes` meets its contract: before each turn the bytes up to there are the same, so that the rest decides.
 use native.Mathlib.Omega.{arith}
 use mathlib.Core.Path.{_≡_, refl, sym, _∙_}
-use mathlib.Core.Bool.{true, false}
 use Prim.Native.Nat.{_≤_, _-_}
 use lib.ListN.{length, drop}
 use Rattle.listing_rules.specs.Texts.{same}

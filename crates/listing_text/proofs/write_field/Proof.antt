@@ -1,13 +1,9 @@
 -- `write_field` meets its contract: at most 20 digits, then one byte.
 use native.Mathlib.Omega.{arith}
-use mathlib.Core.Path.{_≡_, refl, _∙_}
 use mathlib.Core.List.{[], _∷_}
-use Prim.Native.Nat.{_+_, _≤_, _<_, _^_}
-use lib.ListN.{length}
 use borrow.Author.Needs.{needs}
 use Rattle.decimal.specs.Decimal.{digitsOf}
 use Rattle.decimal.proofs.RoundTrip.{digits-short}
-use Rattle.decimal.proofs.WritingLaws.{length-written}
 use Rattle.listing_text.specs.Puts.{Puts}
 use Rattle.listing_text.proofs.PutsLaws.{puts-puts, puts-byte, length-puts}
 use Rattle.listing_text.proofs.write_field.Statement.{statement}
