@@ -26,7 +26,10 @@ use Rattle.preservation.proofs.LookupLaws.{live-of}
 use Rattle.preservation.proofs.DisputeKept.{HeldToll, held-is, Decided, decided}
 use Rattle.preservation.proofs.NamedLaws.{after-named}
 use Rattle.tables.specs.Changes.{RowChanged}
-use Rattle.settlement.specs.Settling.{Journal, Settled}
+use Rattle.settlement.specs.Settling.{Journal, Begun, Settled}
+use Rattle.lookups.specs.declared.Lookup.{Lookup}
+use Rattle.lookups.specs.Lookups.{LooksUp}
+use Rattle.lookups.proofs.LookupLaws.{still-before, still-put, still-whole, still-mapped, still-add, begun-still, row-at}
 use Rattle.posting.specs.Posts.{tablesAt, Amounts, acceptanceOf, Posts}
 use Rattle.posting.proofs.BookLaws.{row-read, day-read, used-read, room-read, used-small, row-holds, journal-summable}
 use Rattle.posting_laws.proofs.RefusalLaws.{at-kind}
@@ -35,7 +38,7 @@ use Rattle.posting_laws.proofs.EventLaws.{known-inside}
 use Rattle.posting_laws.proofs.UsedRowsLaws.{UsedRows, used-rows-before, used-rows-put, used-rows-map, used-rows-add, used-rows-settle, used-rows-written, used-rows-settles, small-before, small-put, small-map, small-add}
 use Rattle.posting_laws.proofs.PutRowLaws.{row-used, put-settles, put-posts}
 use Rattle.event_decision.specs.Decision.{feeSettled, upheldToll, creditFor, rowNamed, Upholdable, UpheldRows, Releasable, ReleasedRow}
-use Rattle.event_decision.proofs.FeeLaws.{sum-small}
+use Rattle.event_decision.proofs.FeeLaws.{sum-small, same-or-whole}
 use Rattle.event_decision.proofs.AnswerLaws.{forgivenRows, creditRow, freeRow, rejected-change, upheld-change, length-forgiven, upheld-length}
 
 -- the row that is read is the one that the event names
@@ -121,6 +124,13 @@ module _ (t : Tables) (s : soundTables t ≡ true) (e : Instruction) (k : e .kin
     pub rejected-settles : Journal j (rowsUsed t)
     rejected-settles = put-settles t s e q (freeRow b e) (rejected-change b e k v) has-kind j free (free-storable .amount)
 
+    -- settlement does not read the words that change
+    pub rejected-begins : (x : Lookup) → LooksUp t e x → Begun j (rowsUsed t) (e .account) (x .source) (x .debit)
+    unfolding release
+    rejected-begins x l =
+        begun-still t e x j (rowsUsed t) l (omega arith)
+        (still-put e x (t .journal) j (e .a - 1) (freeRow b e) free (still-before t e x l) (row b (e .a)) (row-at t s (e .a) (toll-row .0) (toll-row .1)) refl refl refl refl)
+
     pub rejected-posts : (j″ : List ℤ) → Settled j j″ (rowsUsed t) (e .account) → Posts t (tablesAt (t .header) (t .accounts) j″) e (acceptanceOf (rowsUsed t) 0 0 0)
     rejected-posts = put-posts t s e q (freeRow b e) (rejected-change b e k v) has-kind j free (λ z. omega arith) (λ z. omega arith)
 
@@ -184,6 +194,13 @@ module _ (t : Tables) (s : soundTables t ≡ true) (e : Instruction) (k : e .kin
     module _ (h j : List ℤ) (w : UpheldRows (t .header) h (t .journal) j e) where
       within : e .a - 1 < length (b .rows)
       within = omega (arith, toll-row, used-read t s)
+
+      -- the toll and its fees are settled whole, and the credit comes last
+      pub upheld-begins : (x : Lookup) → LooksUp t e x → Begun j (rowsUsed t + 1) (e .account) (x .source) (x .debit)
+      upheld-begins x l =
+          let toll = still-whole e x (t .journal) (w .with-toll) (e .a - 1) _ (w .toll) (still-before t e x l) (omega arith) in
+          let fees = still-mapped e x (feeSettled (e .a)) (w .with-toll) (w .with-fees) (rowsUsed t) (w .fees) (λ r. same-or-whole (feeNaming (e .a) r) r) (l .source-in) (l .debit-in) toll in
+          begun-still t e x j (rowsUsed t + 1) l (omega arith) (still-add e x (w .with-fees) j (rowsUsed t) _ (w .credit .row) fees (l .source-in) (l .debit-in))
 
       upheld-used : UsedRows t h j rows
       upheld-used =

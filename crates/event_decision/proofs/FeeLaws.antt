@@ -1,5 +1,6 @@
 -- A toll and its fees: how large their sum becomes, a row more of it, and a fee settled whole.
-use mathlib.Core.Path.{_≡_, _∙_}
+use mathlib.Core.Path.{_≡_, refl, _∙_}
+use mathlib.Core.Logic.{_⊎_, inl, inr}
 use mathlib.Core.Bool.{Bool, true, false, cond}
 use Prim.Native.Nat.{ℕ, zero, suc, _+_, _*_, _^_, _≤_, _<_}
 use native.Mathlib.Omega.{arith}
@@ -12,7 +13,7 @@ use Rattle.lists.specs.Lists.{sumBy, only, tabulate}
 use Rattle.lists.proofs.ListLaws.{length-tabulate, tabulate-at}
 use Rattle.lists.proofs.SumLaws.{sumBy-more, sumBy-small}
 use Rattle.rules.specs.Limits.{highestRefund}
-use Rattle.rules.specs.Rows.{Row, blank, rowNo, withSettled, feeNaming}
+use Rattle.rules.specs.Rows.{Row, blank, rowNo, withSettled, remaining, settleWhole, feeNaming}
 use Rattle.posting.specs.Posts.{Amounts}
 use Rattle.event_decision.specs.Decision.{part, tollAndFees, feeSettled}
 
@@ -88,3 +89,8 @@ module _ (n : ℕ) (r x : Row) (e : x ≡ r) where
 
   pub fee-whole : feeNaming n x ≡ true → withSettled (x .amount) r ≡ feeSettled n r
   fee-whole f = let z : feeNaming n r ≡ true = rw e at f in rw (z, e)
+
+-- a row is as before, or settled whole
+pub same-or-whole : (b : Bool) (r : Row) → (cond b (settleWhole r) r ≡ r) ⊎ (remaining (cond b (settleWhole r) r) ≡ 0)
+same-or-whole true r = inr (omega arith)
+same-or-whole false r = inl refl

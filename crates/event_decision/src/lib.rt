@@ -1,9 +1,11 @@
-// Event 6: a decision. Uses lists, records, rules, preservation, tables, settlement and posting.
+// Event 6: a decision. Uses lists, records, rules, preservation, tables, settlement, lookups and
+// posting.
 pub mod fees; // fees.rt: the fees of a toll, summed and settled
 
 use self::fees::settle_fees;
 use self::fees::with_fees;
 use forms::decision_form;
+use lookups::Lookup;
 use posting::answers::posted;
 use posting::answers::refused;
 use posting::rows::add_row;
@@ -13,7 +15,7 @@ use records::Answer;
 use records::Instruction;
 use records::Row;
 use row_tests::held_toll;
-use settlement::settle;
+use settlement::settle_from;
 use table_accounts::account_numbered;
 use table_rows::row_numbered;
 use table_rows::write_row;
@@ -31,6 +33,7 @@ ghost use mathlib.Core.Bool.{true};
 ghost use Rattle.records.specs.Encoding.{rowsOf};
 ghost use Rattle.rules.specs.Refusals.{answerNumber};
 ghost use Rattle.rules.specs.Tables.{bookOf, soundTables};
+ghost use Rattle.lookups.specs.Lookups.{LooksUp};
 ghost use Rattle.posting.specs.Posts.{tablesAt, Amounts, Posts};
 ghost use Rattle.event_decision.specs.Decision.{upheldToll, creditFor, Upholdable, UpheldRows, Releasable, ReleasedRow};
 
@@ -110,8 +113,14 @@ fn reject(header: &[i64], journal: &mut [i64], e: Instruction)
 }
 
 // Event 6: the dispute is decided; then settlement.
-pub fn decide(header: &mut [i64], accounts: &[i64], journal: &mut [i64], e: Instruction) -> Answer
-    requires { ⌜ (soundTables (tablesAt (now header) (now accounts) (now journal)) ≡ true) × (e .kind ≡ 6) ⌝ }
+pub fn decide(
+    header: &mut [i64],
+    accounts: &[i64],
+    journal: &mut [i64],
+    e: Instruction,
+    k: Lookup,
+) -> Answer
+    requires { ⌜ (soundTables (tablesAt (now header) (now accounts) (now journal)) ≡ true) × (e .kind ≡ 6) × LooksUp (tablesAt (now header) (now accounts) (now journal)) e k ⌝ }
     ensures { λ r. ⌜ Posts (tablesAt (now (header .entry)) (now (accounts .entry)) (now (journal .entry))) (tablesAt (now (header .exit)) (now (accounts .entry)) (now (journal .exit))) e r ⌝ }
 {
     let n = decision_refusal(header, accounts, journal, e);
@@ -121,10 +130,10 @@ pub fn decide(header: &mut [i64], accounts: &[i64], journal: &mut [i64], e: Inst
     let used = get(header, USED_PLACE);
     if e.b == YES {
         uphold(header, journal, e);
-        settle(journal, used as usize + 1, e.account);
+        settle_from(journal, used as usize + 1, e.account, k.source, k.debit);
         return posted(used, 1, 0, 0);
     }
     reject(header, journal, e);
-    settle(journal, used as usize, e.account);
+    settle_from(journal, used as usize, e.account, k.source, k.debit);
     posted(used, 0, 0, 0)
 }

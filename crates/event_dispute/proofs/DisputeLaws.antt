@@ -21,7 +21,10 @@ use Rattle.rules.proofs.TableLaws.{sound-book, used-le}
 use Rattle.preservation.proofs.Accepted.{accepted}
 use Rattle.preservation.proofs.LookupLaws.{named-kind}
 use Rattle.tables.specs.Changes.{RowChanged}
-use Rattle.settlement.specs.Settling.{Journal, Settled}
+use Rattle.settlement.specs.Settling.{Journal, Begun, Settled}
+use Rattle.lookups.specs.declared.Lookup.{Lookup}
+use Rattle.lookups.specs.Lookups.{LooksUp}
+use Rattle.lookups.proofs.LookupLaws.{still-before, still-put, begun-still, row-at}
 use Rattle.posting.specs.Posts.{tablesAt, acceptanceOf, Posts}
 use Rattle.posting.proofs.BookLaws.{day-read, row-holds}
 use Rattle.posting_laws.proofs.RefusalLaws.{ofKind, at-kind, unknown-unused, rows-suffice}
@@ -103,6 +106,13 @@ module _ (t : Tables) (s : soundTables t ≡ true) (e : Instruction) (k : e .kin
   module _ (j : List ℤ) (w : RowChanged (t .journal) j (e .a - 1) (heldRow b e)) where
     pub dispute-settles : Journal j (rowsUsed t)
     dispute-settles = put-settles t s e q (heldRow b e) (changed b e k) has-kind j w (dispute-storable .amount)
+
+    -- settlement does not read the two words that change
+    pub dispute-begins : (x : Lookup) → LooksUp t e x → Begun j (rowsUsed t) (e .account) (x .source) (x .debit)
+    unfolding holdFrom
+    dispute-begins x l =
+        begun-still t e x j (rowsUsed t) l (omega arith)
+        (still-put e x (t .journal) j (e .a - 1) (heldRow b e) w (still-before t e x l) (row b (e .a)) (row-at t s (e .a) (dispute-row .0) (dispute-row .1)) refl refl refl refl)
 
     pub dispute-posts : (j″ : List ℤ) → Settled j j″ (rowsUsed t) (e .account) → Posts t (tablesAt (t .header) (t .accounts) j″) e (acceptanceOf (rowsUsed t) 0 0 0)
     dispute-posts = put-posts t s e q (heldRow b e) (changed b e k) has-kind j w (λ z. omega arith) (λ z. omega arith)

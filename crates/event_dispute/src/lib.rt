@@ -1,11 +1,13 @@
-// Event 5: a dispute. Uses lists, records, rules, preservation, tables, settlement and posting.
+// Event 5: a dispute. Uses lists, records, rules, preservation, tables, settlement, lookups and
+// posting.
 use forms::dispute_form;
+use lookups::Lookup;
 use posting::answers::posted;
 use posting::answers::refused;
 use records::Answer;
 use records::Instruction;
 use records::Row;
-use settlement::settle;
+use settlement::settle_from;
 use table_accounts::account_numbered;
 use table_rows::row_numbered;
 use table_rows::write_row;
@@ -22,6 +24,7 @@ ghost use mathlib.Core.Bool.{true};
 ghost use Rattle.rules.specs.Events.{holdFrom};
 ghost use Rattle.rules.specs.Refusals.{answerNumber};
 ghost use Rattle.rules.specs.Tables.{bookOf, soundTables};
+ghost use Rattle.lookups.specs.Lookups.{LooksUp};
 ghost use Rattle.posting.specs.Posts.{tablesAt, Posts};
 
 // Why event 5 is refused, 0 where it is not.
@@ -57,8 +60,14 @@ fn held_from(r: Row, today: u64) -> Row
 }
 
 // Event 5: the toll is held; then settlement.
-pub fn hold_toll(header: &[i64], accounts: &[i64], journal: &mut [i64], e: Instruction) -> Answer
-    requires { ⌜ (soundTables (tablesAt (now header) (now accounts) (now journal)) ≡ true) × (e .kind ≡ 5) ⌝ }
+pub fn hold_toll(
+    header: &[i64],
+    accounts: &[i64],
+    journal: &mut [i64],
+    e: Instruction,
+    k: Lookup,
+) -> Answer
+    requires { ⌜ (soundTables (tablesAt (now header) (now accounts) (now journal)) ≡ true) × (e .kind ≡ 5) × LooksUp (tablesAt (now header) (now accounts) (now journal)) e k ⌝ }
     ensures { λ r. ⌜ Posts (tablesAt (now (header .entry)) (now (accounts .entry)) (now (journal .entry))) (tablesAt (now (header .entry)) (now (accounts .entry)) (now (journal .exit))) e r ⌝ }
 {
     let n = dispute_refusal(header, accounts, journal, e);
@@ -69,6 +78,6 @@ pub fn hold_toll(header: &[i64], accounts: &[i64], journal: &mut [i64], e: Instr
     let r = row_numbered(journal, used as usize, e.a);
     let held = held_from(r, get(header, DAY_PLACE));
     write_row(journal, (e.a - 1) as usize, held);
-    settle(journal, used as usize, e.account);
+    settle_from(journal, used as usize, e.account, k.source, k.debit);
     posted(used, 0, 0, 0)
 }

@@ -1,12 +1,14 @@
-// Event 3: a payment. Uses lists, records, rules, preservation, tables, settlement and posting.
+// Event 3: a payment. Uses lists, records, rules, preservation, tables, settlement, lookups and
+// posting.
 use forms::payment_form;
+use lookups::Lookup;
 use posting::answers::posted;
 use posting::answers::refused;
 use posting::rows::add_row;
 use posting::rows::new_row;
 use records::Answer;
 use records::Instruction;
-use settlement::settle;
+use settlement::settle_from;
 use table_accounts::account_numbered;
 use tables::codes::CHECK;
 use tables::codes::CLOSED;
@@ -22,6 +24,7 @@ ghost use mathlib.Core.Path.{_≡_};
 ghost use mathlib.Core.Bool.{true};
 ghost use Rattle.rules.specs.Refusals.{answerNumber};
 ghost use Rattle.rules.specs.Tables.{bookOf, soundTables};
+ghost use Rattle.lookups.specs.Lookups.{LooksUp};
 ghost use Rattle.posting.specs.Posts.{tablesAt, Posts};
 
 // Why event 3 is refused, 0 where it is not.
@@ -54,8 +57,9 @@ pub fn post_payment(
     accounts: &[i64],
     journal: &mut [i64],
     e: Instruction,
+    k: Lookup,
 ) -> Answer
-    requires { ⌜ (soundTables (tablesAt (now header) (now accounts) (now journal)) ≡ true) × (e .kind ≡ 3) ⌝ }
+    requires { ⌜ (soundTables (tablesAt (now header) (now accounts) (now journal)) ≡ true) × (e .kind ≡ 3) × LooksUp (tablesAt (now header) (now accounts) (now journal)) e k ⌝ }
     ensures { λ r. ⌜ Posts (tablesAt (now (header .entry)) (now (accounts .entry)) (now (journal .entry))) (tablesAt (now (header .exit)) (now (accounts .entry)) (now (journal .exit))) e r ⌝ }
 {
     let n = payment_refusal(header, accounts, journal, e);
@@ -66,6 +70,6 @@ pub fn post_payment(
     let mut r = new_row(PAYMENT, e.account, get(header, DAY_PLACE), e.a);
     r.mark = e.b;
     add_row(header, journal, r);
-    settle(journal, used as usize + 1, e.account);
+    settle_from(journal, used as usize + 1, e.account, k.source, k.debit);
     posted(used, 1, 0, 0)
 }

@@ -10,7 +10,7 @@ use lib.IntN.{ℤ}
 use lib.Dec.{leb, ltb}
 use borrow.Author.Tests.{leb-true, le-leb, ltb-false, eqb-true, not-false}
 use Rattle.records.specs.Codes.{Check, CheckReturned}
-use Rattle.records.specs.Layout.{dayPlace}
+use Rattle.records.specs.Layout.{dayPlace, usedPlace}
 use Rattle.records.specs.Encoding.{word, rowsOf, accountsOf, StorableRow, StorableAccount}
 use Rattle.records.specs.AccountOperations.{checkReturned}
 use Rattle.records.specs.Updates.{withState, withReturned}
@@ -34,7 +34,10 @@ use Rattle.preservation.proofs.LookupLaws.{counted-of, there, named-kind}
 use Rattle.preservation.proofs.NamedLaws.{after-named}
 use Rattle.tables.specs.Changes.{RowChanged, AccountChanged}
 use Rattle.tables.proofs.ChangeLaws.{changed-accounts}
-use Rattle.settlement.specs.Settling.{Journal, Settled}
+use Rattle.settlement.specs.Settling.{Journal, Begun, Settled}
+use Rattle.lookups.specs.declared.Lookup.{Lookup}
+use Rattle.lookups.specs.Lookups.{LooksUp}
+use Rattle.lookups.proofs.LookupLaws.{still-before, still-put, still-add, begun-still, row-at}
 use Rattle.posting.specs.Posts.{tablesAt, acceptanceOf, RowRoom, RowAdded, Posts}
 use Rattle.posting.proofs.BookLaws.{account-read, row-read, day-read, used-read, room-read, count-read, used-small, used-room, row-holds, account-holds}
 use Rattle.posting_laws.proofs.EventLaws.{known-inside}
@@ -317,6 +320,15 @@ module _ (t : Tables) (s : soundTables t ≡ true) (e : Instruction) (k : e .kin
 
         pub return-settles : Journal j″ (rowsUsed t + 2)
         return-settles = rw length-returned at (used-rows-settles t s h″ j″ (returnedRows b e) returned-used (rw length-returned fits) small)
+
+        -- settlement begins where it may before the event: the mark is not read by it, and the two rows come last
+        pub return-begins : (x : Lookup) → LooksUp t e x → Begun j″ (rowsUsed t + 2) (e .account) (x .source) (x .debit)
+        return-begins x l =
+            let n : word h′ usedPlace ≡ rowsUsed t + 1 = reversed-used .used ∙ length-reversed in
+            let marked = still-put e x (t .journal) j (e .a - 1) (markedRow b e) m (still-before t e x l) (row b (e .a)) (row-at t s (e .a) (named-used .0) (omega (arith, used-read t s, named-used .1))) refl refl refl refl in
+            let reversed = still-add e x j j′ (rowsUsed t) (reversalRow b e) (w .row) marked (l .source-in) (l .debit-in) in
+            begun-still t e x j″ (rowsUsed t + 2) l (omega arith)
+            (still-add e x j′ j″ (word h′ usedPlace) (feeRow b e) (v .row) reversed (omega (arith, l .source-in)) (omega (arith, l .debit-in)))
 
         -- the size stays
         pub return-size : length j″ ≡ length (t .journal)

@@ -1,12 +1,14 @@
-// Event 4: a returned check. Uses lists, records, rules, preservation, tables, settlement and posting.
+// Event 4: a returned check. Uses lists, records, rules, preservation, tables, settlement, lookups and
+// posting.
 use forms::return_form;
+use lookups::Lookup;
 use posting::answers::posted;
 use posting::answers::refused;
 use posting::rows::add_row;
 use posting::rows::new_row;
 use records::Answer;
 use records::Instruction;
-use settlement::settle;
+use settlement::settle_from;
 use table_accounts::account_numbered;
 use table_accounts::write_account;
 use table_rows::row_numbered;
@@ -30,6 +32,7 @@ ghost use Rattle.records.specs.Encoding.{word, StorableRow};
 ghost use Rattle.rules.specs.Rows.{newRow, withReference};
 ghost use Rattle.rules.specs.Refusals.{answerNumber};
 ghost use Rattle.rules.specs.Tables.{bookOf, soundTables};
+ghost use Rattle.lookups.specs.Lookups.{LooksUp};
 ghost use Rattle.posting.specs.Posts.{tablesAt, RowRoom, RowAdded, Posts};
 ghost use Rattle.event_return.specs.Return.{Counts, Counted, Marks, Marked};
 
@@ -95,8 +98,9 @@ pub fn return_check(
     accounts: &mut [i64],
     journal: &mut [i64],
     e: Instruction,
+    k: Lookup,
 ) -> Answer
-    requires { ⌜ (soundTables (tablesAt (now header) (now accounts) (now journal)) ≡ true) × (e .kind ≡ 4) ⌝ }
+    requires { ⌜ (soundTables (tablesAt (now header) (now accounts) (now journal)) ≡ true) × (e .kind ≡ 4) × LooksUp (tablesAt (now header) (now accounts) (now journal)) e k ⌝ }
     ensures { λ r. ⌜ Posts (tablesAt (now (header .entry)) (now (accounts .entry)) (now (journal .entry))) (tablesAt (now (header .exit)) (now (accounts .exit)) (now (journal .exit))) e r ⌝ }
 {
     let n = return_refusal(header, accounts, journal, e);
@@ -108,6 +112,6 @@ pub fn return_check(
     let amount = mark_returned(journal, used as usize, e.a);
     add_naming(header, journal, e, REVERSAL, amount);
     add_naming(header, journal, e, FEE, e.b + RETURN_FEE);
-    settle(journal, used as usize + 2, e.account);
+    settle_from(journal, used as usize + 2, e.account, k.source, k.debit);
     posted(used, 2, 0, 0)
 }

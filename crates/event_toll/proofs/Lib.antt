@@ -1,2 +1,1 @@
-pub mod PassageLaws
 pub mod TollLaws

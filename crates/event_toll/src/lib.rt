@@ -1,5 +1,7 @@
-// Event 2: a toll. Uses lists, records, rules, preservation, tables, settlement and posting.
+// Event 2: a toll. Uses lists, records, rules, preservation, tables, settlement, lookups and
+// posting.
 use forms::toll_form;
+use lookups::Lookup;
 use posting::answers::posted;
 use posting::answers::refused;
 use posting::rows::add_row;
@@ -8,10 +10,8 @@ use rates::class_of;
 use rates::rate_of;
 use records::Answer;
 use records::Instruction;
-use settlement::settle;
+use settlement::settle_from;
 use table_accounts::account_numbered;
-use table_rows::kind_at;
-use table_rows::reference_at;
 use tables::codes::CLOSED;
 use tables::codes::TOLL;
 use tables::codes::UNUSED;
@@ -35,29 +35,13 @@ ghost use Rattle.rules.specs.Limits.{finalDay};
 ghost use Rattle.rules.specs.Rows.{toll};
 ghost use Rattle.rules.specs.Refusals.{answerNumber};
 ghost use Rattle.rules.specs.Tables.{bookOf, soundTables};
+ghost use Rattle.lookups.specs.Lookups.{LooksUp};
 ghost use Rattle.posting.specs.Posts.{tablesAt, Posts};
 ghost use Rattle.event_toll.specs.Toll.{passageRefusals};
 
-// The passage number stands in the journal. Hardly a row has it, so it is tested before the kind.
-fn passage_stands(journal: &[i64], used: usize, passage: u64) -> bool
-    requires { ⌜ used * rowWidth ≤ length (now journal) ⌝ }
-    ensures { λ b. ⌜ b ≡ exists (λ r. toll r && r .reference is passage) (rowsOf (now (journal .entry)) used) ⌝ }
-{
-    let mut i = 0;
-    while i < used {
-        if reference_at(journal, i) == passage {
-            if kind_at(journal, i) == TOLL {
-                return true;
-            }
-        }
-        i += 1;
-    }
-    false
-}
-
-// Why the passage is refused by its class, day or number, or for want of a row; 0 where it is not.
-fn passage_refusal(header: &[i64], journal: &[i64], e: Instruction) -> u64
-    requires { ⌜ (length (now header) ≡ headerWidth) × (word (now header) usedPlace * rowWidth ≤ length (now journal)) × (e .b ≤ finalDay) ⌝ }
+// Why the passage is refused by its class, day or number, which stands in the journal or not, or for want of a row; 0 where it is not.
+fn passage_refusal(header: &[i64], journal: &[i64], e: Instruction, stands: bool) -> u64
+    requires { ⌜ (length (now header) ≡ headerWidth) × (word (now header) usedPlace * rowWidth ≤ length (now journal)) × (e .b ≤ finalDay) × (stands ≡ exists (λ r. toll r && r .reference is e .a) (rowsOf (now journal) (word (now header) usedPlace))) ⌝ }
     ensures { λ n. ⌜ n ≡ first (passageRefusals (word (now (header .entry)) dayPlace) (rowsOf (now (journal .entry)) (word (now (header .entry)) usedPlace)) (length (now (journal .entry)) / rowWidth) e) ⌝ }
 {
     let today = get(header, DAY_PLACE);
@@ -68,7 +52,7 @@ fn passage_refusal(header: &[i64], journal: &[i64], e: Instruction) -> u64
     if (today < e.b) | (e.b + LATEST_DAYS < today) {
         return 7;
     }
-    if passage_stands(journal, used, e.a) {
+    if stands {
         return 8;
     }
     if journal.len() / ROW_WIDTH <= used {
@@ -78,8 +62,8 @@ fn passage_refusal(header: &[i64], journal: &[i64], e: Instruction) -> u64
 }
 
 // Why event 2 is refused, 0 where it is not.
-fn toll_refusal(header: &[i64], accounts: &[i64], journal: &[i64], e: Instruction) -> u64
-    requires { ⌜ (soundTables (tablesAt (now header) (now accounts) (now journal)) ≡ true) × (e .kind ≡ 2) ⌝ }
+fn toll_refusal(header: &[i64], accounts: &[i64], journal: &[i64], e: Instruction, k: Lookup) -> u64
+    requires { ⌜ (soundTables (tablesAt (now header) (now accounts) (now journal)) ≡ true) × (e .kind ≡ 2) × LooksUp (tablesAt (now header) (now accounts) (now journal)) e k ⌝ }
     ensures { λ n. ⌜ n ≡ answerNumber (bookOf (tablesAt (now (header .entry)) (now (accounts .entry)) (now (journal .entry)))) e ⌝ }
 {
     if !toll_form(e) {
@@ -92,7 +76,7 @@ fn toll_refusal(header: &[i64], accounts: &[i64], journal: &[i64], e: Instructio
     if x.state == CLOSED {
         return 5;
     }
-    passage_refusal(header, journal, e)
+    passage_refusal(header, journal, e, k.stands)
 }
 
 // Event 2: the toll row, at its rate, due a stage length from today; then settlement.
@@ -101,11 +85,12 @@ pub fn post_toll(
     accounts: &[i64],
     journal: &mut [i64],
     e: Instruction,
+    k: Lookup,
 ) -> Answer
-    requires { ⌜ (soundTables (tablesAt (now header) (now accounts) (now journal)) ≡ true) × (e .kind ≡ 2) ⌝ }
+    requires { ⌜ (soundTables (tablesAt (now header) (now accounts) (now journal)) ≡ true) × (e .kind ≡ 2) × LooksUp (tablesAt (now header) (now accounts) (now journal)) e k ⌝ }
     ensures { λ r. ⌜ Posts (tablesAt (now (header .entry)) (now (accounts .entry)) (now (journal .entry))) (tablesAt (now (header .exit)) (now (accounts .entry)) (now (journal .exit))) e r ⌝ }
 {
-    let n = toll_refusal(header, accounts, journal, e);
+    let n = toll_refusal(header, accounts, journal, e, k);
     if n != 0 {
         return refused(n);
     }
@@ -120,6 +105,6 @@ pub fn post_toll(
     r.due = today + get(header, HEADER_SCHEDULE + STAGE_PLACE);
     r.reference = e.a;
     add_row(header, journal, r);
-    settle(journal, used as usize + 1, e.account);
+    settle_from(journal, used as usize + 1, e.account, k.source, k.debit);
     posted(used, 1, 0, 0)
 }

@@ -1,6 +1,7 @@
-// Event 7: the result of a top-up. Uses lists, records, rules, preservation, tables, settlement and posting.
-use balances::top_up_due;
+// Event 7: the result of a top-up. Uses lists, records, rules, preservation, tables, settlement, lookups and
+// posting.
 use forms::result_form;
+use lookups::Lookup;
 use posting::answers::posted;
 use posting::answers::refused;
 use posting::rows::add_row;
@@ -8,7 +9,7 @@ use posting::rows::new_row;
 use records::Account;
 use records::Answer;
 use records::Instruction;
-use settlement::settle;
+use settlement::settle_from;
 use table_accounts::account_numbered;
 use table_accounts::write_account;
 use tables::codes::CARD;
@@ -25,12 +26,19 @@ ghost use mathlib.Core.Bool.{true, cond};
 ghost use Rattle.records.specs.AccountOperations.{lastDecline};
 ghost use Rattle.rules.specs.Refusals.{answerNumber};
 ghost use Rattle.rules.specs.Tables.{bookOf, soundTables};
+ghost use Rattle.lookups.specs.Lookups.{LooksUp};
 ghost use Rattle.posting.specs.Posts.{tablesAt, Posts};
 ghost use Rattle.event_topup.specs.TopUpResult.{PaidResult};
 
 // Why event 7 is refused, 0 where it is not.
-fn result_refusal(header: &[i64], accounts: &[i64], journal: &[i64], e: Instruction) -> u64
-    requires { ⌜ (soundTables (tablesAt (now header) (now accounts) (now journal)) ≡ true) × (e .kind ≡ 7) ⌝ }
+fn result_refusal(
+    header: &[i64],
+    accounts: &[i64],
+    journal: &[i64],
+    e: Instruction,
+    k: Lookup,
+) -> u64
+    requires { ⌜ (soundTables (tablesAt (now header) (now accounts) (now journal)) ≡ true) × (e .kind ≡ 7) × LooksUp (tablesAt (now header) (now accounts) (now journal)) e k ⌝ }
     ensures { λ n. ⌜ n ≡ answerNumber (bookOf (tablesAt (now (header .entry)) (now (accounts .entry)) (now (journal .entry)))) e ⌝ }
 {
     if !result_form(e) {
@@ -43,7 +51,7 @@ fn result_refusal(header: &[i64], accounts: &[i64], journal: &[i64], e: Instruct
     if x.state == CLOSED {
         return 5;
     }
-    if !top_up_due(header, accounts, journal, e.account) {
+    if !k.due {
         return 11;
     }
     if (e.b == 1) & (journal.len() / ROW_WIDTH <= get(header, USED_PLACE) as usize) {
@@ -58,8 +66,9 @@ fn pay_top_up(
     accounts: &mut [i64],
     journal: &mut [i64],
     e: Instruction,
+    k: Lookup,
 ) -> Answer
-    requires { ⌜ PaidResult (tablesAt (now header) (now accounts) (now journal)) e ⌝ }
+    requires { ⌜ PaidResult (tablesAt (now header) (now accounts) (now journal)) e × LooksUp (tablesAt (now header) (now accounts) (now journal)) e k ⌝ }
     ensures { λ r. ⌜ Posts (tablesAt (now (header .entry)) (now (accounts .entry)) (now (journal .entry))) (tablesAt (now (header .exit)) (now (accounts .exit)) (now (journal .exit))) e r ⌝ }
 {
     let used = get(header, USED_PLACE);
@@ -69,7 +78,7 @@ fn pay_top_up(
     let mut r = new_row(PAYMENT, e.account, get(header, DAY_PLACE), x.topup);
     r.mark = CARD;
     add_row(header, journal, r);
-    settle(journal, used as usize + 1, e.account);
+    settle_from(journal, used as usize + 1, e.account, k.source, k.debit);
     posted(used, 1, 0, 0)
 }
 
@@ -86,16 +95,17 @@ pub fn top_up_result(
     accounts: &mut [i64],
     journal: &mut [i64],
     e: Instruction,
+    k: Lookup,
 ) -> Answer
-    requires { ⌜ (soundTables (tablesAt (now header) (now accounts) (now journal)) ≡ true) × (e .kind ≡ 7) ⌝ }
+    requires { ⌜ (soundTables (tablesAt (now header) (now accounts) (now journal)) ≡ true) × (e .kind ≡ 7) × LooksUp (tablesAt (now header) (now accounts) (now journal)) e k ⌝ }
     ensures { λ r. ⌜ Posts (tablesAt (now (header .entry)) (now (accounts .entry)) (now (journal .entry))) (tablesAt (now (header .exit)) (now (accounts .exit)) (now (journal .exit))) e r ⌝ }
 {
-    let n = result_refusal(header, accounts, journal, e);
+    let n = result_refusal(header, accounts, journal, e, k);
     if n != 0 {
         return refused(n);
     }
     if e.b == 1 {
-        return pay_top_up(header, accounts, journal, e);
+        return pay_top_up(header, accounts, journal, e, k);
     }
     let x = account_numbered(accounts, accounts.len() / ACCOUNT_WIDTH, e.account);
     let declined = x.decline(get(header, DAY_PLACE));

@@ -19,9 +19,9 @@ pub record Paying (a : ℕ) (old rows : List Row) (i j p : ℕ) : Type 0 where
   pub debits : sumBy (only (payable old a) remaining) (take j rows) ≡ 0
   pub within : p ≤ moved a old
 
-pub paying-start : (a : ℕ) (rows : List Row) → Paying a rows rows 0 0 0
-unfolding sumBy
-paying-start a rows = record { now = sym (pay-zero a rows); sources = refl; debits = refl; within = omega arith }
+pub paying-start : (a : ℕ) (rows : List Row) (i j : ℕ) → sumBy (only (sourceOf a) remaining) (take i rows) ≡ 0 → sumBy (only (payable rows a) remaining) (take j rows) ≡ 0
+    → Paying a rows rows i j 0
+paying-start a rows i j s d = record { now = sym (pay-zero a rows); sources = s; debits = d; within = omega arith }
 
 pub next-source : (a : ℕ) (old rows : List Row) (i j p : ℕ) → Paying a old rows i j p
     → i < length rows → only (sourceOf a) remaining (getD rows i blank) ≡ 0 → Paying a old rows (suc i) j p

@@ -15,7 +15,7 @@ ghost use Rattle.records.specs.Encoding.{rowAt, rowsOf};
 ghost use Rattle.lists.specs.Lists.{only};
 ghost use Rattle.rules.specs.Rows.{remaining, settleMore, sourceOf, payable};
 ghost use Rattle.tables.specs.Changes.{RowIn, RowChanged};
-ghost use Rattle.settlement.specs.Settling.{Journal, NextDebit, Settled};
+ghost use Rattle.settlement.specs.Settling.{Journal, Begun, NextDebit, Settled};
 
 // What row i has as a source of the account. Most rows are other accounts', so the account is read first and alone.
 fn unused(journal: &[i64], i: usize, account: u64) -> u64
@@ -80,13 +80,13 @@ fn add_settled(journal: &mut [i64], i: usize, m: u64)
     put_settled(journal, i, r.settled + m);
 }
 
-// Settles the account among the used rows. Sources and debits are each passed over once.
-pub fn settle(journal: &mut [i64], used: usize, account: u64)
-    requires { ⌜ Journal (now journal) used ⌝ }
+// Settles the account among the used rows, from the rows given for its sources and its debits on. Sources and debits are each passed over once.
+pub fn settle_from(journal: &mut [i64], used: usize, account: u64, source: usize, debit: usize)
+    requires { ⌜ Journal (now journal) used × Begun (now journal) used account source debit ⌝ }
     ensures { λ _. ⌜ Settled (now (journal .entry)) (now (journal .exit)) used account ⌝ }
 {
-    let mut i = 0;
-    let mut j = 0;
+    let mut i = source;
+    let mut j = debit;
     'sources: while i < used {
         let mut x = unused(journal, i, account);
         while 0 < x {
@@ -101,4 +101,12 @@ pub fn settle(journal: &mut [i64], used: usize, account: u64)
         }
         i += 1;
     }
+}
+
+// Settles the account among the used rows, from the first one on.
+pub fn settle(journal: &mut [i64], used: usize, account: u64)
+    requires { ⌜ Journal (now journal) used ⌝ }
+    ensures { λ _. ⌜ Settled (now (journal .entry)) (now (journal .exit)) used account ⌝ }
+{
+    settle_from(journal, used, account, 0, 0);
 }

@@ -6,7 +6,7 @@ use mathlib.Core.Path.{_∙_}
 use Rattle.rules.proofs.TableLaws.{header-length}
 use Rattle.posting.proofs.BookLaws.{used-small}
 use Rattle.posting_laws.proofs.AddedLaws.{posts-refused}
-use Rattle.event_decision.proofs.DecisionLaws.{upheld-header, upheld-journal, releasable, rejected-settles, rejected-posts, upholdable, upheld-settles, upheld-posts}
+use Rattle.event_decision.proofs.DecisionLaws.{upheld-header, upheld-journal, releasable, rejected-settles, rejected-begins, rejected-posts, upholdable, upheld-settles, upheld-begins, upheld-posts}
 use Rattle.event_decision.proofs.decide.Statement.{statement}
 use Rattle.event_decision.proofs.decide.Tie as tie
 
@@ -37,17 +37,17 @@ uphold-requires c κs =
     let p = i .before .before .before .before .pre in
     upholdable _ (p .0) _ (p .1) (rw (i .if1 .left) at (i .before .decision-refusal .ensures)) (eq-eqb _ _ (v .if2 .taken))
 
-add-settle : tie.Need-add-settle
-add-settle c =
+add-settle-from : tie.Need-add-settle-from
+add-settle-from c =
     let u = c .before .before .before .before .before .before .before .before .get .ensures in
     omega (arith, used-small _ (c .before .before .before .before .before .before .before .before .before .before .before .before .before .before .pre .0))
 
-settle-requires : tie.Need-settle-requires
-settle-requires c κs =
+settle-from-requires : tie.Need-settle-from-requires
+settle-from-requires c κs =
     let v = c .before .before .before .before .before .before in
     let i = v .before .before .before .before in
     let p = i .before .before .before .before .pre in
-    rw (v .before .before .get .ensures) (upheld-settles _ (p .0) _ (p .1) (rw (i .if1 .left) at (i .before .decision-refusal .ensures)) (eq-eqb _ _ (v .if2 .taken)) _ _ (c .before .before .before .uphold .ensures))
+    rw (v .before .before .get .ensures) (upheld-settles _ (p .0) _ (p .1) (rw (i .if1 .left) at (i .before .decision-refusal .ensures)) (eq-eqb _ _ (v .if2 .taken)) _ _ (c .before .before .before .uphold .ensures), upheld-begins _ (p .0) _ (p .1) (rw (i .if1 .left) at (i .before .decision-refusal .ensures)) (eq-eqb _ _ (v .if2 .taken)) _ _ (c .before .before .before .uphold .ensures) _ (p .2))
 
 posted-requires : tie.Need-posted-requires
 posted-requires c κs =
@@ -58,14 +58,14 @@ same-length-3 : tie.Need-same-length-3
 same-length-3 c = upheld-header _ _ _ _ _ (c .before .before .before .before .before .before .uphold .ensures)
 
 same-length-4 : tie.Need-same-length-4
-same-length-4 c = c .before .before .settle .ensures .size ∙ upheld-journal _ _ _ _ _ (c .before .before .before .before .before .before .uphold .ensures)
+same-length-4 c = c .before .before .settle-from .ensures .size ∙ upheld-journal _ _ _ _ _ (c .before .before .before .before .before .before .uphold .ensures)
 
 returns-2 : tie.Need-returns-2
 returns-2 c =
     let v = c .before .before .before .before .before .before .before .before .before in
     let i = v .before .before .before .before in
     let p = i .before .before .before .before .pre in
-    let d = rw (v .before .before .get .ensures) at (c .before .before .settle .ensures) in
+    let d = rw (v .before .before .get .ensures) at (c .before .before .settle-from .ensures) in
     rw (c .posted .ensures, v .before .before .get .ensures)
     (upheld-posts _ (p .0) _ (p .1) (rw (i .if1 .left) at (i .before .decision-refusal .ensures)) (eq-eqb _ _ (v .if2 .taken)) _ _ (c .before .before .before .before .before .before .uphold .ensures) _ d)
 
@@ -75,12 +75,12 @@ reject-requires c κs =
     let p = i .before .before .before .before .pre in
     releasable _ (p .0) _ (p .1) (rw (i .if1 .left) at (i .before .decision-refusal .ensures))
 
-settle-requires-2 : tie.Need-settle-requires-2
-settle-requires-2 c κs =
+settle-from-requires-2 : tie.Need-settle-from-requires-2
+settle-from-requires-2 c κs =
     let v = c .before .before .before .before .before in
     let i = v .before .before .before .before in
     let p = i .before .before .before .before .pre in
-    rw (v .before .before .get .ensures) (rejected-settles _ (p .0) _ (p .1) (rw (i .if1 .left) at (i .before .decision-refusal .ensures)) (ne-eqb _ _ (v .if2 .left)) _ (c .before .before .reject .ensures))
+    rw (v .before .before .get .ensures) (rejected-settles _ (p .0) _ (p .1) (rw (i .if1 .left) at (i .before .decision-refusal .ensures)) (ne-eqb _ _ (v .if2 .left)) _ (c .before .before .reject .ensures), rejected-begins _ (p .0) _ (p .1) (rw (i .if1 .left) at (i .before .decision-refusal .ensures)) (ne-eqb _ _ (v .if2 .left)) _ (c .before .before .reject .ensures) _ (p .2))
 
 posted-requires-2 : tie.Need-posted-requires-2
 posted-requires-2 c κs =
@@ -91,14 +91,14 @@ same-length-5 : tie.Need-same-length-5
 same-length-5 c = search needs
 
 same-length-6 : tie.Need-same-length-6
-same-length-6 c = c .before .before .settle2 .ensures .size ∙ c .before .before .before .before .before .reject .ensures .size
+same-length-6 c = c .before .before .settle-from2 .ensures .size ∙ c .before .before .before .before .before .reject .ensures .size
 
 returns-3 : tie.Need-returns-3
 returns-3 c =
     let v = c .before .before .before .before .before .before .before .before in
     let i = v .before .before .before .before in
     let p = i .before .before .before .before .pre in
-    let d = rw (v .before .before .get .ensures) at (c .before .before .settle2 .ensures) in
+    let d = rw (v .before .before .get .ensures) at (c .before .before .settle-from2 .ensures) in
     rw (c .posted2 .ensures)
     (rejected-posts _ (p .0) _ (p .1) (rw (i .if1 .left) at (i .before .decision-refusal .ensures)) (ne-eqb _ _ (v .if2 .left)) _ (c .before .before .before .before .before .reject .ensures) _ d)
 
@@ -113,14 +113,14 @@ decide-spec =
     returns
     get-requires
     uphold-requires
-    add-settle
-    settle-requires
+    add-settle-from
+    settle-from-requires
     posted-requires
     same-length-3
     same-length-4
     returns-2
     reject-requires
-    settle-requires-2
+    settle-from-requires-2
     posted-requires-2
     same-length-5
     same-length-6

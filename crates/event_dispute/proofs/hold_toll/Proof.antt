@@ -5,7 +5,7 @@ use native.Mathlib.Omega.{arith}
 use Rattle.rules.proofs.TableLaws.{header-length}
 use Rattle.posting.proofs.BookLaws.{used-small, used-room}
 use Rattle.posting_laws.proofs.AddedLaws.{posts-refused}
-use Rattle.event_dispute.proofs.DisputeLaws.{held-row, dispute-row, dispute-storable, dispute-settles, dispute-posts}
+use Rattle.event_dispute.proofs.DisputeLaws.{held-row, dispute-row, dispute-storable, dispute-settles, dispute-begins, dispute-posts}
 use Rattle.event_dispute.proofs.hold_toll.Statement.{statement}
 use Rattle.event_dispute.proofs.hold_toll.Tie as tie
 
@@ -52,15 +52,15 @@ write-row-requires c κs =
       rw x (dispute-storable _ (a .pre .0) _ (a .pre .1) q),
     )
 
-settle-requires : tie.Need-settle-requires
-settle-requires c κs =
+settle-from-requires : tie.Need-settle-from-requires
+settle-from-requires c κs =
     let g = c .before .before .before .before .before .before in
     let i = g .before .before .before .before in
     let a = i .before .before .before in
     let q = rw (i .if1 .left) at (i .before .dispute-refusal .ensures) in
     let x = held-row _ (a .pre .0) (a .args .e) _ _ _ _ (g .before .before .before .get .ensures) (g .before .row-numbered .ensures) (g .get2 .ensures) (c .before .before .before .before .before .held-from .ensures) in
     let w = rw x at (c .before .before .write-row .ensures) in
-    rw (g .before .before .before .get .ensures) (dispute-settles _ (a .pre .0) _ (a .pre .1) q _ w)
+    rw (g .before .before .before .get .ensures) (dispute-settles _ (a .pre .0) _ (a .pre .1) q _ w, dispute-begins _ (a .pre .0) _ (a .pre .1) q _ w _ (a .pre .2))
 
 posted-requires : tie.Need-posted-requires
 posted-requires c κs =
@@ -78,7 +78,7 @@ returns-2 c =
     let q = rw (i .if1 .left) at (i .before .dispute-refusal .ensures) in
     let x = held-row _ (a .pre .0) (a .args .e) _ _ _ _ (g .before .before .before .get .ensures) (g .before .row-numbered .ensures) (g .get2 .ensures) (c .before .before .before .before .before .before .before .before .held-from .ensures) in
     let w = rw x at (c .before .before .before .before .before .write-row .ensures) in
-    let d = rw (g .before .before .before .get .ensures) at (c .before .before .settle .ensures) in
+    let d = rw (g .before .before .before .get .ensures) at (c .before .before .settle-from .ensures) in
     rw (c .posted .ensures) (dispute-posts _ (a .pre .0) _ (a .pre .1) q _ w _ d)
 
 pub hold-toll-spec : {M : Type 1} → statement M
@@ -95,7 +95,7 @@ hold-toll-spec =
     held-from-requires
     sub-write-row
     write-row-requires
-    settle-requires
+    settle-from-requires
     posted-requires
     same-length-2
     returns-2)

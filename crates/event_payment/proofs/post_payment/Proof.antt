@@ -6,6 +6,7 @@ use mathlib.Core.Path.{_≡_, refl, sym, ap, _∙_}
 use lib.ListN.{length-set}
 use Rattle.rules.proofs.TableLaws.{header-length, journal-length}
 use Rattle.posting.proofs.BookLaws.{day-read, used-small}
+use Rattle.lookups.proofs.LookupLaws.{begun-added}
 use Rattle.posting_laws.proofs.AddedLaws.{posts-refused, added-journal}
 use Rattle.event_payment.proofs.PaymentLaws.{payment-fits, payment-storable, payment-posts}
 use Rattle.event_payment.proofs.post_payment.Statement.{statement}
@@ -46,18 +47,18 @@ add-row-requires c κs =
       rw (c .before .before .new-row .ensures, c .before .before .before .get2 .ensures, day-read _ s) (payment-storable _ s _ k q),
     )
 
-add-settle : tie.Need-add-settle
-add-settle c =
+add-settle-from : tie.Need-add-settle-from
+add-settle-from c =
     let u = c .before .before .before .before .before .before .before .before .before .get .ensures in
     omega (arith, used-small _ (c .before .before .before .before .before .before .before .before .before .before .before .before .before .before .before .pre .0))
 
-settle-requires : tie.Need-settle-requires
-settle-requires c κs =
+settle-from-requires : tie.Need-settle-from-requires
+settle-from-requires c κs =
     let s = c .before .before .before .before .before .before .before .before .before .before .before .before .before .before .before .pre .0 in
     let k = c .before .before .before .before .before .before .before .before .before .before .before .before .before .before .before .pre .1 in
     let q = sym (c .before .before .before .before .before .before .before .before .before .before .before .if1 .left) ∙ c .before .before .before .before .before .before .before .before .before .before .before .before .payment-refusal .ensures in
     let w = rw (c .before .before .before .before .before .before .new-row .ensures, c .before .before .before .before .before .before .before .get2 .ensures, day-read _ s) at (c .before .before .before .add-row .ensures) in
-    rw (c .before .before .before .before .before .before .before .before .before .get .ensures) (added-journal _ s _ _ _ w (payment-fits _ s _ k q) (payment-storable _ s _ k q .amount))
+    rw (c .before .before .before .before .before .before .before .before .before .get .ensures) (added-journal _ s _ _ _ w (payment-fits _ s _ k q) (payment-storable _ s _ k q .amount), begun-added _ _ _ _ _ _ (c .before .before .before .before .before .before .before .before .before .before .before .before .before .before .before .pre .2) w)
 
 posted-requires : tie.Need-posted-requires
 posted-requires c κs =
@@ -68,7 +69,7 @@ same-length-3 : tie.Need-same-length-3
 same-length-3 c = rw (c .before .before .before .before .before .before .add-row .ensures .header) (length-set (c .before .before .before .before .before .before .before .before .before .before .before .before .before .before .before .before .before .before .args .header .now) _ _)
 
 same-length-4 : tie.Need-same-length-4
-same-length-4 c = c .before .before .settle .ensures .size ∙ c .before .before .before .before .before .before .add-row .ensures .row .size
+same-length-4 c = c .before .before .settle-from .ensures .size ∙ c .before .before .before .before .before .before .add-row .ensures .row .size
 
 returns-2 : tie.Need-returns-2
 returns-2 c =
@@ -76,11 +77,11 @@ returns-2 c =
     let k = c .before .before .before .before .before .before .before .before .before .before .before .before .before .before .before .before .before .before .pre .1 in
     let q = sym (c .before .before .before .before .before .before .before .before .before .before .before .before .before .before .if1 .left) ∙ c .before .before .before .before .before .before .before .before .before .before .before .before .before .before .before .payment-refusal .ensures in
     let w = rw (c .before .before .before .before .before .before .before .before .before .new-row .ensures, c .before .before .before .before .before .before .before .before .before .before .get2 .ensures, day-read _ s) at (c .before .before .before .before .before .before .add-row .ensures) in
-    let d = rw (c .before .before .before .before .before .before .before .before .before .before .before .before .get .ensures) at (c .before .before .settle .ensures) in
+    let d = rw (c .before .before .before .before .before .before .before .before .before .before .before .before .get .ensures) at (c .before .before .settle-from .ensures) in
     rw (c .posted .ensures, c .before .before .before .before .before .before .before .before .before .before .before .before .get .ensures) (payment-posts _ s _ k q _ _ _ w d (payment-fits _ s _ k q))
 
 pub post-payment-spec : {M : Type 1} → statement M
 post-payment-spec =
     tie.close
-    (tie.spec payment-refusal-requires refused-requires same-length same-length-2 returns get-requires get-requires-2 new-row-requires add-row-requires add-settle
-    settle-requires posted-requires same-length-3 same-length-4 returns-2)
+    (tie.spec payment-refusal-requires refused-requires same-length same-length-2 returns get-requires get-requires-2 new-row-requires add-row-requires add-settle-from
+    settle-from-requires posted-requires same-length-3 same-length-4 returns-2)

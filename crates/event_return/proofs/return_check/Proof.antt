@@ -6,7 +6,7 @@ use mathlib.Core.Path.{sym, _∙_}
 use Rattle.rules.proofs.TableLaws.{header-length}
 use Rattle.posting.proofs.BookLaws.{used-small}
 use Rattle.posting_laws.proofs.AddedLaws.{posts-refused}
-use Rattle.event_return.proofs.ReturnLaws.{charge-le, return-counts, counted-read, return-marks, marked-read, amount-read, reversal-read, reversal-storable, reversal-room, fee-read, fee-storable, fee-room, return-settles, header-size, return-size, return-posts}
+use Rattle.event_return.proofs.ReturnLaws.{charge-le, return-counts, counted-read, return-marks, marked-read, amount-read, reversal-read, reversal-storable, reversal-room, fee-read, fee-storable, fee-room, return-settles, return-begins, header-size, return-size, return-posts}
 use Rattle.event_return.proofs.return_check.Statement.{statement}
 use Rattle.event_return.proofs.return_check.Tie as tie
 
@@ -75,13 +75,13 @@ add-naming-requires-2 c κs =
     let w = rw (reversal-read _ s _ k q _ (amount-read _ s _ k q _ _ _ u d)) at (c .before .before .before .before .before .add-naming .ensures) in
     (fee-room _ s _ k q _ m _ _ w, rw (fee-read _ s _ k q _ m _ _ w) (fee-storable _ s _ k q))
 
-add-settle : tie.Need-add-settle
-add-settle c =
+add-settle-from : tie.Need-add-settle-from
+add-settle-from c =
     let u = c .before .before .before .before .before .before .before .before .before .before .before .before .before .before .before .before .before .before .get .ensures in
     omega (arith, used-small _ (c .before .before .before .before .before .before .before .before .before .before .before .before .before .before .before .before .before .before .before .before .before .before .before .before .before .pre .0))
 
-settle-requires : tie.Need-settle-requires
-settle-requires c κs =
+settle-from-requires : tie.Need-settle-from-requires
+settle-from-requires c κs =
     let s = c .before .before .before .before .before .before .before .before .before .before .before .before .before .before .before .before .before .before .before .before .before .before .before .before .before .pre .0 in
     let k = c .before .before .before .before .before .before .before .before .before .before .before .before .before .before .before .before .before .before .before .before .before .before .before .before .before .pre .1 in
     let q = sym (c .before .before .before .before .before .before .before .before .before .before .before .before .before .before .before .before .before .before .before .before .if1 .left) ∙ c .before .before .before .before .before .before .before .before .before .before .before .before .before .before .before .before .before .before .before .before .before .return-refusal .ensures in
@@ -90,7 +90,7 @@ settle-requires c κs =
     let m = marked-read _ s _ k q _ _ _ u d in
     let w = rw (reversal-read _ s _ k q _ (amount-read _ s _ k q _ _ _ u d)) at (c .before .before .before .before .before .before .before .before .before .add-naming .ensures) in
     let v = rw (fee-read _ s _ k q _ m _ _ w) at (c .before .before .before .add-naming2 .ensures) in
-    rw u (return-settles _ s _ k q _ m _ _ w _ _ v)
+    rw u (return-settles _ s _ k q _ m _ _ w _ _ v, return-begins _ s _ k q _ m _ _ w _ _ v _ (c .before .before .before .before .before .before .before .before .before .before .before .before .before .before .before .before .before .before .before .before .before .before .before .before .before .pre .2))
 
 posted-requires : tie.Need-posted-requires
 posted-requires c κs =
@@ -122,7 +122,7 @@ same-length-6 c =
     let m = marked-read _ s _ k q _ _ _ u d in
     let w = rw (reversal-read _ s _ k q _ (amount-read _ s _ k q _ _ _ u d)) at (c .before .before .before .before .before .before .before .before .before .before .before .before .add-naming .ensures) in
     let v = rw (fee-read _ s _ k q _ m _ _ w) at (c .before .before .before .before .before .before .add-naming2 .ensures) in
-    c .before .before .settle .ensures .size ∙ return-size _ s _ k q _ m _ _ w _ _ v
+    c .before .before .settle-from .ensures .size ∙ return-size _ s _ k q _ m _ _ w _ _ v
 
 returns-2 : tie.Need-returns-2
 returns-2 c =
@@ -135,7 +135,7 @@ returns-2 c =
     let w = rw (reversal-read _ s _ k q _ (amount-read _ s _ k q _ _ _ u d)) at (c .before .before .before .before .before .before .before .before .before .before .before .before .add-naming .ensures) in
     let v = rw (fee-read _ s _ k q _ m _ _ w) at (c .before .before .before .before .before .before .add-naming2 .ensures) in
     let a = counted-read _ s _ k q _ (c .before .before .before .before .before .before .before .before .before .before .before .before .before .before .before .before .before .before .before .count-return .ensures) in
-    let z = rw u at (c .before .before .settle .ensures) in
+    let z = rw u at (c .before .before .settle-from .ensures) in
     rw (c .posted .ensures, u) (return-posts _ s _ k q _ m _ _ w _ _ v _ _ a z)
 
 pub return-check-spec : {M : Type 1} → statement M
@@ -154,8 +154,8 @@ return-check-spec =
     add-naming-requires
     add-add-naming
     add-naming-requires-2
-    add-settle
-    settle-requires
+    add-settle-from
+    settle-from-requires
     posted-requires
     same-length-4
     same-length-5

@@ -30,32 +30,28 @@ returns-2 c =
     let d = c .before .before .before .before .before .before .get .ensures in
     passage-by _ _ _ _ false true _ _ (rw (← c .before .before .before .before .class-of .ensures) (ne-eqb _ _ (c .before .before .before .if1 .left))) (rw (← d) (c .if2 .taken)) refl refl
 
-passage-stands-requires : tie.Need-passage-stands-requires
-passage-stands-requires c κs = search needs
-
 returns-3 : tie.Need-returns-3
 unfolding first
 returns-3 c =
-    let d = c .before .before .before .before .before .before .before .before .get .ensures in
-    let u = c .before .before .before .before .before .before .before .get2 .ensures in
-    passage-by _ _ _ _ false false true _ (rw (← c .before .before .before .before .before .before .class-of .ensures) (ne-eqb _ _ (c .before .before .before .before .before .if1 .left)))
-    (rw (← d) (c .before .before .if2 .left)) (rw (← u) (sym (c .before .passage-stands .ensures) ∙ c .if3 .taken)) refl
+    let d = c .before .before .before .before .before .before .before .get .ensures in
+    passage-by _ _ _ _ false false true _ (rw (← c .before .before .before .before .before .class-of .ensures) (ne-eqb _ _ (c .before .before .before .before .if1 .left)))
+    (rw (← d) (c .before .if2 .left)) (sym (c .before .before .before .before .before .before .before .before .pre .3) ∙ c .if3 .taken) refl
 
 returns-4 : tie.Need-returns-4
 unfolding first
 returns-4 c =
-    let d = c .before .before .before .before .before .before .before .before .before .get .ensures in
-    let u = c .before .before .before .before .before .before .before .before .get2 .ensures in
-    passage-by _ _ _ _ false false false true (rw (← c .before .before .before .before .before .before .before .class-of .ensures) (ne-eqb _ _ (c .before .before .before .before .before .before .if1 .left)))
-    (rw (← d) (c .before .before .before .if2 .left)) (rw (← u) (sym (c .before .before .passage-stands .ensures) ∙ c .before .if3 .left)) (rw (← u) (row-lacks _ _ _ (c .if4 .taken)))
+    let d = c .before .before .before .before .before .before .before .before .get .ensures in
+    let u = c .before .before .before .before .before .before .before .get2 .ensures in
+    passage-by _ _ _ _ false false false true (rw (← c .before .before .before .before .before .before .class-of .ensures) (ne-eqb _ _ (c .before .before .before .before .before .if1 .left)))
+    (rw (← d) (c .before .before .if2 .left)) (sym (c .before .before .before .before .before .before .before .before .before .pre .3) ∙ c .before .if3 .left) (rw (← u) (row-lacks _ _ _ (c .if4 .taken)))
 
 returns-5 : tie.Need-returns-5
 unfolding first
 returns-5 c =
-    let d = c .before .before .before .before .before .before .before .before .before .get .ensures in
-    let u = c .before .before .before .before .before .before .before .before .get2 .ensures in
-    passage-by _ _ _ _ false false false false (rw (← c .before .before .before .before .before .before .before .class-of .ensures) (ne-eqb _ _ (c .before .before .before .before .before .before .if1 .left)))
-    (rw (← d) (c .before .before .before .if2 .left)) (rw (← u) (sym (c .before .before .passage-stands .ensures) ∙ c .before .if3 .left)) (rw (← u) (row-suffices _ _ _ (c .if4 .left)))
+    let d = c .before .before .before .before .before .before .before .before .get .ensures in
+    let u = c .before .before .before .before .before .before .before .get2 .ensures in
+    passage-by _ _ _ _ false false false false (rw (← c .before .before .before .before .before .before .class-of .ensures) (ne-eqb _ _ (c .before .before .before .before .before .if1 .left)))
+    (rw (← d) (c .before .before .if2 .left)) (sym (c .before .before .before .before .before .before .before .before .before .pre .3) ∙ c .before .if3 .left) (rw (← u) (row-suffices _ _ _ (c .if4 .left)))
 
 pub passage-refusal-spec : {M : Type 1} → statement M
 passage-refusal-spec =
@@ -67,7 +63,6 @@ passage-refusal-spec =
     returns
     add-if2
     returns-2
-    passage-stands-requires
     returns-3
     returns-4
     returns-5)

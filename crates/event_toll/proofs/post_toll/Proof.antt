@@ -6,6 +6,7 @@ use mathlib.Core.Path.{sym, _∙_}
 use lib.ListN.{length-set}
 use Rattle.rules.proofs.TableLaws.{header-length, journal-length}
 use Rattle.posting.proofs.BookLaws.{day-small, stage-small, used-small}
+use Rattle.lookups.proofs.LookupLaws.{begun-added}
 use Rattle.posting_laws.proofs.AddedLaws.{posts-refused, added-journal}
 use Rattle.event_toll.proofs.TollLaws.{rate-applies, toll-fits, toll-storable, toll-read, toll-posts}
 use Rattle.event_toll.proofs.post_toll.Statement.{statement}
@@ -70,18 +71,18 @@ add-row-requires c κs =
       rw r (toll-storable _ s _ k q),
     )
 
-add-settle : tie.Need-add-settle
-add-settle c =
+add-settle-from : tie.Need-add-settle-from
+add-settle-from c =
     let u = c .before .before .before .before .before .before .before .before .before .before .before .before .get2 .ensures in
     omega (arith, used-small _ (c .before .before .before .before .before .before .before .before .before .before .before .before .before .before .before .before .before .before .before .before .pre .0))
 
-settle-requires : tie.Need-settle-requires
-settle-requires c κs =
+settle-from-requires : tie.Need-settle-from-requires
+settle-from-requires c κs =
     let s = c .before .before .before .before .before .before .before .before .before .before .before .before .before .before .before .before .before .before .before .before .pre .0 in
     let k = c .before .before .before .before .before .before .before .before .before .before .before .before .before .before .before .before .before .before .before .before .pre .1 in
     let q = sym (c .before .before .before .before .before .before .before .before .before .before .before .before .before .before .before .before .if1 .left) ∙ c .before .before .before .before .before .before .before .before .before .before .before .before .before .before .before .before .before .toll-refusal .ensures in
     let w = rw (toll-read _ s _ k q _ _ _ _ _ (c .before .before .before .before .before .before .before .before .before .before .before .before .before .before .get .ensures) (c .before .before .before .before .before .before .get3 .ensures) (c .before .before .before .before .before .before .before .before .before .before .class-of .ensures) (c .before .before .before .before .before .before .before .before .before .rate-of .ensures) (c .before .before .before .before .before .before .before .before .new-row .ensures)) at (c .before .before .before .add-row .ensures) in
-    rw (c .before .before .before .before .before .before .before .before .before .before .before .before .get2 .ensures) (added-journal _ s _ _ _ w (toll-fits _ s _ k q) (toll-storable _ s _ k q .amount))
+    rw (c .before .before .before .before .before .before .before .before .before .before .before .before .get2 .ensures) (added-journal _ s _ _ _ w (toll-fits _ s _ k q) (toll-storable _ s _ k q .amount), begun-added _ _ _ _ _ _ (c .before .before .before .before .before .before .before .before .before .before .before .before .before .before .before .before .before .before .before .before .pre .2) w)
 
 posted-requires : tie.Need-posted-requires
 posted-requires c κs =
@@ -92,7 +93,7 @@ same-length-3 : tie.Need-same-length-3
 same-length-3 c = rw (c .before .before .before .before .before .before .add-row .ensures .header) (length-set (c .before .before .before .before .before .before .before .before .before .before .before .before .before .before .before .before .before .before .before .before .before .before .before .args .header .now) _ _)
 
 same-length-4 : tie.Need-same-length-4
-same-length-4 c = c .before .before .settle .ensures .size ∙ c .before .before .before .before .before .before .add-row .ensures .row .size
+same-length-4 c = c .before .before .settle-from .ensures .size ∙ c .before .before .before .before .before .before .add-row .ensures .row .size
 
 returns-2 : tie.Need-returns-2
 returns-2 c =
@@ -100,7 +101,7 @@ returns-2 c =
     let k = c .before .before .before .before .before .before .before .before .before .before .before .before .before .before .before .before .before .before .before .before .before .before .before .pre .1 in
     let q = sym (c .before .before .before .before .before .before .before .before .before .before .before .before .before .before .before .before .before .before .before .if1 .left) ∙ c .before .before .before .before .before .before .before .before .before .before .before .before .before .before .before .before .before .before .before .before .toll-refusal .ensures in
     let w = rw (toll-read _ s _ k q _ _ _ _ _ (c .before .before .before .before .before .before .before .before .before .before .before .before .before .before .before .before .before .get .ensures) (c .before .before .before .before .before .before .before .before .before .get3 .ensures) (c .before .before .before .before .before .before .before .before .before .before .before .before .before .class-of .ensures) (c .before .before .before .before .before .before .before .before .before .before .before .before .rate-of .ensures) (c .before .before .before .before .before .before .before .before .before .before .before .new-row .ensures)) at (c .before .before .before .before .before .before .add-row .ensures) in
-    let d = rw (c .before .before .before .before .before .before .before .before .before .before .before .before .before .before .before .get2 .ensures) at (c .before .before .settle .ensures) in
+    let d = rw (c .before .before .before .before .before .before .before .before .before .before .before .before .before .before .before .get2 .ensures) at (c .before .before .settle-from .ensures) in
     rw (c .posted .ensures, c .before .before .before .before .before .before .before .before .before .before .before .before .before .before .before .get2 .ensures) (toll-posts _ s _ k q _ _ _ w d)
 
 pub post-toll-spec : {M : Type 1} → statement M
@@ -121,8 +122,8 @@ post-toll-spec =
     get-requires-3
     add-r
     add-row-requires
-    add-settle
-    settle-requires
+    add-settle-from
+    settle-from-requires
     posted-requires
     same-length-3
     same-length-4

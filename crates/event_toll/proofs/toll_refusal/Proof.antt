@@ -3,7 +3,7 @@ use borrow.Author.Needs.{needs}
 use borrow.Author.Tests.{eq-eqb, ne-eqb, not-true, not-false}
 use mathlib.Core.Path.{refl, sym, _∙_}
 use mathlib.Core.Bool.{true, false}
-use Rattle.rules.proofs.TableLaws.{header-length}
+use Rattle.rules.proofs.TableLaws.{header-length, sound-rows}
 use Rattle.posting.proofs.BookLaws.{account-read, used-room}
 use Rattle.event_toll.proofs.TollLaws.{answer-by, passage-read, day-within}
 use Rattle.event_toll.proofs.toll_refusal.Statement.{statement}
@@ -34,7 +34,7 @@ returns-3 c =
 passage-refusal-requires : tie.Need-passage-refusal-requires
 passage-refusal-requires c κs =
     let s = c .before .before .before .before .before .before .before .pre .0 in
-    (header-length _ s, used-room _ s, day-within _ (sym (c .before .before .before .before .before .before .toll-form .ensures) ∙ not-false _ (c .before .before .before .before .before .if1 .left)))
+    (header-length _ s, used-room _ s, day-within _ (sym (c .before .before .before .before .before .before .toll-form .ensures) ∙ not-false _ (c .before .before .before .before .before .if1 .left)), rw (← sound-rows _ s) (c .before .before .before .before .before .before .before .pre .2 .stands (c .before .before .before .before .before .before .before .pre .1)))
 
 returns-4 : tie.Need-returns-4
 returns-4 c =

@@ -3,13 +3,14 @@ use borrow.Author.Needs.{needs}
 use native.Mathlib.Omega.{arith}
 use Rattle.rules.proofs.TableLaws.{header-length, journal-length}
 use Rattle.posting.proofs.BookLaws.{account-read, day-read, used-small}
+use Rattle.lookups.proofs.LookupLaws.{begun-added}
 use Rattle.posting_laws.proofs.AddedLaws.{added-journal}
 use Rattle.event_topup.proofs.PaidLaws.{paid-inside, paid-in, paid-fits, paid-row-storable, paid-account-storable, paid-posts}
 use Rattle.event_topup.proofs.pay_top_up.Statement.{statement}
 use Rattle.event_topup.proofs.pay_top_up.Tie as tie
 
 get-requires : tie.Need-get-requires
-get-requires c κs = omega (arith, header-length _ (c .before .pre .sound))
+get-requires c κs = omega (arith, header-length _ (c .before .pre .0 .sound))
 
 account-numbered-requires : tie.Need-account-numbered-requires
 account-numbered-requires c κs = search needs
@@ -18,19 +19,19 @@ pay-top-up-requires : tie.Need-pay-top-up-requires
 pay-top-up-requires c κs = search needs
 
 sub-write-account : tie.Need-sub-write-account
-sub-write-account c = paid-inside _ _ (c .before .before .before .before .before .before .before .pre) .0
+sub-write-account c = paid-inside _ _ (c .before .before .before .before .before .before .before .pre .0) .0
 
 write-account-requires : tie.Need-write-account-requires
 write-account-requires c κs =
     let y = c .before .before in
     let x = y .before in
     let a = x .before .before .before .before in (
-      paid-in _ _ (a .pre),
-      rw (y .pay-top-up .ensures, x .account-numbered .ensures, account-read _ (a .pre .sound) (a .args .e .account)) (paid-account-storable _ (a .args .e) (a .pre)),
+      paid-in _ _ (a .pre .0),
+      rw (y .pay-top-up .ensures, x .account-numbered .ensures, account-read _ (a .pre .0 .sound) (a .args .e .account)) (paid-account-storable _ (a .args .e) (a .pre .0)),
     )
 
 get-requires-2 : tie.Need-get-requires-2
-get-requires-2 c κs = omega (arith, header-length _ (c .before .before .before .before .before .before .before .before .before .before .pre .sound))
+get-requires-2 c κs = omega (arith, header-length _ (c .before .before .before .before .before .before .before .before .before .before .pre .0 .sound))
 
 new-row-requires : tie.Need-new-row-requires
 new-row-requires c κs = search needs
@@ -41,32 +42,32 @@ add-row-requires c κs =
     let d = r .before in
     let x = d .before .before .before .before .before .before .before in
     let a = x .before .before .before .before in
-    let s = a .pre .sound in (
-      record { header = header-length _ s; room = omega (arith, paid-fits _ _ (a .pre), journal-length _ s) },
-      rw (r .new-row .ensures, d .get2 .ensures, day-read _ s, x .account-numbered .ensures, account-read _ s (a .args .e .account)) (paid-row-storable _ (a .args .e) (a .pre)),
+    let s = a .pre .0 .sound in (
+      record { header = header-length _ s; room = omega (arith, paid-fits _ _ (a .pre .0), journal-length _ s) },
+      rw (r .new-row .ensures, d .get2 .ensures, day-read _ s, x .account-numbered .ensures, account-read _ s (a .args .e .account)) (paid-row-storable _ (a .args .e) (a .pre .0)),
     )
 
-add-settle : tie.Need-add-settle
-add-settle c =
+add-settle-from : tie.Need-add-settle-from
+add-settle-from c =
     let u = c .before .before .before .before .before .before .before .before .before .before .before .before .before .before .before .before .get .ensures in
-    omega (arith, used-small _ (c .before .before .before .before .before .before .before .before .before .before .before .before .before .before .before .before .before .before .pre .sound))
+    omega (arith, used-small _ (c .before .before .before .before .before .before .before .before .before .before .before .before .before .before .before .before .before .before .pre .0 .sound))
 
-settle-requires : tie.Need-settle-requires
-settle-requires c κs =
+settle-from-requires : tie.Need-settle-from-requires
+settle-from-requires c κs =
     let w = c .before .before .before in
     let r = w .before .before .before in
     let d = r .before in
     let x = d .before .before .before .before .before .before .before in
     let g = x .before .before in
     let a = g .before .before in
-    let s = a .pre .sound in
+    let s = a .pre .0 .sound in
     let e = rw (r .new-row .ensures, d .get2 .ensures, day-read _ s, x .account-numbered .ensures, account-read _ s (a .args .e .account)) at (w .add-row .ensures) in
-    rw (g .get .ensures) (added-journal _ s _ _ _ e (paid-fits _ _ (a .pre)) (paid-row-storable _ _ (a .pre) .amount))
+    rw (g .get .ensures) (added-journal _ s _ _ _ e (paid-fits _ _ (a .pre .0)) (paid-row-storable _ _ (a .pre .0) .amount), begun-added _ _ _ _ _ _ (a .pre .1) e)
 
 posted-requires : tie.Need-posted-requires
 posted-requires c κs =
     let u = c .before .before .before .before .before .before .before .before .before .before .before .before .before .before .before .before .before .before .get .ensures in
-    omega (arith, used-small _ (c .before .before .before .before .before .before .before .before .before .before .before .before .before .before .before .before .before .before .before .before .pre .sound))
+    omega (arith, used-small _ (c .before .before .before .before .before .before .before .before .before .before .before .before .before .before .before .before .before .before .before .before .pre .0 .sound))
 
 same-length : tie.Need-same-length
 same-length c = search needs
@@ -88,12 +89,12 @@ returns c =
     let x = y .before in
     let g = x .before .before in
     let a = g .before .before in
-    let s = a .pre .sound in
+    let s = a .pre .0 .sound in
     let m = account-read _ s (a .args .e .account) in
     let changed = rw (y .pay-top-up .ensures, x .account-numbered .ensures, m) at (v .write-account .ensures) in
     let added = rw (r .new-row .ensures, d .get2 .ensures, day-read _ s, x .account-numbered .ensures, m) at (w .add-row .ensures) in
-    let settled = rw (g .get .ensures) at (z .settle .ensures) in
-    rw (c .posted .ensures, g .get .ensures) (paid-posts _ _ (a .pre) _ _ _ _ changed added settled)
+    let settled = rw (g .get .ensures) at (z .settle-from .ensures) in
+    rw (c .posted .ensures, g .get .ensures) (paid-posts _ _ (a .pre .0) _ _ _ _ changed added settled)
 
 pub pay-top-up-spec : {M : Type 1} → statement M
 pay-top-up-spec =
@@ -107,8 +108,8 @@ pay-top-up-spec =
     get-requires-2
     new-row-requires
     add-row-requires
-    add-settle
-    settle-requires
+    add-settle-from
+    settle-from-requires
     posted-requires
     same-length
     same-length-2

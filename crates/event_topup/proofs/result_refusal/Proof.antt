@@ -44,21 +44,17 @@ returns-3 c =
     result-by _ (a .pre .0) _ (a .pre .1) true false true _ _ (sym (i .before .result-form .ensures) ∙ not-false _ (i .if1 .left))
     (rw (← x) (ne-eqb _ _ (u .if2 .left))) (rw (← x) (eq-eqb _ _ (c .if3 .taken))) refl refl
 
-top-up-due-requires : tie.Need-top-up-due-requires
-top-up-due-requires c κs = search needs
-
 returns-4 : tie.Need-returns-4
 unfolding first
 returns-4 c =
-    let d = c .before in
-    let o = d .before in
+    let o = c .before .before in
     let u = o .before .before in
     let n = u .before .before in
     let i = n .before in
     let a = i .before .before in
     let x = n .account-numbered .ensures ∙ account-read _ (a .pre .0) (a .args .e .account) in
     result-by _ (a .pre .0) _ (a .pre .1) true false false false _ (sym (i .before .result-form .ensures) ∙ not-false _ (i .if1 .left))
-    (rw (← x) (ne-eqb _ _ (u .if2 .left))) (rw (← x) (ne-eqb _ _ (o .if3 .left))) (sym (d .top-up-due .ensures) ∙ not-true _ (c .if4 .taken)) refl
+    (rw (← x) (ne-eqb _ _ (u .if2 .left))) (rw (← x) (ne-eqb _ _ (o .if3 .left))) (sym (a .pre .2 .due (a .pre .1)) ∙ not-true _ (c .if4 .taken)) refl
 
 get-requires : tie.Need-get-requires
 get-requires c κs = omega (arith, header-length _ (c .before .before .before .before .before .before .before .before .before .before .pre .0))
@@ -68,15 +64,14 @@ unfolding first
 returns-5 c =
     let g = c .before in
     let l = g .before .before in
-    let d = l .before in
-    let o = d .before in
+    let o = l .before .before in
     let u = o .before .before in
     let n = u .before .before in
     let i = n .before in
     let a = i .before .before in
     let x = n .account-numbered .ensures ∙ account-read _ (a .pre .0) (a .args .e .account) in
     result-by _ (a .pre .0) _ (a .pre .1) true false false true true (sym (i .before .result-form .ensures) ∙ not-false _ (i .if1 .left))
-    (rw (← x) (ne-eqb _ _ (u .if2 .left))) (rw (← x) (ne-eqb _ _ (o .if3 .left))) (sym (d .top-up-due .ensures) ∙ not-false _ (l .if4 .left))
+    (rw (← x) (ne-eqb _ _ (u .if2 .left))) (rw (← x) (ne-eqb _ _ (o .if3 .left))) (sym (a .pre .2 .due (a .pre .1)) ∙ not-false _ (l .if4 .left))
     (rw (no-row-left _ (a .pre .0) _ refl, ← g .get .ensures) (c .if5 .taken))
 
 returns-6 : tie.Need-returns-6
@@ -84,15 +79,14 @@ unfolding first
 returns-6 c =
     let g = c .before in
     let l = g .before .before in
-    let d = l .before in
-    let o = d .before in
+    let o = l .before .before in
     let u = o .before .before in
     let n = u .before .before in
     let i = n .before in
     let a = i .before .before in
     let x = n .account-numbered .ensures ∙ account-read _ (a .pre .0) (a .args .e .account) in
     result-by _ (a .pre .0) _ (a .pre .1) true false false true false (sym (i .before .result-form .ensures) ∙ not-false _ (i .if1 .left))
-    (rw (← x) (ne-eqb _ _ (u .if2 .left))) (rw (← x) (ne-eqb _ _ (o .if3 .left))) (sym (d .top-up-due .ensures) ∙ not-false _ (l .if4 .left))
+    (rw (← x) (ne-eqb _ _ (u .if2 .left))) (rw (← x) (ne-eqb _ _ (o .if3 .left))) (sym (a .pre .2 .due (a .pre .1)) ∙ not-false _ (l .if4 .left))
     (rw (no-row-left _ (a .pre .0) _ refl, ← g .get .ensures) (c .if5 .left))
 
 pub result-refusal-spec : {M : Type 1} → statement M
@@ -104,7 +98,6 @@ result-refusal-spec =
     account-numbered-requires
     returns-2
     returns-3
-    top-up-due-requires
     returns-4
     get-requires
     returns-5

@@ -34,7 +34,12 @@ returns c =
     rw (c .refused .ensures) (posts-refused _ (a .pre .0) _ _ (n .result-refusal .ensures) (ne-eqb _ _ (i .if1 .taken)))
 
 pay-top-up-requires : tie.Need-pay-top-up-requires
-pay-top-up-requires c κs = search needs
+pay-top-up-requires c κs =
+    let p = c .before .before .before in
+    let i = p .before .before in
+    let n = i .before in
+    let a = n .before .before .before .before in
+    (record { sound = a .pre .0; kind = a .pre .1; accepted = sym (i .if1 .left) ∙ n .result-refusal .ensures; paid = p .if2 .taken }, a .pre .2)
 
 same-length-4 : tie.Need-same-length-4
 same-length-4 c = search needs

@@ -1,10 +1,10 @@
--- `post_event` meets its contract: each kind has its function, and another is malformed.
+-- `post_known` meets its contract: each kind has its function, and another is malformed.
 use mathlib.Core.Path.{refl}
 use Rattle.posting_laws.proofs.AddedLaws.{posts-refused}
 use Rattle.events.proofs.KindLaws.{other-kind}
 use borrow.Author.Needs.{needs}
-use Rattle.events.proofs.post_event.Statement.{statement}
-use Rattle.events.proofs.post_event.Tie as tie
+use Rattle.events.proofs.post_known.Statement.{statement}
+use Rattle.events.proofs.post_known.Tie as tie
 
 open-account-requires : tie.Need-open-account-requires
 open-account-requires c κs = search needs
@@ -147,10 +147,10 @@ returns-9 c = search needs
 returns-10 : tie.Need-returns-10
 returns-10 c =
     rw (c .refused .ensures)
-    (posts-refused _ (c .before .before .pre) _ 2 (other-kind _ _ (c .before .match .rest .0 .0 .0 .0 .0 .0 .0 .0 .1) (c .before .match .rest .0 .0 .0 .0 .0 .0 .0 .1) (c .before .match .rest .0 .0 .0 .0 .0 .0 .1) (c .before .match .rest .0 .0 .0 .0 .0 .1) (c .before .match .rest .0 .0 .0 .0 .1) (c .before .match .rest .0 .0 .0 .1) (c .before .match .rest .0 .0 .1) (c .before .match .rest .0 .1) (c .before .match .rest .1)) refl)
+    (posts-refused _ (c .before .before .pre .0) _ 2 (other-kind _ _ (c .before .match .rest .0 .0 .0 .0 .0 .0 .0 .0 .1) (c .before .match .rest .0 .0 .0 .0 .0 .0 .0 .1) (c .before .match .rest .0 .0 .0 .0 .0 .0 .1) (c .before .match .rest .0 .0 .0 .0 .0 .1) (c .before .match .rest .0 .0 .0 .0 .1) (c .before .match .rest .0 .0 .0 .1) (c .before .match .rest .0 .0 .1) (c .before .match .rest .0 .1) (c .before .match .rest .1)) refl)
 
-pub post-event-spec : {M : Type 1} → statement M
-post-event-spec =
+pub post-known-spec : {M : Type 1} → statement M
+post-known-spec =
     tie.close
     (tie.spec
     open-account-requires

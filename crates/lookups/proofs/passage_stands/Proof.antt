@@ -6,9 +6,9 @@ use mathlib.Core.Logic.{⊎-elim}
 use mathlib.Core.Bool.{false}
 use Rattle.records.specs.Encoding.{rowAt}
 use Rattle.rules.specs.Rows.{Row}
-use Rattle.event_toll.proofs.PassageLaws.{tollOf, other-kind, other-passage, passage-found, passage-passed, passage-absent}
-use Rattle.event_toll.proofs.passage_stands.Statement.{statement}
-use Rattle.event_toll.proofs.passage_stands.Tie as tie
+use Rattle.lookups.proofs.PassageLaws.{tollOf, other-kind, other-passage, passage-found, passage-passed, passage-absent}
+use Rattle.lookups.proofs.passage_stands.Statement.{statement}
+use Rattle.lookups.proofs.passage_stands.Tie as tie
 
 abbrev Inv-loop : tie.InvT-loop
 Inv-loop journal used passage i₀ i = (i ≤ used) × ((k : ℕ) → k < i → tollOf passage (rowAt journal k) ≡ false)

@@ -1,0 +1,2 @@
+pub mod PassageLaws
+pub mod LookupLaws
