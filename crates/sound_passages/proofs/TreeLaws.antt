@@ -63,7 +63,7 @@ module _ (t : List ℤ) (cells : List ℕ) (n x y c s r : ℕ) (g : Grown t cell
         way = λ b. absurd (omega arith);
       }
 
-pub way-free : (t : List ℤ) (cells : List ℕ) (n x y c s : ℕ) → n < 8192 → Way t cells n x y c s → s ≡ 0 → Spot t cells n x c
+pub way-free : (t : List ℤ) (cells : List ℕ) (n x y c s : ℕ) → n ≤ 8192 → Way t cells n x y c s → s ≡ 0 → Spot t cells n x c
 way-free t cells n x y c s b w z =
     record {
       taken = λ j f. absurd (omega (arith, w .low));

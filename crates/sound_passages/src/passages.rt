@@ -31,8 +31,8 @@ fn wide(x: u16) -> usize
 }
 
 // Where passage x goes among the first n rows: a free cell, or CELLS and more where a toll has it.
-fn spot(journal: &[i64], cells: &[u16; CELLS], n: usize, x: u64) -> usize
-    requires { ⌜ (n * rowWidth ≤ length (now journal)) × (n < mostRows) × Grown (now journal) (now cells) n ⌝ }
+pub fn spot(journal: &[i64], cells: &[u16; CELLS], n: usize, x: u64) -> usize
+    requires { ⌜ (n * rowWidth ≤ length (now journal)) × (n ≤ mostRows) × Grown (now journal) (now cells) n ⌝ }
     ensures { λ r. ⌜ Spot (now (journal .entry)) (now (cells .entry)) n x r ⌝ }
 {
     let mut y = mix(x);
