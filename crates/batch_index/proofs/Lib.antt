@@ -1,0 +1,3 @@
+pub mod SideLaws
+pub mod SeatLaws
+pub mod IndexLaws

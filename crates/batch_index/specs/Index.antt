@@ -1,0 +1,93 @@
+-- What a batch keeps of the journal from event to event: the trees of passage numbers, and for each account number a seat of four
+-- words, from which row on a source and a debit of it can have something left, and the sums of its sources and of its debits.
+use Prim.Native.Nat.{ℕ, zero, suc, _+_, _*_, _≤_, _<_}
+use mathlib.Core.Path.{_≡_}
+use mathlib.Core.Bool.{Bool, true, not, cond, _&&_}
+use mathlib.Core.List.{List}
+use lib.Dec.{leb, ltb}
+use lib.IntN.{ℤ}
+use lib.ListN.{length, getD, replicate}
+use Rattle.records.specs.Encoding.{rowAt, rowsOf}
+use Rattle.lists.specs.Tests.{_is_}
+use Rattle.lists.specs.Lists.{sumBy, only}
+use Rattle.rules.specs.Rows.{Row, Test, source, debit, remaining}
+use Rattle.rules.specs.Book.{Account, Open}
+use Rattle.rules.specs.Tables.{Tables, rowsUsed}
+use Rattle.sound_passages.specs.Trees.{passagesDiffer, Grown}
+use Rattle.account_sums.specs.Tallies.{Countable}
+
+-- ---- the two sides: 0 the sources, 1 the debits
+
+unfoldable pub onSide : ℕ → Test
+onSide zero r = source r
+onSide (suc s) r = debit r
+
+-- a row of account a on side s: sourceOf a and debitOf a
+unfoldable pub ofSide : ℕ → ℕ → Test
+ofSide s a r = r .account is a && onSide s r
+
+-- a row's side
+unfoldable pub sideOf : Row → ℕ
+sideOf r = cond (source r) 0 1
+
+-- ---- the seats
+
+-- the place of the first row and of the sum of side s of account a
+abbrev pub firstAt : ℕ → ℕ → ℕ
+firstAt a s = a * 4 + s
+
+abbrev pub sumAt : ℕ → ℕ → ℕ
+sumAt a s = a * 4 + 2 + s
+
+-- the word of an account's seat, 0 where the account has none
+unfoldable pub seatWord : List ℕ → ℕ → ℕ → ℕ
+seatWord seats a w = cond (ltb a 257) (getD seats (a * 4 + w) 0) 0
+
+-- the sums are those of the first n rows; from row i up to the first row of a side nothing is left on it
+pub record Seated (j : List ℤ) (n i : ℕ) (seats : List ℕ) : Type 0 where
+  pub sized : length seats ≡ 1028
+  pub first-in : (s a : ℕ) → s < 2 → a < 257 → getD seats (firstAt a s) 0 ≤ n
+  pub passed : (s a : ℕ) → s < 2 → a < 257 → (k : ℕ) → i ≤ k → k < getD seats (firstAt a s) 0 → only (ofSide s a) remaining (rowAt j k) ≡ 0
+  pub summed : (s a : ℕ) → s < 2 → a < 257 → getD seats (sumAt a s) 0 ≡ sumBy (only (ofSide s a) (λ r. r .amount)) (rowsOf j n)
+
+-- every first row is `used`, and the sums are as before
+pub record Reset (used : ℕ) (xs ys : List ℕ) : Type 0 where
+  pub size : length ys ≡ length xs
+  pub firsts : (s a : ℕ) → s < 2 → a < 257 → getD ys (firstAt a s) 0 ≡ used
+  pub sums : (s a : ℕ) → s < 2 → a < 257 → getD ys (sumAt a s) 0 ≡ getD xs (sumAt a s) 0
+
+-- from row i up to k no row passes the test with something left
+pub record NextOpen (p : Test) (j : List ℤ) (used i k : ℕ) : Type 0 where
+  pub within : k ≤ used
+  pub passed : (m : ℕ) → i ≤ m → m < k → only p remaining (rowAt j m) ≡ 0
+
+-- ---- the index
+
+-- the index of the first n rows of a journal
+pub record IndexOf (j : List ℤ) (n : ℕ) (cells seats : List ℕ) : Type 0 where
+  pub grown : Grown j cells n
+  pub seated : Seated j n 0 seats
+
+-- the index of the first n rows of the tables
+abbrev pub IndexedTo : Tables → ℕ → List ℕ → List ℕ → Type 0
+IndexedTo t n cells seats = IndexOf (t .journal) n cells seats
+
+-- the index of all used rows
+abbrev pub Indexed : Tables → List ℕ → List ℕ → Type 0
+Indexed t cells seats = IndexedTo t (rowsUsed t) cells seats
+
+-- the two arrays before there is an index
+pub record Empty (cells seats : List ℕ) : Type 0 where
+  pub no-cell : cells ≡ replicate 32768 0
+  pub no-seat : seats ≡ replicate 1028 0
+
+-- a journal whose used rows can be indexed
+pub record Indexable (j : List ℤ) (used : ℕ) : Type 0 where
+  pub rows : Countable j used
+  pub differ : passagesDiffer (rowsOf j used) ≡ true
+
+-- ---- top-up due
+
+-- "Due when open, amount above 0, last decline not today, balance at most the threshold", the balance by its two sums
+unfoldable pub dueBy : Account → ℕ → ℕ → ℕ → Bool
+dueBy x today gained charged = x .state is Open && ltb 0 (x .topup) && not (x .declined is today) && leb gained (charged + x .threshold)

@@ -1,0 +1,272 @@
+// The index that a batch keeps of the journal in two arrays of its own, so that no event searches all rows: the trees of passage numbers
+// and, for each account, from which row on something of its sources and of its debits can be left, and the sums of both. Uses lists,
+// records, rules, tables, row_tests, sound_passages, account_sums, posting and lookups.
+use lookups::Lookup;
+use lookups::RESULT_EVENT;
+use lookups::TOLL_EVENT;
+use records::Account;
+use records::Instruction;
+use records::Row;
+use row_tests::is_source;
+use row_tests::remaining_of;
+use sound_passages::passages::CELLS;
+use sound_passages::passages::plant;
+use sound_passages::passages::spot;
+use table_accounts::account_numbered;
+use table_rows::account_at;
+use table_rows::read_row;
+use tables::codes::OPEN;
+use tables::layout::ACCOUNT_WIDTH;
+use tables::layout::DAY_PLACE;
+use tables::layout::USED_PLACE;
+use tables::words::get;
+ghost use mathlib.Core.Path.{_≡_};
+ghost use mathlib.Core.Bool.{true};
+ghost use Prim.Native.Nat.{_+_, _^_, _≤_, _<_};
+ghost use lib.Dec.{ltb};
+ghost use lib.ListN.{length, set};
+ghost use Rattle.records.specs.Encoding.{rowAt};
+ghost use Rattle.lists.specs.Lists.{only};
+ghost use Rattle.rules.specs.Rows.{remaining};
+ghost use Rattle.rules.specs.Soundness.{kindFits};
+ghost use Rattle.rules.specs.Tables.{tablesAt, rowsUsed, soundTables};
+ghost use Rattle.tables.specs.Changes.{RowIn};
+ghost use Rattle.account_sums.specs.Tallies.{Countable};
+ghost use Rattle.lookups.specs.Lookups.{LooksUp};
+ghost use Rattle.batch_index.specs.Index.{ofSide, sideOf, firstAt, seatWord, Seated, Reset, NextOpen, IndexOf, IndexedTo, Indexed, Empty, Indexable, dueBy};
+
+// Account numbers 0 to 256 have a seat of four words: the first row of each side, and then the sum of each side.
+const SEATS: usize = 257;
+
+const WORDS: usize = 4;
+
+const SUMS: usize = 2;
+
+const SOURCES: usize = 0;
+
+const DEBITS: usize = 1;
+
+pub const SEAT_WORDS: usize = 1028;
+
+// ---- the seats
+
+fn side_of(r: Row) -> usize
+    ensures { λ s. ⌜ s ≡ sideOf r ⌝ }
+{
+    if is_source(r) {
+        return SOURCES;
+    }
+    DEBITS
+}
+
+// Row i's amount goes to its account's sum of its side.
+fn add_amount(journal: &[i64], i: usize, seats: &mut [u64; SEAT_WORDS])
+    requires { ⌜ Countable (now journal) (i + 1) × Seated (now journal) i 0 (now seats) ⌝ }
+    ensures { λ _. ⌜ Seated (now (journal .entry)) (i + 1) 0 (now (seats .exit)) ⌝ }
+{
+    let r = read_row(journal, i);
+    let side = side_of(r);
+    let at = r.account as usize * WORDS + SUMS + side;
+    let old = seats[at];
+    seats[at] = old + r.amount;
+}
+
+fn put_first(seats: &mut [u64; SEAT_WORDS], account: usize, side: usize, row: usize)
+    requires { ⌜ (account < 257) × (side < 2) ⌝ }
+    ensures { λ _. ⌜ now (seats .exit) ≡ set (now (seats .entry)) (firstAt account side) row ⌝ }
+{
+    seats[account * WORDS + side] = row as u64;
+}
+
+// Every first row becomes the end of the used rows.
+fn reset_firsts(used: usize, seats: &mut [u64; SEAT_WORDS])
+    requires { ⌜ length (now seats) ≡ 1028 ⌝ }
+    ensures { λ _. ⌜ Reset used (now (seats .entry)) (now (seats .exit)) ⌝ }
+{
+    let mut a = 0;
+    while a < SEATS {
+        put_first(seats, a, SOURCES, used);
+        put_first(seats, a, DEBITS, used);
+        a += 1;
+    }
+}
+
+// Row i becomes the first row of its side, where something of it is left.
+fn note_first(journal: &[i64], used: usize, i: usize, seats: &mut [u64; SEAT_WORDS])
+    requires { ⌜ Countable (now journal) used × (i < used) × Seated (now journal) used (i + 1) (now seats) ⌝ }
+    ensures { λ _. ⌜ Seated (now (journal .entry)) used i (now (seats .exit)) ⌝ }
+{
+    let r = read_row(journal, i);
+    if remaining_of(r) == 0 {
+        return;
+    }
+    put_first(seats, r.account as usize, side_of(r), i);
+}
+
+// The first row of each side of each account with something left: rows are taken from the last to the first, and the earlier one stays.
+fn find_firsts(journal: &[i64], used: usize, seats: &mut [u64; SEAT_WORDS])
+    requires { ⌜ Countable (now journal) used × Seated (now journal) used used (now seats) ⌝ }
+    ensures { λ _. ⌜ Seated (now (journal .entry)) used 0 (now (seats .exit)) ⌝ }
+{
+    let mut i = used;
+    while 0 < i {
+        i -= 1;
+        note_first(journal, used, i, seats);
+    }
+}
+
+// Something of row i is left on this side of the account. Most rows are other accounts', so the account is read first and alone.
+fn open_at(journal: &[i64], i: usize, account: u64, side: usize) -> bool
+    requires { ⌜ RowIn (now journal) i × (kindFits (rowAt (now journal) i) ≡ true) × (side < 2) ⌝ }
+    ensures { λ b. ⌜ b ≡ ltb 0 (only (ofSide side account) remaining (rowAt (now (journal .entry)) i)) ⌝ }
+{
+    if account_at(journal, i) != account {
+        return false;
+    }
+    let r = read_row(journal, i);
+    if side_of(r) != side {
+        return false;
+    }
+    0 < remaining_of(r)
+}
+
+// The next row from i on of which something is left on this side of the account, or the end of the used rows.
+fn next_open(journal: &[i64], used: usize, account: u64, side: usize, i: usize) -> usize
+    requires { ⌜ Countable (now journal) used × (side < 2) × (i ≤ used) ⌝ }
+    ensures { λ k. ⌜ NextOpen (ofSide side account) (now (journal .entry)) used i k ⌝ }
+{
+    let mut k = i;
+    while k < used {
+        if open_at(journal, k, account, side) {
+            return k;
+        }
+        k += 1;
+    }
+    k
+}
+
+// The first row of this side of the account moves forward over rows of which nothing is left.
+fn move_first(
+    journal: &[i64],
+    used: usize,
+    account: usize,
+    side: usize,
+    seats: &mut [u64; SEAT_WORDS],
+)
+    requires { ⌜ Countable (now journal) used × (account < 257) × (side < 2) × Seated (now journal) used 0 (now seats) ⌝ }
+    ensures { λ _. ⌜ Seated (now (journal .entry)) used 0 (now (seats .exit)) ⌝ }
+{
+    let first = seats[account * WORDS + side] as usize;
+    let next = next_open(journal, used, account as u64, side, first);
+    put_first(seats, account, side, next);
+}
+
+// A word of the account's seat, 0 where it has none.
+fn seat_word(seats: &[u64; SEAT_WORDS], account: u64, word: usize) -> u64
+    requires { ⌜ word < 4 ⌝ }
+    ensures { λ x. ⌜ x ≡ seatWord (now (seats .entry)) account word ⌝ }
+{
+    if account < SEATS as u64 {
+        return seats[account as usize * WORDS + word];
+    }
+    0
+}
+
+// Open, amount above 0, last decline not today, balance at most the threshold.
+fn due_by(x: Account, today: u64, gained: u64, charged: u64) -> bool
+    requires { ⌜ charged + x .threshold < 2 ^ 64 ⌝ }
+    ensures { λ b. ⌜ b ≡ dueBy x today gained charged ⌝ }
+{
+    (x.state == OPEN) & (0 < x.topup) & (x.declined != today) & (gained <= charged + x.threshold)
+}
+
+// ---- the index
+
+// Rows from..used go into the index of the rows before them.
+fn index_rows(
+    journal: &[i64],
+    from: usize,
+    used: usize,
+    cells: &mut [u16; CELLS],
+    seats: &mut [u64; SEAT_WORDS],
+)
+    requires { ⌜ Indexable (now journal) used × (from ≤ used) × IndexOf (now journal) from (now cells) (now seats) ⌝ }
+    ensures { λ _. ⌜ IndexOf (now (journal .entry)) used (now (cells .exit)) (now (seats .exit)) ⌝ }
+{
+    let mut i = from;
+    while i < used {
+        plant(journal, cells, i);
+        add_amount(journal, i, seats);
+        i += 1;
+    }
+}
+
+// The index of sound tables, made in two arrays that are all 0.
+pub fn start_index(
+    header: &[i64],
+    accounts: &[i64],
+    journal: &[i64],
+    cells: &mut [u16; CELLS],
+    seats: &mut [u64; SEAT_WORDS],
+)
+    requires { ⌜ (soundTables (tablesAt (now header) (now accounts) (now journal)) ≡ true) × Empty (now cells) (now seats) ⌝ }
+    ensures { λ _. ⌜ Indexed (tablesAt (now (header .entry)) (now (accounts .entry)) (now (journal .entry))) (now (cells .exit)) (now (seats .exit)) ⌝ }
+{
+    let used = get(header, USED_PLACE) as usize;
+    index_rows(journal, 0, used, cells, seats);
+    reset_firsts(used, seats);
+    find_firsts(journal, used, seats);
+}
+
+// What the index has for an event, without a pass over the journal.
+pub fn look_up_indexed(
+    header: &[i64],
+    accounts: &[i64],
+    journal: &[i64],
+    cells: &[u16; CELLS],
+    seats: &[u64; SEAT_WORDS],
+    e: Instruction,
+) -> Lookup
+    requires { ⌜ (soundTables (tablesAt (now header) (now accounts) (now journal)) ≡ true) × Indexed (tablesAt (now header) (now accounts) (now journal)) (now cells) (now seats) ⌝ }
+    ensures { λ k. ⌜ LooksUp (tablesAt (now (header .entry)) (now (accounts .entry)) (now (journal .entry))) e k ⌝ }
+{
+    let mut found = Lookup {
+        stands: false,
+        due: false,
+        source: seat_word(seats, e.account, SOURCES) as usize,
+        debit: seat_word(seats, e.account, DEBITS) as usize,
+    };
+    if e.kind == TOLL_EVENT {
+        found.stands = spot(journal, cells, get(header, USED_PLACE) as usize, e.a) >= CELLS;
+        return found;
+    }
+    if e.kind == RESULT_EVENT {
+        let x = account_numbered(accounts, accounts.len() / ACCOUNT_WIDTH, e.account);
+        let gained = seat_word(seats, e.account, SUMS + SOURCES);
+        let charged = seat_word(seats, e.account, SUMS + DEBITS);
+        found.due = due_by(x, get(header, DAY_PLACE), gained, charged);
+    }
+    found
+}
+
+// The index after an event that found `before` rows and named this account: the rows that it added go in, and the account's first rows
+// move forward.
+pub fn update_index(
+    header: &[i64],
+    accounts: &[i64],
+    journal: &[i64],
+    before: usize,
+    account: u64,
+    cells: &mut [u16; CELLS],
+    seats: &mut [u64; SEAT_WORDS],
+)
+    requires { ⌜ (soundTables (tablesAt (now header) (now accounts) (now journal)) ≡ true) × (before ≤ rowsUsed (tablesAt (now header) (now accounts) (now journal))) × IndexedTo (tablesAt (now header) (now accounts) (now journal)) before (now cells) (now seats) ⌝ }
+    ensures { λ _. ⌜ Indexed (tablesAt (now (header .entry)) (now (accounts .entry)) (now (journal .entry))) (now (cells .exit)) (now (seats .exit)) ⌝ }
+{
+    let used = get(header, USED_PLACE) as usize;
+    index_rows(journal, before, used, cells, seats);
+    if account < SEATS as u64 {
+        move_first(journal, used, account as usize, SOURCES, seats);
+        move_first(journal, used, account as usize, DEBITS, seats);
+    }
+}
