@@ -1,3 +1,4 @@
 pub mod SideLaws
 pub mod SeatLaws
 pub mod IndexLaws
+pub mod KeptLaws

@@ -22,3 +22,4 @@ pub mod CallsKept
 pub mod EventFrame
 pub mod PostFrame
 pub mod NamedLaws
+pub mod RowsKept

@@ -1,0 +1,119 @@
+-- Every event keeps what the index knows: it indexes the same rows of the tables after it.
+use mathlib.Core.Path.{_≡_, sym, ap, _∙_}
+use mathlib.Core.Bool.{Bool, true, false, cond}
+use Prim.Native.Nat.{ℕ, zero, suc, _≤_, _<_}
+use native.Mathlib.Omega.{arith}
+use mathlib.Core.List.{List}
+use lib.IntN.{ℤ}
+use lib.ListN.{length, getD}
+use Rattle.records.specs.Encoding.{rowAt, rowsOf}
+use Rattle.lists.specs.Lists.{sumBy, only}
+use Rattle.lists.proofs.ListLaws.{length-tabulate, tabulate-at}
+use Rattle.lists.proofs.SumLaws.{sumBy-longer}
+use Rattle.rules.specs.Rows.{Row, blank, remaining}
+use Rattle.rules.specs.Book.{Instruction, Book}
+use Rattle.rules.specs.Soundness.{sound}
+use Rattle.rules.specs.Posting.{post}
+use Rattle.rules.specs.Tables.{Tables, rowsUsed, bookOf, tablesOf, soundTables}
+use Rattle.rules.proofs.SoundnessLaws.{sound-facts, facts-sound}
+use Rattle.rules.proofs.StorableLaws.{rows-le}
+use Rattle.rules.proofs.TableLaws.{sound-book, sound-rows, length-sound-rows, used-tablesOf, bookOf-tablesOf, soundTables-tablesOf}
+use Rattle.preservation.proofs.SoundKept.{post-keeps-sound}
+use Rattle.preservation.proofs.RowsKept.{RowKept, post-keeps-rows}
+use Rattle.sound_passages.specs.Trees.{Grown}
+use Rattle.batch_index.specs.Index.{onSide, ofSide, IndexOf, IndexedTo, Indexed}
+
+-- ---- a row
+
+module _ (s a : ℕ) (x y : Row) (k : RowKept x y) where
+  side-kept : ofSide s a y ≡ ofSide s a x
+  unfolding ofSide
+  side-kept = rw (go s, k .account)
+    where
+      go : (s : ℕ) → onSide s y ≡ onSide s x
+      go zero = unfold onSide in rw (k .kind)
+      go (suc n) = unfold onSide in rw (k .kind)
+
+  amount-kept : only (ofSide s a) (λ r. r .amount) y ≡ only (ofSide s a) (λ r. r .amount) x
+  unfolding only
+  amount-kept = rw (side-kept, k .amount)
+
+  remaining-kept : only (ofSide s a) remaining y ≤ only (ofSide s a) remaining x
+  unfolding only
+  remaining-kept = rw side-kept (go (ofSide s a x) (k .left))
+    where
+      go : (b : Bool) → remaining y ≤ remaining x → cond b (remaining y) 0 ≤ cond b (remaining x) 0
+      go true h = h
+      go false h = omega arith
+
+-- ---- the index of n rows, each kept
+
+module _ (j i : List ℤ) (n : ℕ) (kept : (k : ℕ) → k < n → RowKept (rowAt j k) (rowAt i k)) where
+  grown-kept : (cells : List ℕ) → Grown j cells n → Grown i cells n
+  grown-kept cells g = record {
+    size = g .size;
+    tolls = λ c k e. let p = g .tolls c k e in (p .0, kept k (p .0) .kind ∙ p .1, p .2);
+    kept = λ k h e. rw (kept k h .reference) (g .kept k h (sym (kept k h .kind) ∙ e));
+    clean = λ k m l h a b e. g .clean k m l h (sym (kept k (omega arith) .kind) ∙ a) (sym (kept m h .kind) ∙ b) (sym (kept k (omega arith) .reference) ∙ e ∙ kept m h .reference);
+  }
+
+  sum-kept : (s a : ℕ) → sumBy (only (ofSide s a) (λ r. r .amount)) (rowsOf j n) ≡ sumBy (only (ofSide s a) (λ r. r .amount)) (rowsOf i n)
+  sum-kept s a =
+      let f : Row → ℕ = only (ofSide s a) (λ r. r .amount) in
+      let p : length (rowsOf j n) ≡ n = length-tabulate (rowAt j) n in
+      let q : length (rowsOf i n) ≡ n = length-tabulate (rowAt i) n in
+      sumBy-longer f f blank (rowsOf j n) (rowsOf i n) (omega arith)
+      (λ k h. let l : k < n = omega arith in
+      rw (tabulate-at (rowAt j) n k blank l, tabulate-at (rowAt i) n k blank l) (sym (amount-kept s a (rowAt j k) (rowAt i k) (kept k l))))
+      (λ k l h. absurd (omega arith))
+
+  pub index-kept : (cells seats : List ℕ) → IndexOf j n cells seats → IndexOf i n cells seats
+  index-kept cells seats x =
+      let t = x .seated in
+      record {
+        grown = grown-kept cells (x .grown);
+        seated = record {
+          sized = t .sized;
+          first-in = t .first-in;
+          passed = λ s a h b k l q.
+              omega (arith, t .passed s a h b k l q, remaining-kept s a (rowAt j k) (rowAt i k) (kept k (omega (arith, t .first-in s a h b))));
+          summed = λ s a h b. t .summed s a h b ∙ sum-kept s a;
+        };
+      }
+
+-- ---- the tables after an event
+
+module _ (t : Tables) (s : soundTables t ≡ true) (e : Instruction) where
+  after : Book
+  after = post (bookOf t) e .book
+
+  after-sound : sound after ≡ true
+  unfolding after
+  after-sound = post-keeps-sound (bookOf t) e (facts-sound (bookOf t) (sound-book t s))
+
+  after-used : rowsUsed (tablesOf after) ≡ length (after .rows)
+  after-used = used-tablesOf after (rows-le (after .day) after (sound-facts after after-sound .near))
+
+  after-row : (k : ℕ) → k < length (after .rows) → getD (after .rows) k blank ≡ rowAt (tablesOf after .journal) k
+  after-row k h =
+      let fits = rows-le (after .day) after (sound-facts after after-sound .near) in
+      let e : after .rows ≡ rowsOf (tablesOf after .journal) (rowsUsed (tablesOf after)) =
+      sym (ap (λ (b : Book). b .rows) (bookOf-tablesOf after fits)) ∙ sound-rows (tablesOf after) (soundTables-tablesOf after after-sound) in
+      ap (λ (rows : List Row). getD rows k blank) e ∙ tabulate-at (rowAt (tablesOf after .journal)) (rowsUsed (tablesOf after)) k blank (rw after-used h)
+
+  -- no row goes away
+  pub used-posted : rowsUsed t ≤ rowsUsed (tablesOf (post (bookOf t) e .book))
+  unfolding after
+  used-posted = omega (arith, length-sound-rows t s, post-keeps-rows (bookOf t) e .longer, after-used)
+
+  row-posted : (k : ℕ) → k < rowsUsed t → RowKept (rowAt (t .journal) k) (rowAt (tablesOf (post (bookOf t) e .book) .journal) k)
+  unfolding after
+  row-posted k h =
+      let l : k < length (bookOf t .rows) = rw (length-sound-rows t s) h in
+      let m : k < length (after .rows) = omega (arith, post-keeps-rows (bookOf t) e .longer) in
+      let p : getD (bookOf t .rows) k blank ≡ rowAt (t .journal) k = rw (sound-rows t s) (tabulate-at (rowAt (t .journal)) (rowsUsed t) k blank h) in
+      rw (← p, ← after-row k m) (post-keeps-rows (bookOf t) e .each k l)
+
+  -- the index of the rows before an event is one of the tables after it
+  pub index-posted : (cells seats : List ℕ) → Indexed t cells seats → IndexedTo (tablesOf (post (bookOf t) e .book)) (rowsUsed t) cells seats
+  index-posted = index-kept (t .journal) (tablesOf (post (bookOf t) e .book) .journal) (rowsUsed t) row-posted
