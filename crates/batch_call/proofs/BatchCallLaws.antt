@@ -5,7 +5,7 @@ use Prim.Native.Nat.{ℕ, _+_, _*_, _≤_, _<_}
 use native.Mathlib.Omega.{arith}
 use native.Mathlib.Numerals.{add-one}
 use mathlib.Core.List.{List, [], _∷_, _++_, map}
-use lib.ListN.{length, getD, take, length-map, List·getD-map}
+use lib.ListN.{length, getD, take, replicate, length-replicate, length-map, List·getD-map}
 use lib.Seq.{take-suc, take-all, length-take-le}
 use lib.IntN.{ℤ, pos}
 use lib.Dec.{ltb}
@@ -59,11 +59,15 @@ taken t es w q =
     let b = first-none (2, many || short) [] (omega arith) (a .1) in
     record { refusal = sym q; sound = not-false _ (a .0); room = ltb-false _ _ (or-right many short (b .0)) }
 
--- ---- events in order
-
 -- what stands past the end of a list of events
 abbrev pub noEvent : Event
 noEvent = record { kind = pos 0; account = pos 0; a = pos 0; b = pos 0; c = pos 0; d = pos 0; e = pos 0 }
+
+-- the same, of a batch of so many events
+pub counted-sound : (t : Tables) (count : ℕ) (w : List ℤ) → ((es : List Event) → length es ≡ count → 0 ≡ first (batchRefusals t es w)) → soundTables t ≡ true
+counted-sound t count w q = let es : List Event = replicate count noEvent in taken t es w (q es (length-replicate count noEvent)) .sound
+
+-- ---- events in order
 
 -- the first i events as instructions
 abbrev firstOf : List Event → ℕ → List Instruction

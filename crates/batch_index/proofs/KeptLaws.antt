@@ -117,3 +117,9 @@ module _ (t : Tables) (s : soundTables t ≡ true) (e : Instruction) where
   -- the index of the rows before an event is one of the tables after it
   pub index-posted : (cells seats : List ℕ) → Indexed t cells seats → IndexedTo (tablesOf (post (bookOf t) e .book)) (rowsUsed t) cells seats
   index-posted = index-kept (t .journal) (tablesOf (post (bookOf t) e .book) .journal) (rowsUsed t) row-posted
+
+  -- so the index can be brought up to date: the tables u are those after the event, which found `before` rows
+  pub posted-updatable : (u : Tables) (before : ℕ) (cells seats : List ℕ) → u ≡ tablesOf (post (bookOf t) e .book) → before ≡ rowsUsed t → Indexed t cells seats
+      → (soundTables u ≡ true) × (before ≤ rowsUsed u) × IndexedTo u before cells seats
+  unfolding after
+  posted-updatable u before cells seats p b x = rw (p, b) (soundTables-tablesOf after after-sound, used-posted, index-posted cells seats x)

@@ -1,12 +1,14 @@
 // The calls that C hosts link: each thin over the call of the same name, its contract that call's own, with no `requires`. Every table is
 // a pointer and its length in words; include/toll_ledger.h declares them. Uses rules, tables, opening, event_call, batch_call and questions.
-use batch_call::batch_refusal;
+use batch_call::begin_batch;
 use batch_call::post_record;
+use batch_index::SEAT_WORDS;
 use event_call::event_call;
 use opening::open_book;
 use questions::balance;
 use questions::top_up_due;
 use records::Event;
+use sound_passages::passages::CELLS;
 ghost use mathlib.Core.Path.{_≡_};
 ghost use lib.IntN.{pos};
 ghost use Rattle.rules.specs.Tables.{tablesAt};
@@ -85,13 +87,32 @@ pub extern "C" fn toll_ledger_batch(
 ) -> u64
     ensures { λ n. ⌜ Batches (tablesAt (now (header .entry)) (now (accounts .entry)) (now (journal .entry))) (tablesAt (now (header .exit)) (now (accounts .exit)) (now (journal .exit))) (now (events .entry)) (now (answers .entry)) (now (answers .exit)) n ⌝ }
 {
-    let n = batch_refusal(header, accounts, journal, events.len(), answers);
+    let mut cells = [0u16; CELLS];
+    let mut seats = [0u64; SEAT_WORDS];
+    let n = begin_batch(
+        header,
+        accounts,
+        journal,
+        events.len(),
+        answers,
+        &mut cells,
+        &mut seats,
+    );
     if n != 0 {
         return n;
     }
     let mut i: usize = 0;
     while i < events.len() {
-        post_record(header, accounts, journal, answers, i, events[i]);
+        post_record(
+            header,
+            accounts,
+            journal,
+            answers,
+            i,
+            events[i],
+            &mut cells,
+            &mut seats,
+        );
         i += 1;
     }
     0
