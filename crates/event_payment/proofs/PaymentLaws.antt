@@ -74,9 +74,9 @@ module _ (t : Tables) (s : soundTables t ≡ true) (e : Instruction) (k : e .kin
   acc = accepted b e (sym q)
 
   -- the account that it names is one of the table's
-  inside : (1 ≤ e .account) × (e .account ≤ length (b .accounts))
+  pub payment-inside : (1 ≤ e .account) × (e .account ≤ length (b .accounts))
   unfolding unknown
-  inside =
+  payment-inside =
       let z : not (e .account from 1 to length (b .accounts)) || account b (e .account) .state is 0 ≡ false = at-kind (λ x. unknown b x ≡ false → not (x .account from 1 to length (b .accounts)) || account b (x .account) .state is 0 ≡ false) e 3 k (λ w. w) (acc .known) in
       let i : e .account from 1 to length (b .accounts) ≡ true = not-false _ (or-left _ (account b (e .account) .state is 0) z) in (
         leb-true 1 (e .account) (and-left (leb 1 (e .account)) (leb (e .account) (length (b .accounts))) i),
@@ -112,7 +112,7 @@ module _ (t : Tables) (s : soundTables t ≡ true) (e : Instruction) (k : e .kin
       let n = accounts-le (b .day) b (sound-book t s .near) in
       record {
         kind = omega arith;
-        account = omega (arith, inside .1);
+        account = omega (arith, payment-inside .1);
         day = omega arith;
         amount = omega (arith, between-le 1 highestPayment (e .a) (and-left amount-part method-part both));
         settled = omega arith;
@@ -125,7 +125,7 @@ module _ (t : Tables) (s : soundTables t ≡ true) (e : Instruction) (k : e .kin
 
   pub after-payment : after b e ≡ withRows (settle (e .account) (b .rows ++ (paymentRow b e ∷ []))) b
   after-payment =
-      after-named b e (sound-book t s) not-tick acc (inside .0) (inside .1) (rw changed) ∙ rw changed
+      after-named b e (sound-book t s) not-tick acc (payment-inside .0) (payment-inside .1) (rw changed) ∙ rw changed
 
   pub payment-posts : (h j j″ : List ℤ) → RowAdded (t .header) h (t .journal) j (paymentRow b e) → Settled j j″ (rowsUsed t + 1) (e .account)
       → rowsUsed t < roomIn t → Posts t (tablesAt h (t .accounts) j″) e (acceptanceOf (rowsUsed t) 1 0 0)

@@ -51,7 +51,7 @@ fn payment_refusal(header: &[i64], accounts: &[i64], journal: &[i64], e: Instruc
     0
 }
 
-// Event 3: the payment row, its mark the method; then settlement.
+// Event 3: the payment row, its mark the method; then settlement, from this row on, since no source before it has money for a debt.
 pub fn post_payment(
     header: &mut [i64],
     accounts: &[i64],
@@ -70,6 +70,12 @@ pub fn post_payment(
     let mut r = new_row(PAYMENT, e.account, get(header, DAY_PLACE), e.a);
     r.mark = e.b;
     add_row(header, journal, r);
-    settle_from(journal, used as usize + 1, e.account, k.source, k.debit);
+    settle_from(
+        journal,
+        used as usize + 1,
+        e.account,
+        used as usize,
+        k.debit,
+    );
     posted(used, 1, 0, 0)
 }

@@ -60,7 +60,7 @@ fn result_refusal(
     0
 }
 
-// Paid: a card payment of the top-up amount, and the declines are forgotten; then settlement.
+// Paid: a card payment of the top-up amount, and the declines are forgotten; then settlement, from this row on.
 fn pay_top_up(
     header: &mut [i64],
     accounts: &mut [i64],
@@ -78,7 +78,13 @@ fn pay_top_up(
     let mut r = new_row(PAYMENT, e.account, get(header, DAY_PLACE), x.topup);
     r.mark = CARD;
     add_row(header, journal, r);
-    settle_from(journal, used as usize + 1, e.account, k.source, k.debit);
+    settle_from(
+        journal,
+        used as usize + 1,
+        e.account,
+        used as usize,
+        k.debit,
+    );
     posted(used, 1, 0, 0)
 }
 

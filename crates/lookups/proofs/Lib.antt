@@ -1,2 +1,3 @@
 pub mod PassageLaws
 pub mod LookupLaws
+pub mod LastSourceLaws

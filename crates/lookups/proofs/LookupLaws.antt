@@ -23,7 +23,7 @@ use Rattle.lookups.specs.declared.Lookup.{Lookup}
 use Rattle.lookups.specs.Lookups.{NothingLeft, LooksUp}
 
 -- a debit that is not held is a debit
-payable-le : (rows : List Row) (a : ℕ) (r : Row) → only (payable rows a) remaining r ≤ only (debitOf a) remaining r
+pub payable-le : (rows : List Row) (a : ℕ) (r : Row) → only (payable rows a) remaining r ≤ only (debitOf a) remaining r
 unfolding payable debitOf only
 payable-le rows a r = go (r .account is a) (debit r) (not (held rows r))
   where

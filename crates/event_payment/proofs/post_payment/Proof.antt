@@ -6,9 +6,9 @@ use mathlib.Core.Path.{_≡_, refl, sym, ap, _∙_}
 use lib.ListN.{length-set}
 use Rattle.rules.proofs.TableLaws.{header-length, journal-length}
 use Rattle.posting.proofs.BookLaws.{day-read, used-small}
-use Rattle.lookups.proofs.LookupLaws.{begun-added}
+use Rattle.lookups.proofs.LastSourceLaws.{begun-last}
 use Rattle.posting_laws.proofs.AddedLaws.{posts-refused, added-journal}
-use Rattle.event_payment.proofs.PaymentLaws.{payment-fits, payment-storable, payment-posts}
+use Rattle.event_payment.proofs.PaymentLaws.{payment-inside, payment-fits, payment-storable, payment-posts}
 use Rattle.event_payment.proofs.post_payment.Statement.{statement}
 use Rattle.event_payment.proofs.post_payment.Tie as tie
 
@@ -58,7 +58,7 @@ settle-from-requires c κs =
     let k = c .before .before .before .before .before .before .before .before .before .before .before .before .before .before .before .pre .1 in
     let q = sym (c .before .before .before .before .before .before .before .before .before .before .before .if1 .left) ∙ c .before .before .before .before .before .before .before .before .before .before .before .before .payment-refusal .ensures in
     let w = rw (c .before .before .before .before .before .before .new-row .ensures, c .before .before .before .before .before .before .before .get2 .ensures, day-read _ s) at (c .before .before .before .add-row .ensures) in
-    rw (c .before .before .before .before .before .before .before .before .before .get .ensures) (added-journal _ s _ _ _ w (payment-fits _ s _ k q) (payment-storable _ s _ k q .amount), begun-added _ _ _ _ _ _ (c .before .before .before .before .before .before .before .before .before .before .before .before .before .before .before .pre .2) w)
+    rw (c .before .before .before .before .before .before .before .before .before .get .ensures) (added-journal _ s _ _ _ w (payment-fits _ s _ k q) (payment-storable _ s _ k q .amount), begun-last _ s _ _ _ _ _ (c .before .before .before .before .before .before .before .before .before .before .before .before .before .before .before .pre .2) w (payment-inside _ s _ k q .0) (payment-inside _ s _ k q .1) refl)
 
 posted-requires : tie.Need-posted-requires
 posted-requires c κs =

@@ -1,9 +1,10 @@
 -- `pay_top_up` meets its contract: the account is put back, the payment posted and settled.
 use borrow.Author.Needs.{needs}
 use native.Mathlib.Omega.{arith}
+use mathlib.Core.Path.{refl}
 use Rattle.rules.proofs.TableLaws.{header-length, journal-length}
-use Rattle.posting.proofs.BookLaws.{account-read, day-read, used-small}
-use Rattle.lookups.proofs.LookupLaws.{begun-added}
+use Rattle.posting.proofs.BookLaws.{account-read, day-read, count-read, used-small}
+use Rattle.lookups.proofs.LastSourceLaws.{begun-last}
 use Rattle.posting_laws.proofs.AddedLaws.{added-journal}
 use Rattle.event_topup.proofs.PaidLaws.{paid-inside, paid-in, paid-fits, paid-row-storable, paid-account-storable, paid-posts}
 use Rattle.event_topup.proofs.pay_top_up.Statement.{statement}
@@ -62,7 +63,7 @@ settle-from-requires c κs =
     let a = g .before .before in
     let s = a .pre .0 .sound in
     let e = rw (r .new-row .ensures, d .get2 .ensures, day-read _ s, x .account-numbered .ensures, account-read _ s (a .args .e .account)) at (w .add-row .ensures) in
-    rw (g .get .ensures) (added-journal _ s _ _ _ e (paid-fits _ _ (a .pre .0)) (paid-row-storable _ _ (a .pre .0) .amount), begun-added _ _ _ _ _ _ (a .pre .1) e)
+    rw (g .get .ensures) (added-journal _ s _ _ _ e (paid-fits _ _ (a .pre .0)) (paid-row-storable _ _ (a .pre .0) .amount), begun-last _ s _ _ _ _ _ (a .pre .1) e (paid-inside _ _ (a .pre .0) .0) (rw (← count-read _ s) (paid-inside _ _ (a .pre .0) .1)) refl)
 
 posted-requires : tie.Need-posted-requires
 posted-requires c κs =
