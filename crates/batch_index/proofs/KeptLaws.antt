@@ -11,7 +11,7 @@ use Rattle.lists.specs.Lists.{sumBy, only}
 use Rattle.lists.proofs.ListLaws.{length-tabulate, tabulate-at}
 use Rattle.lists.proofs.SumLaws.{sumBy-longer}
 use Rattle.rules.specs.Rows.{Row, blank, remaining}
-use Rattle.rules.specs.Book.{Instruction, Book}
+use Rattle.rules.specs.Book.{Instruction, Answer, Book}
 use Rattle.rules.specs.Soundness.{sound}
 use Rattle.rules.specs.Posting.{post}
 use Rattle.rules.specs.Tables.{Tables, rowsUsed, bookOf, tablesOf, soundTables}
@@ -20,6 +20,7 @@ use Rattle.rules.proofs.StorableLaws.{rows-le}
 use Rattle.rules.proofs.TableLaws.{sound-book, sound-rows, length-sound-rows, used-tablesOf, bookOf-tablesOf, soundTables-tablesOf}
 use Rattle.preservation.proofs.SoundKept.{post-keeps-sound}
 use Rattle.preservation.proofs.RowsKept.{RowKept, post-keeps-rows}
+use Rattle.posting.specs.Posts.{Posts}
 use Rattle.sound_passages.specs.Trees.{Grown}
 use Rattle.batch_index.specs.Index.{onSide, ofSide, IndexOf, IndexedTo, Indexed}
 
@@ -81,45 +82,47 @@ module _ (j i : List ℤ) (n : ℕ) (kept : (k : ℕ) → k < n → RowKept (row
         };
       }
 
+-- ---- the tables of a sound book
+
+module _ (b : Book) (s : sound b ≡ true) where
+  fits : length (b .rows) ≤ b .room
+  fits = rows-le (b .day) b (sound-facts b s .near)
+
+  written-used : rowsUsed (tablesOf b) ≡ length (b .rows)
+  written-used = used-tablesOf b fits
+
+  written-row : (k : ℕ) → k < length (b .rows) → getD (b .rows) k blank ≡ rowAt (tablesOf b .journal) k
+  written-row k h =
+      let e : b .rows ≡ rowsOf (tablesOf b .journal) (rowsUsed (tablesOf b)) =
+      sym (ap (λ (c : Book). c .rows) (bookOf-tablesOf b fits)) ∙ sound-rows (tablesOf b) (soundTables-tablesOf b s) in
+      ap (λ (rows : List Row). getD rows k blank) e ∙ tabulate-at (rowAt (tablesOf b .journal)) (rowsUsed (tablesOf b)) k blank (rw written-used h)
+
 -- ---- the tables after an event
 
 module _ (t : Tables) (s : soundTables t ≡ true) (e : Instruction) where
-  after : Book
+  abbrev pub after : Book
   after = post (bookOf t) e .book
 
   after-sound : sound after ≡ true
-  unfolding after
   after-sound = post-keeps-sound (bookOf t) e (facts-sound (bookOf t) (sound-book t s))
 
-  after-used : rowsUsed (tablesOf after) ≡ length (after .rows)
-  after-used = used-tablesOf after (rows-le (after .day) after (sound-facts after after-sound .near))
-
-  after-row : (k : ℕ) → k < length (after .rows) → getD (after .rows) k blank ≡ rowAt (tablesOf after .journal) k
-  after-row k h =
-      let fits = rows-le (after .day) after (sound-facts after after-sound .near) in
-      let e : after .rows ≡ rowsOf (tablesOf after .journal) (rowsUsed (tablesOf after)) =
-      sym (ap (λ (b : Book). b .rows) (bookOf-tablesOf after fits)) ∙ sound-rows (tablesOf after) (soundTables-tablesOf after after-sound) in
-      ap (λ (rows : List Row). getD rows k blank) e ∙ tabulate-at (rowAt (tablesOf after .journal)) (rowsUsed (tablesOf after)) k blank (rw after-used h)
-
   -- no row goes away
-  pub used-posted : rowsUsed t ≤ rowsUsed (tablesOf (post (bookOf t) e .book))
-  unfolding after
-  used-posted = omega (arith, length-sound-rows t s, post-keeps-rows (bookOf t) e .longer, after-used)
+  pub used-posted : rowsUsed t ≤ rowsUsed (tablesOf after)
+  used-posted = omega (arith, length-sound-rows t s, post-keeps-rows (bookOf t) e .longer, written-used after after-sound)
 
-  row-posted : (k : ℕ) → k < rowsUsed t → RowKept (rowAt (t .journal) k) (rowAt (tablesOf (post (bookOf t) e .book) .journal) k)
-  unfolding after
+  row-posted : (k : ℕ) → k < rowsUsed t → RowKept (rowAt (t .journal) k) (rowAt (tablesOf after .journal) k)
   row-posted k h =
       let l : k < length (bookOf t .rows) = rw (length-sound-rows t s) h in
       let m : k < length (after .rows) = omega (arith, post-keeps-rows (bookOf t) e .longer) in
       let p : getD (bookOf t .rows) k blank ≡ rowAt (t .journal) k = rw (sound-rows t s) (tabulate-at (rowAt (t .journal)) (rowsUsed t) k blank h) in
-      rw (← p, ← after-row k m) (post-keeps-rows (bookOf t) e .each k l)
+      rw (← p, ← written-row after after-sound k m) (post-keeps-rows (bookOf t) e .each k l)
 
   -- the index of the rows before an event is one of the tables after it
-  pub index-posted : (cells seats : List ℕ) → Indexed t cells seats → IndexedTo (tablesOf (post (bookOf t) e .book)) (rowsUsed t) cells seats
-  index-posted = index-kept (t .journal) (tablesOf (post (bookOf t) e .book) .journal) (rowsUsed t) row-posted
+  pub index-posted : (cells seats : List ℕ) → Indexed t cells seats → IndexedTo (tablesOf after) (rowsUsed t) cells seats
+  index-posted = index-kept (t .journal) (tablesOf after .journal) (rowsUsed t) row-posted
 
-  -- so the index can be brought up to date: the tables u are those after the event, which found `before` rows
-  pub posted-updatable : (u : Tables) (before : ℕ) (cells seats : List ℕ) → u ≡ tablesOf (post (bookOf t) e .book) → before ≡ rowsUsed t → Indexed t cells seats
-      → (soundTables u ≡ true) × (before ≤ rowsUsed u) × IndexedTo u before cells seats
-  unfolding after
-  posted-updatable u before cells seats p b x = rw (p, b) (soundTables-tablesOf after after-sound, used-posted, index-posted cells seats x)
+-- what update_index asks of the tables after an event that was posted
+pub update-asked : (t u : Tables) (e : Instruction) (r : Answer) (before : ℕ) → before ≡ rowsUsed t → soundTables t ≡ true → Posts t u e r → (cells seats : List ℕ)
+    → Indexed t cells seats → (soundTables u ≡ true) × (before ≤ rowsUsed u) × IndexedTo u before cells seats
+update-asked t u e r before b s p cells seats x =
+    rw (p .tables, b) (soundTables-tablesOf (post (bookOf t) e .book) (after-sound t s e), used-posted t s e, index-posted t s e cells seats x)

@@ -1,6 +1,6 @@
 // The index that a batch keeps of the journal in two arrays of its own, so that no event searches all rows: the trees of passage numbers
 // and, for each account, from which row on something of its sources and of its debits can be left, and the sums of both. Uses lists,
-// records, rules, tables, row_tests, sound_passages, account_sums, posting and lookups.
+// records, rules, tables, row_tests, sound_passages, account_sums, posting and lookups, and laws of preservation and tick_base.
 use lookups::Lookup;
 use lookups::RESULT_EVENT;
 use lookups::TOLL_EVENT;

@@ -12,7 +12,7 @@ index-rows-requires : tie.Need-index-rows-requires
 index-rows-requires c κs =
     let g = c .before .before in
     let s = g .before in
-    (rw (g .get .ensures) (sound-indexable _ (s .pre .0)), rw (g .get .ensures) (s .pre .1), s .pre .2)
+    (rw (g .get .ensures) (sound-indexable _ (s .pre .0)), omega (arith, g .get .ensures, s .pre .1), s .pre .2)
 
 move-first-requires : tie.Need-move-first-requires
 move-first-requires c κs =
