@@ -4,7 +4,7 @@ use native.Mathlib.Omega.{arith}
 use mathlib.Core.Path.{_∙_}
 use Rattle.rules.proofs.TableLaws.{header-length}
 use Rattle.answering.proofs.AnswerLaws.{answer-storable}
-use Rattle.batch_index.proofs.KeptLaws.{posted-updatable}
+use Rattle.batch_index.proofs.KeptLaws.{update-asked}
 use borrow.Author.Needs.{needs}
 use Rattle.batch_call.proofs.post_record.Statement.{statement}
 use Rattle.batch_call.proofs.post_record.Tie as tie
@@ -24,7 +24,7 @@ post-known-requires c κs = search needs
 update-index-requires : tie.Need-update-index-requires
 update-index-requires c κs =
     let s = c .before .before .before .before .before .before .before .before .before .before .before .before .before .before .before .before .before .before .before .before .before in
-    posted-updatable _ (s .pre .0) _ _ _ _ _ (c .before .before .before .before .before .before .before .before .post-known .ensures .tables) (c .before .before .before .before .before .before .before .before .before .before .before .before .before .before .before .before .before .before .get .ensures) (s .pre .2)
+    update-asked _ _ _ _ _ (c .before .before .before .before .before .before .before .before .before .before .before .before .before .before .before .before .before .before .get .ensures) (s .pre .0) (c .before .before .before .before .before .before .before .before .post-known .ensures) _ _ (s .pre .2)
 
 write-answer-requires : tie.Need-write-answer-requires
 write-answer-requires c κs =
