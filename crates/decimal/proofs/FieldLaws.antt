@@ -134,11 +134,11 @@ pub fields-over : (whole rest : List (List ℕ)) (old values : List ℤ) (n : �
 fields-over whole rest old values n r h =
     rw (ne-eqb (length whole) n (λ q. omega (arith, r .counted))) refl
 
--- ---- what the kit's search for a comma finds
+-- ---- what the kit's search for a byte finds: its part of a list is the slice
 
-pub found : (line : List ℕ) (end from stop : ℕ) → stop ≡ from + indexOf 44 (part from end line) → stop ≡ from + indexOf 44 (slice from end line)
+pub found : (byte : ℕ) (bs : List ℕ) (from to stop : ℕ) → stop ≡ from + indexOf byte (part from to bs) → stop ≡ from + indexOf byte (slice from to bs)
 unfolding part
-found line end from stop e = e
+found byte bs from to stop e = e
 
 -- the field up to there, the last one or not, states no number
 pub bad-at : (line : List ℕ) (end from stop : ℕ) (whole : List (List ℕ)) (old values : List ℤ) (i n : ℕ)

@@ -6,14 +6,6 @@ use native.Mathlib.Omega.{arith}
 use native.Mathlib.Numerals.{add-one}
 use lib.ListN.{length, getD, set, take, drop, length-set}
 use lib.Seq.{slice, slice-empty, length-take-le, take-suc, take-suc-set, drop-append-le, drop-set-lt, drop-drop, getD-drop}
-use Rattle.bytes.specs.Bytes.{indexOf, slice as part}
-
--- ---- the kit's search
-
--- the kit's part of a list is the slice
-pub found : (bs : List ℕ) (from to stop : ℕ) → stop ≡ from + indexOf 10 (part from to bs) → stop ≡ from + indexOf 10 (slice from to bs)
-unfolding part
-found bs from to stop e = e
 
 -- ---- a slice grows
 

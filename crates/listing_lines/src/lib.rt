@@ -13,6 +13,7 @@ use tables::layout::OPENING_WIDTH;
 ghost use Prim.Native.Nat.{_+_, _≤_, _<_};
 ghost use lib.ListN.{length};
 ghost use Rattle.rules.specs.Tables.{tablesAt};
+ghost use Rattle.listing_rules.specs.Listing.{mostLines};
 ghost use Rattle.listing_lines.specs.Lines.{Ready, Bad, Taken};
 
 // Whether a line is good, and where what is printed for it ends.
@@ -23,7 +24,7 @@ pub struct Line {
 
 // A bad line, n lines before it.
 fn bad_line(out: &mut [u8], at: usize, n: u64) -> Line
-    requires { ⌜ (at + 30 ≤ length (now out)) × (n < 18446744073709551615) ⌝ }
+    requires { ⌜ (at + 30 ≤ length (now out)) × (n < mostLines) ⌝ }
     ensures { λ r. ⌜ Bad n (now (out .entry)) (now (out .exit)) at r ⌝ }
 {
     let end = write_bad_line(out, at, n + 1);
@@ -105,7 +106,7 @@ fn event_line(
     out: &mut [u8],
     at: usize,
 ) -> Line
-    requires { ⌜ (at + 126 ≤ length (now out)) × (3 ≤ n) × (n < 18446744073709551615) × Ready n (tablesAt (now header) (now accounts) (now journal)) ⌝ }
+    requires { ⌜ (at + 126 ≤ length (now out)) × (3 ≤ n) × (n < mostLines) × Ready n (tablesAt (now header) (now accounts) (now journal)) ⌝ }
     ensures { λ r. ⌜ Taken n (tablesAt (now (header .entry)) (now (accounts .entry)) (now (journal .entry))) (tablesAt (now (header .exit)) (now (accounts .exit)) (now (journal .exit))) (now (line .entry)) (now (out .entry)) (now (out .exit)) at r ⌝ }
 {
     let mut values = [0i64; 7];
@@ -131,7 +132,7 @@ pub fn take_line(
     out: &mut [u8],
     at: usize,
 ) -> Line
-    requires { ⌜ (at + 126 ≤ length (now out)) × (n < 18446744073709551615) × Ready n (tablesAt (now header) (now accounts) (now journal)) ⌝ }
+    requires { ⌜ (at + 126 ≤ length (now out)) × (n < mostLines) × Ready n (tablesAt (now header) (now accounts) (now journal)) ⌝ }
     ensures { λ r. ⌜ Taken n (tablesAt (now (header .entry)) (now (accounts .entry)) (now (journal .entry))) (tablesAt (now (header .exit)) (now (accounts .exit)) (now (journal .exit))) (now (line .entry)) (now (out .entry)) (now (out .exit)) at r ⌝ }
 {
     match n {

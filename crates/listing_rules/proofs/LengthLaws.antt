@@ -10,6 +10,7 @@ use borrow.Author.Tests.{eqb-true}
 use lib.ListN.{length}
 use Rattle.lists.specs.Tests.{_is_}
 use Rattle.lists.specs.Lists.{sumBy}
+use Rattle.lists.proofs.TestLaws.{and-left, and-right}
 use Rattle.decimal.specs.declared.Number.{Number}
 use Rattle.decimal.specs.Decimal.{plain, minus, numberOf, inFirst, fieldsOf, allNumbers, isNumbers}
 use Rattle.decimal.proofs.ReadingLaws.{magnitude-long, minus-past, plain-past}
@@ -18,18 +19,13 @@ use Rattle.listing_rules.specs.Listing.{opens, isGood}
 
 -- ---- lengths
 
--- both hold
-both : (a b : Bool) → (a && b) ≡ true → (a ≡ true) × (b ≡ true)
-both true b e = (refl, e)
-both false b e = absurd (true≢false (sym e))
-
 -- the same bytes are as many
 same-length : (xs ys : List ℕ) → same xs ys ≡ true → length xs ≡ length ys
 unfolding same
 same-length [] [] e = refl
 same-length [] (y ∷ ys) e = absurd (true≢false (sym e))
 same-length (x ∷ xs) [] e = absurd (true≢false (sym e))
-same-length (x ∷ xs) (y ∷ ys) e = omega (arith, same-length xs ys (both (x is y) (same xs ys) e .1))
+same-length (x ∷ xs) (y ∷ ys) e = omega (arith, same-length xs ys (and-right (x is y) (same xs ys) e))
 
 -- a field and the comma or end after it
 abbrev width : List ℕ → ℕ
@@ -64,15 +60,15 @@ numbers-width : (fs : List (List ℕ)) → allNumbers fs ≡ true → sumBy widt
 unfolding allNumbers sumBy
 numbers-width [] e = omega arith
 numbers-width (f ∷ fs) e =
-    let h = both (numberOf f .ok) (allNumbers fs) e in
-    omega (arith, number-width f (h .0), numbers-width fs (h .1))
+    omega (arith, number-width f (and-left (numberOf f .ok) (allNumbers fs) e), numbers-width fs (and-right (numberOf f .ok) (allNumbers fs) e))
 
 -- so many numbers, and the commas between them
 line-width : (n : ℕ) (l : List ℕ) → isNumbers n l ≡ true → length l + 1 ≤ 21 * n
 unfolding isNumbers
 line-width n l e =
-    let h = both (eqb (length (fieldsOf l)) n) (allNumbers (fieldsOf l)) e in
-    omega (arith, eqb-true (length (fieldsOf l)) n (h .0), numbers-width (fieldsOf l) (h .1), fields-width l)
+    let counted : Bool = eqb (length (fieldsOf l)) n in
+    let numbers : Bool = allNumbers (fieldsOf l) in
+    omega (arith, eqb-true (length (fieldsOf l)) n (and-left counted numbers e), numbers-width (fieldsOf l) (and-right counted numbers e), fields-width l)
 
 -- what is not true is false
 refuted : (b : Bool) → (b ≡ true → ⊥) → b ≡ false
@@ -84,6 +80,6 @@ refuted false h = refl
 pub long-bad : (n : ℕ) (l : List ℕ) → 230 < length l → isGood n l ≡ false
 unfolding isGood opens bytesOf
 long-bad zero l h = refuted _ (λ e. omega (arith, same-length l _ e))
-long-bad (suc zero) l h = refuted _ (λ e. omega (arith, line-width 11 l (both _ _ e .0)))
+long-bad (suc zero) l h = refuted _ (λ e. omega (arith, line-width 11 l (and-left _ _ e)))
 long-bad (suc (suc zero)) l h = refuted _ (λ e. omega (arith, same-length l _ e))
 long-bad (suc (suc (suc n))) l h = refuted _ (λ e. omega (arith, line-width 7 l e))

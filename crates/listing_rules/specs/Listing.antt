@@ -22,6 +22,10 @@ listedAccounts = 64
 abbrev pub listedRows : ℕ
 listedRows = 512
 
+-- as many lines as a 64-bit number counts
+abbrev pub mostLines : ℕ
+mostLines = 18_446_744_073_709_551_615
+
 -- the tables before line 2
 unfoldable pub listingTables : Tables
 listingTables = record {

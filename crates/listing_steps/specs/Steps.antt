@@ -8,7 +8,7 @@ use lib.Seq.{slice}
 use Rattle.bytes.specs.Bytes.{indexOf}
 use Rattle.rules.specs.Tables.{Tables, bookOf}
 use Rattle.listing_rules.specs.Texts.{linesOf}
-use Rattle.listing_rules.specs.Listing.{listed}
+use Rattle.listing_rules.specs.Listing.{mostLines, listed}
 use Rattle.listing_text.specs.Puts.{Puts}
 use Rattle.listing_lines.specs.Lines.{Ready}
 use Rattle.listing_steps.specs.declared.Place.{Place}
@@ -19,7 +19,7 @@ pub record Stands (t : Tables) (input out : List ℕ) (p : Place) : Type 0 where
   pub from : p .from ≤ p .to
   pub to : p .to ≤ length input
   pub room : p .at + 126 ≤ length out
-  pub few : p .lines < 18446744073709551615
+  pub few : p .lines < mostLines
 
 -- the bytes read and not taken, and then more, listed after the lines taken
 unfoldable pub toList : Tables → List ℕ → Place → List ℕ → List ℕ

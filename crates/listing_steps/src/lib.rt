@@ -13,7 +13,7 @@ ghost use lib.Seq.{slice};
 ghost use Rattle.bytes.specs.Bytes.{indexOf};
 ghost use Rattle.rules.specs.Tables.{tablesAt, bookOf};
 ghost use Rattle.listing_rules.specs.Texts.{linesOf};
-ghost use Rattle.listing_rules.specs.Listing.{listed};
+ghost use Rattle.listing_rules.specs.Listing.{mostLines, listed};
 ghost use Rattle.listing_text.specs.Puts.{Puts};
 ghost use Rattle.listing_lines.specs.Lines.{Ready};
 ghost use Rattle.listing_steps.specs.Steps.{Stands, Stepped};
@@ -127,7 +127,7 @@ pub fn write_rest(
     lines: u64,
     out: &mut [u8],
 ) -> usize
-    requires { ⌜ Ready lines (tablesAt (now header) (now accounts) (now journal)) × (indexOf 10 (now rest) ≡ length (now rest)) × (63610 ≤ length (now out)) × (lines < 18446744073709551615) ⌝ }
+    requires { ⌜ Ready lines (tablesAt (now header) (now accounts) (now journal)) × (indexOf 10 (now rest) ≡ length (now rest)) × (63610 ≤ length (now out)) × (lines < mostLines) ⌝ }
     ensures { λ r. ⌜ Puts (now (out .entry)) (now (out .exit)) 0 r (listed lines (bookOf (tablesAt (now (header .entry)) (now (accounts .entry)) (now (journal .entry)))) (linesOf (now (rest .entry)))) ⌝ }
 {
     if rest.len() == 0 {
