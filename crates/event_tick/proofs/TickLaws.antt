@@ -37,7 +37,8 @@ use Rattle.posting_laws.proofs.WrittenLaws.{Written}
 use Rattle.tick_base.specs.Midway.{Midway}
 use Rattle.tick_base.proofs.MidwayLaws.{written-written}
 use Rattle.tick_holds.specs.Holds.{DuskRows}
-use Rattle.event_tick.specs.TickEvent.{tickRefusals}
+use Rattle.event_tick.specs.declared.Judged.{Judged}
+use Rattle.event_tick.specs.TickEvent.{tickRefusals, Judges}
 
 -- ---- the number
 
@@ -75,6 +76,10 @@ pub tick-by : (b : Book) (e : Instruction) → Sound b → e .kind ≡ 9 → (f 
     → ltb (b .room) (length (b .rows) + feesAdded b + refundsAdded b) ≡ r → first ((2, not f) ∷ (12, d) ∷ (13, r) ∷ []) ≡ answerNumber b e
 unfolding tickRefusals
 tick-by b e s k f d r p q w = rw (answer-tick b e s k, p, q, w)
+
+-- refused, there is no plan to tell of
+pub judged-refused : (b : Book) (e : Instruction) (j : Judged) (n : ℕ) → 0 < n → j .number ≡ n → n ≡ answerNumber b e → Judges b e j
+judged-refused b e j n l q w = record { number = q ∙ w; plan = λ z. absurd (omega arith) }
 
 -- ---- tables that hold a book of rows that fit
 

@@ -14,7 +14,7 @@ ghost use Rattle.account_sums.specs.Tallies.{Countable};
 ghost use Rattle.tick_base.specs.Remainders.{Remainders};
 
 // Row i, to its account's money or to what the account owes.
-fn add_remainder(
+pub fn add_remainder(
     journal: &[i64],
     used: usize,
     i: usize,

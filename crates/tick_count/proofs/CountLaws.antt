@@ -1,6 +1,6 @@
 -- Laws behind the counts of a tick: the fees of a header, the rows that a toll brings, the shares of a row in the sums.
 use mathlib.Core.Path.{_≡_, refl, sym, ap, _∙_}
-use mathlib.Core.Bool.{Bool, true, false, not, cond, _&&_}
+use mathlib.Core.Bool.{Bool, true, false, not, cond, _&&_, _||_}
 use Prim.Native.Nat.{ℕ, zero, suc, _+_, _-_, _*_, _≤_, _<_}
 use native.Mathlib.Omega.{arith}
 use native.Mathlib.Decide.{decLt, ℕ-discrete}
@@ -10,13 +10,14 @@ use lib.ListN.{length, getD}
 use lib.Dec.{eqb, leb, ltb}
 use borrow.Author.Tests.{eq-eqb, ne-eqb, le-leb, lt-leb, lt-ltb, le-ltb, ltb-true}
 use Rattle.lists.specs.Tests.{_is_}
-use Rattle.lists.specs.Lists.{sumBy, exists, count, one, gather}
+use Rattle.lists.specs.Lists.{sumBy, exists, count, one, gather, gatherFrom, tabulate}
+use Rattle.lists.proofs.SumLaws.{sumBy-more}
 use Rattle.lists.proofs.TestLaws.{and-false}
 use Rattle.lists.proofs.GatherLaws.{length-gather-same, length-gather-tabulate}
 use Rattle.lists.proofs.ListLaws.{tabulate-at, length-tabulate}
 use Rattle.records.specs.Layout.{dayPlace, headerSchedule}
 use Rattle.records.specs.Encoding.{word, rowAt, rowsOf, accountAt, accountsOf}
-use Rattle.rules.specs.Limits.{holdDays, closingDays, mostRows, highestRefund}
+use Rattle.rules.specs.Limits.{closingDays, mostRows, mostAccounts}
 use Rattle.rules.specs.Schedule.{Schedule, stageFee}
 use Rattle.rules.specs.Rows.{Row, blank, heldToll, source, debit}
 use Rattle.rules.specs.Soundness.{kindFits}
@@ -30,9 +31,10 @@ use Rattle.account_sums.specs.Tallies.{Tallied, moneyOf, owedOf}
 use Rattle.account_sums.proofs.SumsLaws.{Share, source-no-debit, no-source-debit}
 use Rattle.rules.proofs.TableLaws.{sound-book, sound-rows}
 use Rattle.rules.proofs.StorableLaws.{accounts-le}
-use Rattle.posting.proofs.BookLaws.{day-read, schedule-read}
+use Rattle.posting.proofs.BookLaws.{day-read, schedule-read, used-small, count-small}
 use Rattle.tick_base.specs.Remainders.{Remainders, daysOver}
-use Rattle.tick_count.specs.Counts.{staysOf, refundBy, refundAt}
+use Rattle.tick_count.specs.Counts.{staysOf, refundBy, refundAt, RowsCounted, Planned}
+use Rattle.tick_count.specs.declared.rows.RowCounts.{RowCounts}
 
 -- ---- the fee row of a toll
 
@@ -64,6 +66,35 @@ pub share-stays : (today : ℕ) → Share (staysOf today) (λ r. heldToll r && n
 unfolding staysOf staysHeld
 share-stays today = record { form = λ n r. refl }
 
+-- ---- one row more
+
+module _ (h t : List ℤ) (today : ℕ) (money owed stays : List ℕ) where
+  pub rows-none : Remainders t money owed 0 → Tallied (staysOf today) 257 t stays 0 → RowsCounted h t today money owed stays 0 (record { fees = 0; ending = false })
+  unfolding gatherFrom exists count sumBy tabulate
+  rows-none r s = record { sums = r; held = s; fees = refl; few = omega arith; ending = refl }
+
+  -- some row passes a test, with row n in view
+  exists-more : (u : Row → Bool) (n : ℕ) → exists u (rowsOf t (n + 1)) ≡ exists u (rowsOf t n) || u (rowAt t n)
+  unfolding exists count
+  exists-more u n = rw (sumBy-more (λ x. cond (u x) 1 0) (rowAt t) n) (go (sumBy (λ x. cond (u x) 1 0) (rowsOf t n)) (u (rowAt t n)))
+    where
+      go : (m : ℕ) (v : Bool) → ltb 0 (m + cond v 1 0) ≡ ltb 0 m || v
+      go zero true = refl
+      go zero false = refl
+      go (suc m) true = rw (lt-ltb 0 (suc m) (omega arith)) (lt-ltb 0 (suc m + 1) (omega arith))
+      go (suc m) false = rw (lt-ltb 0 (suc m) (omega arith)) (lt-ltb 0 (suc m + 0) (omega arith))
+
+  pub rows-more : (i : ℕ) (c : RowCounts) → RowsCounted h t today money owed stays i c → (money′ owed′ stays′ : List ℕ) → Remainders t money′ owed′ (i + 1)
+      → Tallied (staysOf today) 257 t stays′ (i + 1) → (fee : ℕ) → ((k : ℕ) → fee ≡ length (feeRow (scheduleFrom h headerSchedule) today k (rowAt t i))) → fee ≤ 1
+      → (ends : Bool) → ends ≡ holdEnds today (rowAt t i) → RowsCounted h t today money′ owed′ stays′ (i + 1) (record { fees = c .fees + fee; ending = c .ending || ends })
+  rows-more i c w money′ owed′ stays′ r s fee f l ends e = record {
+    sums = r;
+    held = s;
+    fees = omega (arith, w .fees, f (i + 1), length-gather-tabulate (feeRow (scheduleFrom h headerSchedule) today) (rowAt t) i);
+    few = omega (arith, w .few);
+    ending = rw (exists-more (holdEnds today) i, w .ending, e);
+  }
+
 -- ---- the refunds counted are those of the definition
 
 module _ (b : Book) (t : List ℤ) (stays owed′ money′ : List ℕ) (n : ℕ) (rows : b .rows ≡ rowsOf t n)
@@ -85,21 +116,27 @@ module _ (b : Book) (t : List ℤ) (stays owed′ money′ : List ℕ) (n : ℕ)
       length-gather-same (refundAt (b .day + 1) stays owed′ money′) (λ k x. one (willRefund b k x) blank) 1 (b .accounts) unused
       (λ k j e h. rw (at k (omega arith) (getD (b .accounts) j unused)))
 
--- ---- both counts, over sound tables
+-- ---- the plan, over sound tables
 
-module _ (t : Tables) (s : soundTables t ≡ true) (stays owed′ money′ : List ℕ) (h : Tallied (staysOf (word (t .header) dayPlace + 1)) 257 (t .journal) stays (rowsUsed t))
-    (r : Remainders (t .journal) money′ owed′ (rowsUsed t)) (fees refunds : ℕ)
-    (f : fees ≡ length (gather (feeRow (scheduleFrom (t .header) headerSchedule) (word (t .header) dayPlace + 1)) (rowsOf (t .journal) (rowsUsed t))))
-    (g : refunds ≡ length (gather (refundAt (word (t .header) dayPlace + 1) stays owed′ money′) (accountsOf (t .accounts) (accountsIn t)))) where
-  fees-told : fees ≡ feesAdded (bookOf t)
+module _ (t : Tables) (s : soundTables t ≡ true) (money′ owed′ stays : List ℕ) (c : RowCounts)
+    (w : RowsCounted (t .header) (t .journal) (word (t .header) dayPlace + 1) money′ owed′ stays (rowsUsed t) c) (refunds : ℕ)
+    (g : refunds ≡ length (gather (refundAt (word (t .header) dayPlace + 1) stays owed′ money′) (accountsOf (t .accounts) (accountsIn t)))) (l : refunds ≤ accountsIn t) where
+  fees-told : c .fees ≡ feesAdded (bookOf t)
   unfolding feesAdded
-  fees-told = rw (sound-rows t s, ← schedule-read t s, ← day-read t s) f
+  fees-told = rw (sound-rows t s, ← schedule-read t s, ← day-read t s) (w .fees)
 
   refunds-told : refunds ≡ refundsAdded (bookOf t)
-  refunds-told = g ∙ same ∙ refunds-counted (bookOf t) (t .journal) stays owed′ money′ (rowsUsed t) (sound-rows t s) (rw (day-read t s) at h) r (accounts-le (bookOf t .day) (bookOf t) (sound-book t s .near))
+  refunds-told = g ∙ same ∙ refunds-counted (bookOf t) (t .journal) stays owed′ money′ (rowsUsed t) (sound-rows t s) (rw (day-read t s) at (w .held)) (w .sums) (accounts-le (bookOf t .day) (bookOf t) (sound-book t s .near))
     where
       same : length (gather (refundAt (word (t .header) dayPlace + 1) stays owed′ money′) (accountsOf (t .accounts) (accountsIn t))) ≡ length (gather (refundAt (bookOf t .day + 1) stays owed′ money′) (bookOf t .accounts))
       same = unfold bookOf in refl
 
-  pub rows-counted : fees + refunds ≡ feesAdded (bookOf t) + refundsAdded (bookOf t)
-  rows-counted = omega (arith, fees-told, refunds-told)
+  pub added-few : c .fees + refunds ≤ mostRows + mostAccounts
+  added-few = omega (arith, w .few, used-small t s, count-small t s)
+
+  pub tick-planned : Planned (bookOf t) (record { added = c .fees + refunds; ending = c .ending })
+  tick-planned = record {
+    added = omega (arith, fees-told, refunds-told);
+    few = added-few;
+    ending = rw (sound-rows t s, ← day-read t s) (w .ending);
+  }

@@ -29,7 +29,7 @@ use Rattle.rules.proofs.StorableLaws.{row-storable, day-le, stage-le}
 use Rattle.rules.proofs.SoundnessLaws.{Sound}
 use Rattle.preservation.proofs.DisputeKept.{HeldToll, held-is}
 use Rattle.tick_rules.specs.Ticks.{freed, settleThose}
-use Rattle.tick_rules.proofs.FreedLaws.{atDawn, dawn, dawn-rows, settleThose-all, freed-settled}
+use Rattle.tick_rules.proofs.FreedLaws.{atDawn, dawn, dawn-rows, settleThose-all, freed-settled, none-ended}
 use Rattle.tables.specs.Changes.{RowsMapped}
 use Rattle.tables.proofs.ChangeLaws.{mapped-all}
 use Rattle.settlement.specs.Settling.{Journal, Settled}
@@ -37,7 +37,7 @@ use Rattle.account_sums.specs.Tallies.{Tallied}
 use Rattle.account_sums.proofs.SumsLaws.{Share}
 use Rattle.posting.proofs.BookLaws.{day-read, used-read, count-read, used-room, journal-settles}
 use Rattle.tick_base.proofs.MidwayLaws.{sound-midway, midway-row}
-use Rattle.tick_holds.specs.Holds.{endsOf, Ending, Dawning, RowsBecome, SettledThose, DuskRows}
+use Rattle.tick_holds.specs.Holds.{endsOf, Ending, Dawning, Ends, RowsBecome, SettledThose, DuskRows}
 
 -- ---- the share of a row
 
@@ -169,6 +169,12 @@ module _ (t : Tables) (s : soundTables t ≡ true) (ends : List ℕ) (u v : List
         ∙ rw (count-read t s) (sym (freed-settled (bookOf t) (sound-book t s))));
     rest = λ k h. d .rest k h ∙ m .left k h;
   }
+
+-- where no hold ends, the journal is as it was
+pub dusk-same : (t : Tables) (ending : Bool) → Ends t ending → ending ≡ false → DuskRows t (t .journal)
+dusk-same t ending e z =
+    let r : rowsOf (t .journal) (rowsUsed t) ≡ bookOf t .rows = sym (sound-rows t (e .sound)) in
+    record { size = refl; rows = r ∙ sym (none-ended (bookOf t) (sound-book t (e .sound)) (sym (e .told) ∙ z)); rest = λ k h. refl }
 
 -- ---- one row released, one account settled
 
