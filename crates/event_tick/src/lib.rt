@@ -35,6 +35,7 @@ fn unplanned(number: u64) -> Judged
     let plan = Plan {
         added: 0,
         ending: false,
+        closing: false,
     };
     Judged { number, plan }
 }
@@ -73,7 +74,7 @@ fn carry_out(
     free_and_settle(header, accounts, journal, plan.ending);
     put(header, DAY_PLACE, get(header, DAY_PLACE) + 1);
     let raised = raise_tolls(header, accounts, journal);
-    close_accounts(header, accounts, journal);
+    close_accounts(header, accounts, journal, plan.closing);
     posted(used, get(header, USED_PLACE) - used, raised, 0)
 }
 

@@ -1,9 +1,9 @@
 -- Laws behind the counts of a tick: the fees of a header, the rows that a toll brings, the shares of a row in the sums.
 use mathlib.Core.Path.{_≡_, refl, sym, ap, _∙_}
-use mathlib.Core.Bool.{Bool, true, false, not, cond, _&&_, _||_}
+use mathlib.Core.Bool.{Bool, true, false, not, cond, _&&_, _||_, true≢false}
 use Prim.Native.Nat.{ℕ, zero, suc, _+_, _-_, _*_, _≤_, _<_}
 use native.Mathlib.Omega.{arith}
-use native.Mathlib.Decide.{decLt, ℕ-discrete}
+use native.Mathlib.Numerals.{add-one}
 use mathlib.Core.List.{List, [], _∷_}
 use lib.IntN.{ℤ}
 use lib.ListN.{length, getD}
@@ -25,15 +25,15 @@ use Rattle.rules.specs.Settlement.{money, owed}
 use Rattle.rules.specs.Book.{Account, Pending, unused, Book}
 use Rattle.rules.specs.Tick.{holdEnds, rises, feeRow}
 use Rattle.rules.specs.Tables.{Tables, accountsIn, rowsUsed, scheduleFrom, bookOf, soundTables}
-use Rattle.tick_rules.specs.Ticks.{staysHeld, willRefund, feesAdded, refundsAdded}
-use Rattle.preservation.proofs.TollsRaised.{rising}
+use Rattle.tick_rules.specs.Ticks.{staysHeld, willRefund, willClose, NoneCloses, feesAdded, refundsAdded}
+use Rattle.tick_rules.proofs.UnclosedLaws.{no-refunds}
 use Rattle.account_sums.specs.Tallies.{Tallied, moneyOf, owedOf}
 use Rattle.account_sums.proofs.SumsLaws.{Share, source-no-debit, no-source-debit}
 use Rattle.rules.proofs.TableLaws.{sound-book, sound-rows}
 use Rattle.rules.proofs.StorableLaws.{accounts-le}
 use Rattle.posting.proofs.BookLaws.{day-read, schedule-read, used-small, count-small}
 use Rattle.tick_base.specs.Remainders.{Remainders, daysOver}
-use Rattle.tick_count.specs.Counts.{staysOf, refundBy, refundAt, RowsCounted, Planned}
+use Rattle.tick_count.specs.Counts.{staysOf, closeBy, NoneClosesBy, refundBy, refundAt, RowsCounted, Planned}
 use Rattle.tick_count.specs.declared.rows.RowCounts.{RowCounts}
 
 -- ---- the fee row of a toll
@@ -99,44 +99,68 @@ module _ (h t : List ℤ) (today : ℕ) (money owed stays : List ℕ) where
 
 module _ (b : Book) (t : List ℤ) (stays owed′ money′ : List ℕ) (n : ℕ) (rows : b .rows ≡ rowsOf t n)
     (s : Tallied (staysOf (b .day + 1)) 257 t stays n) (r : Remainders t money′ owed′ n) (few : length (b .accounts) ≤ 256) where
-  at : (k : ℕ) → k < 257 → (x : Account) → refundBy (b .day + 1) (getD stays k 0) (getD owed′ k 0) (getD money′ k 0) x ≡ willRefund b k x
-  unfolding refundBy willRefund daysOver exists count staysOf money owed
-  at k h x = rw (s .each k h, r .moneys .each k h, r .owings .each k h, rows) (test (x .state is Pending && leb (x .request + closingDays) (b .day + 1)) (sumBy (staysOf (b .day + 1) k) (rowsOf t n)) (ltb (sumBy (owedOf k) (rowsOf t n)) (sumBy (moneyOf k) (rowsOf t n))))
-    where
-      zero-test : (m : ℕ) → eqb m 0 ≡ not (ltb 0 m)
-      zero-test zero = refl
-      zero-test (suc m) = rw (lt-ltb 0 (suc m) (omega arith)) (ne-eqb (suc m) 0 (λ q. omega arith))
+  zero-test : (m : ℕ) → eqb m 0 ≡ not (ltb 0 m)
+  zero-test zero = refl
+  zero-test (suc m) = rw (lt-ltb 0 (suc m) (omega arith)) (ne-eqb (suc m) 0 (λ q. omega arith))
 
-      test : (p : Bool) (m : ℕ) (q : Bool) → p && eqb m 0 && q ≡ p && not (ltb 0 m) && q
-      test p m q = rw (zero-test m)
+  test : (p : Bool) (m : ℕ) (q : Bool) → p && eqb m 0 && q ≡ p && not (ltb 0 m) && q
+  test p m q = rw (zero-test m)
+
+  refund-at : (k : ℕ) → k < 257 → (x : Account) → refundBy (b .day + 1) (getD stays k 0) (getD owed′ k 0) (getD money′ k 0) x ≡ willRefund b k x
+  unfolding refundBy willRefund daysOver exists count staysOf money owed
+  refund-at k h x = rw (s .each k h, r .moneys .each k h, r .owings .each k h, rows) (test (x .state is Pending && leb (x .request + closingDays) (b .day + 1)) (sumBy (staysOf (b .day + 1) k) (rowsOf t n)) (ltb (sumBy (owedOf k) (rowsOf t n)) (sumBy (moneyOf k) (rowsOf t n))))
+
+  close-at : (k : ℕ) → k < 257 → (x : Account) → closeBy (b .day + 1) (getD stays k 0) (getD owed′ k 0) (getD money′ k 0) x ≡ willClose b k x
+  unfolding closeBy willClose daysOver exists count staysOf money owed
+  close-at k h x = rw (s .each k h, r .moneys .each k h, r .owings .each k h, rows) (test (x .state is Pending && leb (x .request + closingDays) (b .day + 1)) (sumBy (staysOf (b .day + 1) k) (rowsOf t n)) (leb (sumBy (owedOf k) (rowsOf t n)) (sumBy (moneyOf k) (rowsOf t n))))
+
+  pub none-closes : (a : List ℤ) (m : ℕ) → b .accounts ≡ accountsOf a m → NoneClosesBy (b .day + 1) stays owed′ money′ a m → NoneCloses b
+  none-closes a m e z k h =
+      let l : k < m = omega (arith, ap length e, length-tabulate (accountAt a) m) in
+      let x : getD (b .accounts) k unused ≡ accountAt a k = rw e (tabulate-at (accountAt a) m k unused l) in
+      let c : closeBy (b .day + 1) (getD stays (suc k) 0) (getD owed′ (suc k) 0) (getD money′ (suc k) 0) (accountAt a k) ≡ false = rw (add-one k) at (z k l) in
+      sym (close-at (suc k) (omega arith) (getD (b .accounts) k unused)) ∙ rw x c
 
   pub refunds-counted : length (gather (refundAt (b .day + 1) stays owed′ money′) (b .accounts)) ≡ refundsAdded b
   unfolding refundsAdded refundAt
   refunds-counted =
       length-gather-same (refundAt (b .day + 1) stays owed′ money′) (λ k x. one (willRefund b k x) blank) 1 (b .accounts) unused
-      (λ k j e h. rw (at k (omega arith) (getD (b .accounts) j unused)))
+      (λ k j e h. rw (refund-at k (omega arith) (getD (b .accounts) j unused)))
 
 -- ---- the plan, over sound tables
 
 module _ (t : Tables) (s : soundTables t ≡ true) (money′ owed′ stays : List ℕ) (c : RowCounts)
-    (w : RowsCounted (t .header) (t .journal) (word (t .header) dayPlace + 1) money′ owed′ stays (rowsUsed t) c) (refunds : ℕ)
-    (g : refunds ≡ length (gather (refundAt (word (t .header) dayPlace + 1) stays owed′ money′) (accountsOf (t .accounts) (accountsIn t)))) (l : refunds ≤ accountsIn t) where
+    (w : RowsCounted (t .header) (t .journal) (word (t .header) dayPlace + 1) money′ owed′ stays (rowsUsed t) c) where
   fees-told : c .fees ≡ feesAdded (bookOf t)
   unfolding feesAdded
   fees-told = rw (sound-rows t s, ← schedule-read t s, ← day-read t s) (w .fees)
 
-  refunds-told : refunds ≡ refundsAdded (bookOf t)
-  refunds-told = g ∙ same ∙ refunds-counted (bookOf t) (t .journal) stays owed′ money′ (rowsUsed t) (sound-rows t s) (rw (day-read t s) at (w .held)) (w .sums) (accounts-le (bookOf t .day) (bookOf t) (sound-book t s .near))
-    where
-      same : length (gather (refundAt (word (t .header) dayPlace + 1) stays owed′ money′) (accountsOf (t .accounts) (accountsIn t))) ≡ length (gather (refundAt (bookOf t .day + 1) stays owed′ money′) (bookOf t .accounts))
-      same = unfold bookOf in refl
+  ending-told : c .ending ≡ exists (holdEnds (bookOf t .day + 1)) (bookOf t .rows)
+  ending-told = rw (sound-rows t s, ← day-read t s) (w .ending)
 
-  pub added-few : c .fees + refunds ≤ mostRows + mostAccounts
-  added-few = omega (arith, w .few, used-small t s, count-small t s)
+  accounts-same : bookOf t .accounts ≡ accountsOf (t .accounts) (accountsIn t)
+  unfolding bookOf
+  accounts-same = refl
 
-  pub tick-planned : Planned (bookOf t) (record { added = c .fees + refunds; ending = c .ending })
-  tick-planned = record {
-    added = omega (arith, fees-told, refunds-told);
-    few = added-few;
-    ending = rw (sound-rows t s, ← day-read t s) (w .ending);
-  }
+  few : length (bookOf t .accounts) ≤ 256
+  few = accounts-le (bookOf t .day) (bookOf t) (sound-book t s .near)
+
+  -- no account closes
+  pub quiet-planned : NoneClosesBy (word (t .header) dayPlace + 1) stays owed′ money′ (t .accounts) (accountsIn t)
+      → Planned (bookOf t) (record { added = c .fees; ending = c .ending; closing = false })
+  quiet-planned z =
+      let n : NoneCloses (bookOf t) = none-closes (bookOf t) (t .journal) stays owed′ money′ (rowsUsed t) (sound-rows t s) (rw (day-read t s) at (w .held)) (w .sums) few (t .accounts) (accountsIn t) accounts-same (rw (day-read t s) at z) in
+      record { added = omega (arith, fees-told, no-refunds (bookOf t) n); few = omega (arith, w .few, used-small t s); ending = ending-told; closing = λ e. n }
+
+  -- one closes
+  module _ (refunds : ℕ) (g : refunds ≡ length (gather (refundAt (word (t .header) dayPlace + 1) stays owed′ money′) (accountsOf (t .accounts) (accountsIn t)))) (l : refunds ≤ accountsIn t) where
+    refunds-told : refunds ≡ refundsAdded (bookOf t)
+    refunds-told =
+        rw (day-read t s, ← accounts-same) at g
+        ∙ refunds-counted (bookOf t) (t .journal) stays owed′ money′ (rowsUsed t) (sound-rows t s) (rw (day-read t s) at (w .held)) (w .sums) few
+
+    pub added-few : c .fees + refunds ≤ mostRows + mostAccounts
+    added-few = omega (arith, w .few, used-small t s, count-small t s)
+
+    pub tick-planned : Planned (bookOf t) (record { added = c .fees + refunds; ending = c .ending; closing = true })
+    tick-planned = record { added = omega (arith, fees-told, refunds-told); few = added-few; ending = ending-told; closing = λ e. absurd (true≢false e) }

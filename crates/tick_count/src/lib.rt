@@ -1,5 +1,5 @@
 // The plan of a day tick, made on the tables before it writes anything: how many rows it adds, which are the fees of the tolls that will rise
-// and a refund for each account that will close with money left, and whether a hold ends. Uses lists, records, rules, preservation,
+// and a refund for each account that will close with money left, whether a hold ends, and whether an account closes. Uses lists, records, rules, preservation,
 // tick_rules, tables, account_sums, settlement, posting and tick_base.
 mod fees; // fees.rt: the fee of a toll that will rise
 mod holds; // holds.rt: the tolls that stay held and those whose hold ends
@@ -7,6 +7,7 @@ mod rows; // rows.rt: what the used rows come to, in one pass
 mod refunds; // refunds.rt: the accounts that will close with money left
 
 use account_sums::SEATS;
+use refunds::any_closes;
 use refunds::refunds_added;
 use rows::count_rows;
 use tables::layout::ACCOUNT_WIDTH;
@@ -19,10 +20,11 @@ ghost use Rattle.rules.specs.Tables.{bookOf, soundTables};
 ghost use Rattle.posting.specs.Posts.{tablesAt};
 ghost use Rattle.tick_count.specs.Counts.{Planned};
 
-// How many rows the tick adds, and whether a hold ends.
+// How many rows the tick adds, whether a hold ends, and whether an account closes.
 pub struct Plan {
     pub added: usize,
     pub ending: bool,
+    pub closing: bool,
 }
 
 // The sums are 6 KiB of the stack.
@@ -45,9 +47,17 @@ pub fn plan_tick(header: &[i64], accounts: &[i64], journal: &[i64]) -> Plan
         &mut stays,
     );
     let count = accounts.len() / ACCOUNT_WIDTH;
+    if !any_closes(accounts, count, today, &stays, &owed, &money) {
+        return Plan {
+            added: c.fees,
+            ending: c.ending,
+            closing: false,
+        };
+    }
     let refunds = refunds_added(accounts, count, today, &stays, &owed, &money);
     Plan {
         added: c.fees + refunds,
         ending: c.ending,
+        closing: true,
     }
 }

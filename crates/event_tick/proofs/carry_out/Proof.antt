@@ -3,7 +3,7 @@ use borrow.Author.Needs.{needs}
 use native.Mathlib.Omega.{arith}
 use Rattle.rules.proofs.TableLaws.{header-length}
 use Rattle.posting.proofs.BookLaws.{day-small, used-small}
-use Rattle.event_tick.proofs.StepLaws.{dusk-midway, dusk-room, late-midway, closing-room, end-header, end-longer, tick-posts}
+use Rattle.event_tick.proofs.StepLaws.{dusk-midway, dusk-room, late-closing, end-header, end-longer, tick-posts}
 use Rattle.event_tick.proofs.carry_out.Statement.{statement}
 use Rattle.event_tick.proofs.carry_out.Tie as tie
 
@@ -50,7 +50,7 @@ close-accounts-requires c κs =
     let d = dusk p .free-and-settle .ensures in
     let h = rw (p .before .get2 .ensures) at (p .put .ensures) in
     let w = rw h at (r .raise-tolls .ensures .1) in
-    (late-midway _ (a .sound) _ (a .kind) (a .taken) _ d _ w, closing-room _ (a .sound) _ (a .kind) (a .taken) _ d _ w)
+    late-closing _ (a .sound) _ (a .kind) (a .taken) _ d _ w _ (a .plan)
 
 get-requires-3 : tie.Need-get-requires-3
 get-requires-3 c κs =
