@@ -1,16 +1,15 @@
 -- An accepted event 9, step by step: the tables after each step hold the book after it.
-use mathlib.Core.Path.{_≡_, refl, sym, ap, _∙_}
+use mathlib.Core.Path.{_≡_, refl, sym, _∙_}
 use mathlib.Core.Logic.{_≢_}
-use mathlib.Core.Bool.{Bool, true, false, cond, _&&_}
-use Prim.Native.Nat.{ℕ, suc, _+_, _-_, _^_, _/_, _≤_, _<_}
+use mathlib.Core.Bool.{true, false}
+use Prim.Native.Nat.{ℕ, suc, _+_, _-_, _/_, _≤_, _<_}
 use native.Mathlib.Omega.{arith}
 use mathlib.Core.List.{List}
 use lib.ListN.{length, getD, set, length-set}
 use lib.IntN.{ℤ, pos}
-use lib.Dec.{eqb, ltb}
 use borrow.Author.Tests.{eqb-false, ltb-false}
-use Rattle.records.specs.Layout.{headerWidth, dayPlace, usedPlace, headerSchedule, rowWidth}
-use Rattle.records.specs.Encoding.{word, rowAt, rowsOf, accountsOf}
+use Rattle.records.specs.Layout.{headerWidth, dayPlace, usedPlace, rowWidth}
+use Rattle.records.specs.Encoding.{word}
 use Rattle.lists.specs.Tests.{_is_}
 use Rattle.lists.specs.Lists.{count}
 use Rattle.rules.specs.Limits.{finalDay}
@@ -18,8 +17,7 @@ use Rattle.rules.specs.Book.{unused, Instruction, Book, settled}
 use Rattle.rules.specs.Tick.{nextDay, endHolds, beforeRaising, rises, raiseTolls, raisedBy, closes, closeAccounts}
 use Rattle.rules.specs.Refusals.{after, lastDay, full, answerNumber}
 use Rattle.rules.specs.Posting.{newRows, removesTopUp, acceptance}
-use Rattle.rules.specs.Tables.{Tables, accountsIn, roomIn, rowsUsed, scheduleFrom, bookOf, lengthsFit, soundTables}
-use Rattle.rules.proofs.SoundnessLaws.{Near, Sound}
+use Rattle.rules.specs.Tables.{Tables, roomIn, rowsUsed, bookOf, soundTables}
 use Rattle.rules.proofs.TableLaws.{sound-book, header-length}
 use Rattle.preservation.proofs.Accepted.{Accepted, accepted}
 use Rattle.preservation.proofs.HoldsEnded.{beforeRaising-near}
@@ -31,7 +29,6 @@ use Rattle.tick_rules.proofs.QuietLaws.{near-late, after-tick}
 use Rattle.tick_rules.proofs.CountLaws.{rows-after, late-fits}
 use Rattle.posting.specs.Posts.{tablesAt, acceptanceOf, Posts}
 use Rattle.posting.proofs.BookLaws.{day-read, used-read, room-read, schedule-read}
-use Rattle.posting_laws.proofs.RefusalLaws.{at-kind}
 use Rattle.posting_laws.proofs.AddedLaws.{posts-accepted}
 use Rattle.posting_laws.proofs.HeaderLaws.{schedule-same, word-put, word-others}
 use Rattle.posting_laws.proofs.WrittenLaws.{Written}

@@ -40,7 +40,7 @@ fn unplanned(number: u64) -> Judged
     Judged { number, plan }
 }
 
-// 14 never is the reason: 8,192 sources of at most 1,300,000 each do not pass the ceiling.
+// The tests in checking order. 14 never is the reason: 8,192 sources of at most 1,300,000 each do not pass the ceiling.
 fn judge_tick(header: &[i64], accounts: &[i64], journal: &[i64], e: Instruction) -> Judged
     requires { ⌜ (soundTables (tablesAt (now header) (now accounts) (now journal)) ≡ true) × (e .kind ≡ 9) ⌝ }
     ensures { λ j. ⌜ Judges (bookOf (tablesAt (now (header .entry)) (now (accounts .entry)) (now (journal .entry)))) e j ⌝ }

@@ -8,7 +8,6 @@ use plain_rows::small_settled;
 use table_rows::kind_at;
 use tables::codes::CREDIT;
 use tables::codes::PAYMENT;
-ghost use mathlib.Core.Path.{_≡_};
 ghost use Prim.Native.Nat.{_+_, _<_};
 ghost use Rattle.account_sums.specs.Tallies.{Countable};
 ghost use Rattle.tick_base.specs.Remainders.{Remainders};

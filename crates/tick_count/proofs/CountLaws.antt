@@ -1,26 +1,24 @@
 -- Laws behind the counts of a tick: the fees of a header, the rows that a toll brings, the shares of a row in the sums.
 use mathlib.Core.Path.{_≡_, refl, sym, ap, _∙_}
 use mathlib.Core.Bool.{Bool, true, false, not, cond, _&&_, _||_, true≢false}
-use Prim.Native.Nat.{ℕ, zero, suc, _+_, _-_, _*_, _≤_, _<_}
+use Prim.Native.Nat.{ℕ, zero, suc, _+_, _-_, _≤_, _<_}
 use native.Mathlib.Omega.{arith}
 use native.Mathlib.Numerals.{add-one}
-use mathlib.Core.List.{List, [], _∷_}
+use mathlib.Core.List.{List}
 use lib.IntN.{ℤ}
 use lib.ListN.{length, getD}
 use lib.Dec.{eqb, leb, ltb}
-use borrow.Author.Tests.{eq-eqb, ne-eqb, le-leb, lt-leb, lt-ltb, le-ltb, ltb-true}
+use borrow.Author.Tests.{ne-eqb, lt-ltb, le-ltb}
 use Rattle.lists.specs.Tests.{_is_}
 use Rattle.lists.specs.Lists.{sumBy, exists, count, one, gather, gatherFrom, tabulate}
 use Rattle.lists.proofs.SumLaws.{sumBy-more}
-use Rattle.lists.proofs.TestLaws.{and-false}
 use Rattle.lists.proofs.GatherLaws.{length-gather-same, length-gather-tabulate}
 use Rattle.lists.proofs.ListLaws.{tabulate-at, length-tabulate}
 use Rattle.records.specs.Layout.{dayPlace, headerSchedule}
 use Rattle.records.specs.Encoding.{word, rowAt, rowsOf, accountAt, accountsOf}
 use Rattle.rules.specs.Limits.{closingDays, mostRows, mostAccounts}
 use Rattle.rules.specs.Schedule.{Schedule, stageFee}
-use Rattle.rules.specs.Rows.{Row, blank, heldToll, source, debit}
-use Rattle.rules.specs.Soundness.{kindFits}
+use Rattle.rules.specs.Rows.{Row, blank, heldToll}
 use Rattle.rules.specs.Settlement.{money, owed}
 use Rattle.rules.specs.Book.{Account, Pending, unused, Book}
 use Rattle.rules.specs.Tick.{holdEnds, rises, feeRow}
@@ -28,7 +26,7 @@ use Rattle.rules.specs.Tables.{Tables, accountsIn, rowsUsed, scheduleFrom, book
 use Rattle.tick_rules.specs.Ticks.{staysHeld, willRefund, willClose, NoneCloses, feesAdded, refundsAdded}
 use Rattle.tick_rules.proofs.UnclosedLaws.{no-refunds}
 use Rattle.account_sums.specs.Tallies.{Tallied, moneyOf, owedOf}
-use Rattle.account_sums.proofs.SumsLaws.{Share, source-no-debit, no-source-debit}
+use Rattle.account_sums.proofs.SumsLaws.{Share}
 use Rattle.rules.proofs.TableLaws.{sound-book, sound-rows}
 use Rattle.rules.proofs.StorableLaws.{accounts-le}
 use Rattle.posting.proofs.BookLaws.{day-read, schedule-read, used-small, count-small}

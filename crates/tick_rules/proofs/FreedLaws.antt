@@ -1,6 +1,5 @@
 -- The settlement after holds have ended: only accounts of which a hold ended can have something to move.
 use mathlib.Core.Path.{_≡_, refl, sym, ap, _∙_}
-use mathlib.Core.Logic.{_≢_}
 use mathlib.Core.Bool.{Bool, true, false, cond, _&&_}
 use Prim.Native.Nat.{ℕ, zero, suc, _+_, _≤_, _<_}
 use native.Mathlib.Omega.{arith}
@@ -13,8 +12,8 @@ use Rattle.lists.specs.Lists.{only, exists}
 use Rattle.lists.proofs.TestLaws.{and-false}
 use Rattle.lists.proofs.ExistsLaws.{exists-none, none-exists}
 use Rattle.lists.proofs.GatherLaws.{map-at}
-use Rattle.rules.specs.Rows.{Row, blank, remaining, sourceOf, debitOf}
-use Rattle.rules.specs.Settlement.{money, debt, moved, settle, settleAccounts, owed}
+use Rattle.rules.specs.Rows.{Row, blank}
+use Rattle.rules.specs.Settlement.{moved, settle, settleAccounts}
 use Rattle.rules.specs.Book.{Book, settled}
 use Rattle.rules.specs.Events.{release}
 use Rattle.rules.specs.Tick.{nextDay, holdEnds, endHolds, beforeRaising}
@@ -23,7 +22,7 @@ use Rattle.rules.proofs.SettlementAccountsLaws.{settleAccounts-none}
 use Rattle.rules.proofs.SoundnessLaws.{Near, Sound}
 use Rattle.preservation.proofs.NamedLaws.{sound-moved}
 use Rattle.tick_rules.specs.Ticks.{freed, settleThose}
-use Rattle.tick_rules.proofs.KeptLaws.{gist, Kept, money-kept, debt-kept, owed-kept}
+use Rattle.tick_rules.proofs.KeptLaws.{gist, Kept, money-kept, debt-kept}
 
 -- ---- accounts that have nothing to move need no settlement
 

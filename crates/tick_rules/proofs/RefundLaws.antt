@@ -9,15 +9,15 @@ use native.Mathlib.Decide.{ℕ-discrete}
 use mathlib.Core.List.{List}
 use lib.ListN.{length, getD}
 use lib.Dec.{eqb, leb, ltb}
-use borrow.Author.Tests.{eqb-true, eq-eqb, ne-eqb, lt-ltb, le-leb, ltb-true, ltb-false, not-true, not-false}
-use Rattle.lists.specs.Lists.{sumBy, only, exists}
+use borrow.Author.Tests.{eqb-true, eq-eqb, ne-eqb, lt-ltb, le-leb, ltb-true, not-true}
+use Rattle.lists.specs.Lists.{only, exists}
 use Rattle.lists.proofs.TestLaws.{and-left, and-right, and-false}
 use Rattle.lists.proofs.SumLaws.{sumBy-at-le, sumBy-ext, sumBy-ext-at, sumBy-map}
 use Rattle.lists.proofs.ExistsLaws.{exists-none, none-exists}
 use Rattle.rules.specs.Limits.{closingDays, finalDay}
 use Rattle.rules.specs.Rows.{Row, blank, rowNo, remaining, debit, held, heldToll, unsettled, debitOf, payable}
 use Rattle.rules.specs.Settlement.{money, debt, moved, owed}
-use Rattle.rules.specs.Book.{Account, unused, Pending, Book, settled}
+use Rattle.rules.specs.Book.{Account, Pending, Book, settled}
 use Rattle.rules.specs.Events.{release}
 use Rattle.rules.specs.Tick.{nextDay, holdEnds, endHolds, beforeRaising, raiseTolls, closes}
 use Rattle.rules.proofs.AllocationLaws.{bare}
@@ -29,7 +29,7 @@ use Rattle.preservation.proofs.HoldsEnded.{endHolds-near, beforeRaising-near}
 use Rattle.preservation.proofs.ClosingLaws.{none-owed}
 use Rattle.tick_rules.specs.Ticks.{staysHeld, willRefund, willClose}
 use Rattle.tick_rules.proofs.FreedLaws.{atDawn, dawn-keeps, today, dawn, dawn-rows, dawn-length, dawn-at, dawn-account}
-use Rattle.tick_rules.proofs.RisingLaws.{Grown, settleAccounts-row, money-dawn, dusk, dusk-rows, dusk-length}
+use Rattle.tick_rules.proofs.RisingLaws.{settleAccounts-row, money-dawn, dusk, dusk-rows, dusk-length}
 use Rattle.tick_rules.proofs.LateLaws.{late, money-late, owed-grows, clear-late}
 
 -- a debit of account n that is unsettled is owed

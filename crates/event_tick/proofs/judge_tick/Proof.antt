@@ -1,6 +1,6 @@
 -- `judge_tick` meets its contract: each way through the tests is a case of the table.
 use native.Mathlib.Omega.{arith}
-use mathlib.Core.Path.{_≡_, refl, sym, _∙_}
+use mathlib.Core.Path.{refl, sym, _∙_}
 use borrow.Author.Tests.{eq-eqb, ne-eqb, not-true, not-false}
 use mathlib.Core.Bool.{true, false}
 use Rattle.lists.specs.Tests.{first}

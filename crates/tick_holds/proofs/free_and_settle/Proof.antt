@@ -1,7 +1,6 @@
 -- `free_and_settle` meets its contract: the rows are those of the book after holds have ended and settlement.
 use native.Mathlib.Omega.{arith}
 use borrow.Author.Tests.{not-true}
-use mathlib.Core.Path.{_≡_, refl, sym, _∙_}
 use Rattle.rules.proofs.TableLaws.{header-length}
 use Rattle.posting.proofs.BookLaws.{day-small, count-small, journal-settles}
 use Rattle.account_sums.proofs.TallyLaws.{tallied-none}

@@ -1,5 +1,5 @@
 -- `holds::count_hold` meets its contract: the count takes the row's share.
-use mathlib.Core.Path.{_≡_, refl, sym, _∙_}
+use mathlib.Core.Path.{_≡_, sym, _∙_}
 use mathlib.Core.Bool.{not, cond, _&&_}
 use Rattle.rules.specs.Rows.{Held, heldToll}
 use Rattle.rules.specs.Tick.{holdEnds}

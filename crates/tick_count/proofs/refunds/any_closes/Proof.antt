@@ -1,11 +1,10 @@
 -- `refunds::any_closes` meets its contract: none of the accounts passed closes.
-use Prim.Native.Nat.{_+_, _-_, _≤_}
+use Prim.Native.Nat.{_-_, _≤_}
 use native.Mathlib.Omega.{arith}
 use mathlib.Core.Path.{_≡_, sym, _∙_}
 use mathlib.Core.Bool.{true≢false}
 use borrow.Author.Count.{below-more}
-use borrow.Author.Tests.{not-true}
-use Rattle.tick_count.specs.Counts.{closeBy, NoneClosesBy}
+use Rattle.tick_count.specs.Counts.{NoneClosesBy}
 use Rattle.tick_count.proofs.refunds.any_closes.Statement.{statement}
 use Rattle.tick_count.proofs.refunds.any_closes.Tie as tie
 

@@ -1,6 +1,5 @@
 -- `rows::count_row` meets its contract: each sum and count takes the row's share.
 use borrow.Author.Needs.{needs}
-use native.Mathlib.Omega.{arith}
 use Rattle.tick_count.proofs.CountLaws.{rows-more}
 use Rattle.tick_count.proofs.rows.count_row.Statement.{statement}
 use Rattle.tick_count.proofs.rows.count_row.Tie as tie
