@@ -1,46 +1,53 @@
--- What the tests on a row say of its amount as a source and as a debit, and how large the sums of amounts become.
-use mathlib.Core.Path.{_≡_, sym, _∙_}
+-- What one row more makes of an account's sums, and how large they become.
+use mathlib.Core.Path.{_≡_, refl, sym, _∙_}
 use mathlib.Core.Bool.{Bool, true, false, cond}
 use Prim.Native.Nat.{ℕ, _+_, _*_, _^_, _≤_, _<_}
 use native.Mathlib.Omega.{arith}
 use mathlib.Core.List.{List}
 use lib.IntN.{ℤ}
+use lib.Dec.{eqb}
 use borrow.Author.Tests.{eq-eqb, ne-eqb}
 use Rattle.records.specs.Encoding.{rowAt, rowsOf}
-use Rattle.lists.specs.Lists.{sumBy, only}
+use Rattle.lists.specs.Lists.{sumBy, only, tabulate}
 use Rattle.lists.proofs.SumLaws.{sumBy-more, sumBy-small}
 use Rattle.rules.specs.Limits.{highestRefund}
 use Rattle.rules.specs.Rows.{Row, Test, source, debit, sourceOf, debitOf}
 use Rattle.rules.specs.Book.{sources, debits}
 use Rattle.posting.specs.Posts.{Amounts}
+use Rattle.balances.specs.declared.Sums.{Sums}
+use Rattle.balances.specs.Summed.{Summed}
 
 -- the amount of a row that passes a test
 abbrev pub amountIf : Test → Row → ℕ
 amountIf t = only t (λ x. x .amount)
 
--- ---- a row
+-- ---- one row more
 
--- n is the row's account, read before the rest of it
-module _ (x : Row) (n a : ℕ) (k : n ≡ x .account) where
-  pub no-source-of-others : (n ≡ a → ⊥) → 0 ≡ amountIf (sourceOf a) x
-  unfolding only sourceOf
-  no-source-of-others m = rw (ne-eqb (x .account) a (λ e. m (k ∙ e)))
+pub summed-none : (t : List ℤ) (a : ℕ) → Summed t a 0 (record { sources = 0; debits = 0 })
+unfolding sources debits sumBy tabulate
+summed-none t a = record { sources = refl; debits = refl }
 
-  pub no-debit-of-others : (n ≡ a → ⊥) → 0 ≡ amountIf (debitOf a) x
-  unfolding only debitOf
-  no-debit-of-others m = rw (ne-eqb (x .account) a (λ e. m (k ∙ e)))
+-- the sums of the rows before row i, and n, the row's account, read before the rest of it
+module _ (t : List ℤ) (a i : ℕ) (s : Sums) (e : Summed t a i s) (n : ℕ) (k : n ≡ rowAt t i .account) where
+  summed-more : (p q : ℕ) → p ≡ s .sources + amountIf (sourceOf a) (rowAt t i) → q ≡ s .debits + amountIf (debitOf a) (rowAt t i) → Summed t a (i + 1) (record { sources = p; debits = q })
+  unfolding sources debits
+  summed-more p q f g = record { sources = f ∙ rw (sumBy-more, e .sources); debits = g ∙ rw (sumBy-more, e .debits) }
+
+  pub summed-others : (n ≡ a → ⊥) → Summed t a (i + 1) s
+  unfolding only sourceOf debitOf
+  summed-others m =
+      let o : eqb (rowAt t i .account) a ≡ false = ne-eqb (rowAt t i .account) a (λ x. m (k ∙ x)) in
+      summed-more (s .sources) (s .debits) (rw o (omega arith)) (rw o (omega arith))
 
   -- it is the account's, and r is the row
-  module _ (h : n ≡ a) (r : Row) (e : r ≡ x) where
-    pub source-brings : (b : Bool) → source r ≡ b → cond b (r .amount) 0 ≡ amountIf (sourceOf a) x
-    unfolding only sourceOf
-    source-brings b s = rw (eq-eqb (x .account) a (sym k ∙ h), ← e, s)
+  module _ (h : n ≡ a) (r : Row) (x : r ≡ rowAt t i) where
+    pub summed-own : (p q : ℕ) → p ≡ cond (source r) (r .amount) 0 → q ≡ cond (debit r) (r .amount) 0 → Summed t a (i + 1) (record { sources = s .sources + p; debits = s .debits + q })
+    unfolding only sourceOf debitOf
+    summed-own p q f g =
+        let o : eqb (rowAt t i .account) a ≡ true = eq-eqb (rowAt t i .account) a (sym k ∙ h) in
+        summed-more _ _ (rw (f, o, ← x)) (rw (g, o, ← x))
 
-    pub debit-takes : (b : Bool) → debit r ≡ b → cond b (r .amount) 0 ≡ amountIf (debitOf a) x
-    unfolding only debitOf
-    debit-takes b s = rw (eq-eqb (x .account) a (sym k ∙ h), ← e, s)
-
--- ---- sums
+-- ---- the sums fit
 
 amountIf-le : (t : Test) (r : Row) → amountIf t r ≤ r .amount
 unfolding only
@@ -51,22 +58,29 @@ amountIf-le t r = go (t r)
     go false = omega arith
 
 module _ (j : List ℤ) (used : ℕ) (m : Amounts j used) where
-  pub sum-small : (t : Test) (n : ℕ) → n ≤ used → sumBy (amountIf t) (rowsOf j n) ≤ n * highestRefund
+  sum-small : (t : Test) (n : ℕ) → n ≤ used → sumBy (amountIf t) (rowsOf j n) ≤ n * highestRefund
   sum-small t n h = sumBy-small (amountIf t) (rowAt j) highestRefund n (λ k l. omega (arith, amountIf-le t (rowAt j k), m .small k (omega arith)))
 
-  -- one row more: what it adds to a sum fits, whatever the test, and by the sum's own test it makes the sum of one row more
-  pub sum-fits : (t u : Test) (i sum x : ℕ) → i < used → sum ≡ sumBy (amountIf t) (rowsOf j i) → x ≡ amountIf u (rowAt j i) → sum + x < 2 ^ 63
-  sum-fits t u i sum x h e b =
-      let q : x ≤ rowAt j i .amount = rw b (amountIf-le u (rowAt j i)) in
-      omega (arith, sum-small t i (omega arith), m .small i h, m .few)
+  -- what row i adds to either sum fits
+  module _ (a i : ℕ) (h : i < used) (s : Sums) (e : Summed j a i s) (r : Row) (x : r ≡ rowAt j i) (v : Bool) where
+    part-le : cond v (r .amount) 0 ≤ highestRefund
+    part-le = rw x (go v)
+      where
+        go : (w : Bool) → cond w (rowAt j i .amount) 0 ≤ highestRefund
+        go true = m .small i h
+        go false = omega arith
 
-  pub sum-more : (t : Test) (i sum x : ℕ) → sum ≡ sumBy (amountIf t) (rowsOf j i) → x ≡ amountIf t (rowAt j i) → sum + x ≡ sumBy (amountIf t) (rowsOf j (i + 1))
-  sum-more t i sum x e b = rw (sumBy-more, e, b)
+    pub source-fits : s .sources + cond v (r .amount) 0 < 2 ^ 64
+    unfolding sources
+    source-fits = omega (arith, e .sources, sum-small (sourceOf a) i (omega arith), part-le, m .few)
 
-  pub sources-small : (a : ℕ) → sources (rowsOf j used) a ≤ used * highestRefund
-  unfolding sources
-  sources-small a = sum-small (sourceOf a) used (omega arith)
+    pub debit-fits : s .debits + cond v (r .amount) 0 < 2 ^ 64
+    unfolding debits
+    debit-fits = omega (arith, e .debits, sum-small (debitOf a) i (omega arith), part-le, m .few)
 
-  pub debits-small : (a : ℕ) → debits (rowsOf j used) a ≤ used * highestRefund
-  unfolding debits
-  debits-small a = sum-small (debitOf a) used (omega arith)
+  pub sums-fit : (a : ℕ) (s : Sums) → Summed j a used s → (s .sources < 2 ^ 63) × (s .debits < 2 ^ 63)
+  unfolding sources debits
+  sums-fit a s e = (
+    omega (arith, e .sources, sum-small (sourceOf a) used (omega arith), m .few),
+    omega (arith, e .debits, sum-small (debitOf a) used (omega arith), m .few),
+  )

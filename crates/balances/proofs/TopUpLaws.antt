@@ -5,13 +5,15 @@ use Prim.Native.Nat.{ℕ, _+_, _^_, _<_}
 use native.Mathlib.Omega.{arith}
 use lib.Dec.{leb, ltb}
 use Rattle.records.specs.Layout.{dayPlace}
-use Rattle.records.specs.Encoding.{word, rowsOf, accountsOf}
+use Rattle.records.specs.Encoding.{word, accountsOf}
 use Rattle.lists.specs.Tests.{_is_}
-use Rattle.rules.specs.Book.{Account, Open, account, accountNo, sources, debits, lowBalance, topUpDue}
+use Rattle.rules.specs.Book.{Account, Open, account, accountNo, lowBalance, topUpDue}
 use Rattle.rules.specs.Tables.{Tables, accountsIn, rowsUsed, bookOf, soundTables}
 use Rattle.rules.proofs.TableLaws.{sound-rows}
-use Rattle.balances.proofs.AmountLaws.{debits-small}
-use Rattle.posting.proofs.BookLaws.{account-read, day-read, used-small, account-holds, journal-summable}
+use Rattle.balances.specs.declared.Sums.{Sums}
+use Rattle.balances.specs.Summed.{Summed}
+use Rattle.balances.proofs.AmountLaws.{sums-fit}
+use Rattle.posting.proofs.BookLaws.{account-read, day-read, account-holds, journal-summable}
 
 -- all but the balance
 abbrev mayTopUp : Account → ℕ → Bool
@@ -28,14 +30,12 @@ module _ (t : Tables) (s : soundTables t ≡ true) (n : ℕ) (x : Account) (e : 
   pub not-due : (today : ℕ) → today ≡ word (t .header) dayPlace → mayTopUp x today ≡ false → false ≡ topUpDue (bookOf t) n
   not-due today d m = sym (due-at today d false m)
 
-  module _ (used q : ℕ) (u : used ≡ rowsUsed t) (g : q ≡ debits (rowsOf (t .journal) used) n) where
-    pub debits-fit : q + x .threshold < 2 ^ 64
+  module _ (used : ℕ) (q : Sums) (u : used ≡ rowsUsed t) (g : Summed (t .journal) n used q) where
+    pub debits-fit : q .debits + x .threshold < 2 ^ 64
     debits-fit =
         let h : x .threshold < 2 ^ 63 = rw read (account-holds t s n .threshold) in
-        let d : q ≡ debits (rowsOf (t .journal) (rowsUsed t)) n = rw (← u) g in
-        omega (arith, debits-small (t .journal) (rowsUsed t) (journal-summable t s) n, used-small t s)
+        omega (arith, sums-fit (t .journal) used (rw u (journal-summable t s)) n q g .1)
 
-    pub due-by-balance : (today : ℕ) → today ≡ word (t .header) dayPlace → mayTopUp x today ≡ true → (p : ℕ) → p ≡ sources (rowsOf (t .journal) used) n
-        → leb p (q + x .threshold) ≡ topUpDue (bookOf t) n
+    pub due-by-balance : (today : ℕ) → today ≡ word (t .header) dayPlace → mayTopUp x today ≡ true → leb (q .sources) (q .debits + x .threshold) ≡ topUpDue (bookOf t) n
     unfolding lowBalance
-    due-by-balance today d m p f = sym (due-at today d true m ∙ rw (sound-rows t s, ← u, ← f, ← g, ← read))
+    due-by-balance today d m = sym (due-at today d true m ∙ rw (sound-rows t s, ← u, ← g .sources, ← g .debits, ← read))

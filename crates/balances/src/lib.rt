@@ -1,5 +1,6 @@
 // The sums of an account's sources and of its debits, and whether its top-up is due. Uses lists, records, rules, tables, row_tests,
-// settlement and posting.
+// settlement, account_sums and posting.
+use account_sums::part;
 use row_tests::is_debit;
 use row_tests::is_source;
 use table_accounts::account_numbered;
@@ -12,70 +13,48 @@ use tables::layout::USED_PLACE;
 use tables::words::get;
 ghost use mathlib.Core.Path.{_≡_};
 ghost use mathlib.Core.Bool.{true};
-ghost use Rattle.records.specs.Encoding.{rowAt, rowsOf};
-ghost use Rattle.lists.specs.Lists.{only};
-ghost use Rattle.rules.specs.Rows.{sourceOf, debitOf};
-ghost use Rattle.rules.specs.Book.{sources, debits, topUpDue};
+ghost use Prim.Native.Nat.{_+_, _<_};
+ghost use Rattle.rules.specs.Book.{topUpDue};
 ghost use Rattle.rules.specs.Tables.{bookOf, soundTables};
-ghost use Rattle.tables.specs.Changes.{RowIn};
 ghost use Rattle.posting.specs.Posts.{tablesAt, Amounts};
+ghost use Rattle.balances.specs.Summed.{Summed};
 
-// What row i brings the account as a source. Most rows are other accounts', so the account is read first and alone.
-fn source_amount(journal: &[i64], i: usize, account: u64) -> u64
-    requires { ⌜ RowIn (now journal) i ⌝ }
-    ensures { λ n. ⌜ n ≡ only (sourceOf account) (λ x. x .amount) (rowAt (now (journal .entry)) i) ⌝ }
+// An account's sums: of its sources, and of its debits, held ones included.
+pub struct Sums {
+    pub sources: u64,
+    pub debits: u64,
+}
+
+// The sums of i rows with row i added. Most rows are other accounts', so the account is read first and alone.
+fn add_amount(journal: &[i64], used: usize, i: usize, account: u64, s: Sums) -> Sums
+    requires { ⌜ Amounts (now journal) used × (i < used) × Summed (now journal) account i s ⌝ }
+    ensures { λ r. ⌜ Summed (now (journal .entry)) account (i + 1) r ⌝ }
 {
     if account_at(journal, i) != account {
-        return 0;
+        return s;
     }
     let r = read_row(journal, i);
-    if is_source(r) {
-        return r.amount;
+    Sums {
+        sources: s.sources + part(is_source(r), r.amount),
+        debits: s.debits + part(is_debit(r), r.amount),
     }
-    0
 }
 
-// What row i takes from the account as a debit, held or not; the account is read first here too.
-fn debit_amount(journal: &[i64], i: usize, account: u64) -> u64
-    requires { ⌜ RowIn (now journal) i ⌝ }
-    ensures { λ n. ⌜ n ≡ only (debitOf account) (λ x. x .amount) (rowAt (now (journal .entry)) i) ⌝ }
-{
-    if account_at(journal, i) != account {
-        return 0;
-    }
-    let r = read_row(journal, i);
-    if is_debit(r) {
-        return r.amount;
-    }
-    0
-}
-
-// The sum of the account's sources.
-pub fn sources_of(journal: &[i64], used: usize, account: u64) -> u64
+// The account's sums over the used rows.
+pub fn sums_of(journal: &[i64], used: usize, account: u64) -> Sums
     requires { ⌜ Amounts (now journal) used ⌝ }
-    ensures { λ n. ⌜ n ≡ sources (rowsOf (now (journal .entry)) used) account ⌝ }
+    ensures { λ s. ⌜ Summed (now (journal .entry)) account used s ⌝ }
 {
-    let mut sum = 0;
+    let mut s = Sums {
+        sources: 0,
+        debits: 0,
+    };
     let mut i = 0;
     while i < used {
-        sum += source_amount(journal, i, account);
+        s = add_amount(journal, used, i, account, s);
         i += 1;
     }
-    sum
-}
-
-// The sum of the account's debits, held ones included.
-pub fn debits_of(journal: &[i64], used: usize, account: u64) -> u64
-    requires { ⌜ Amounts (now journal) used ⌝ }
-    ensures { λ n. ⌜ n ≡ debits (rowsOf (now (journal .entry)) used) account ⌝ }
-{
-    let mut sum = 0;
-    let mut i = 0;
-    while i < used {
-        sum += debit_amount(journal, i, account);
-        i += 1;
-    }
-    sum
+    s
 }
 
 // Open, amount above 0, last decline not today, balance at most the threshold.
@@ -90,7 +69,7 @@ pub fn top_up_due(header: &[i64], accounts: &[i64], journal: &[i64], n: u64) -> 
         return false;
     }
     let used = get(header, USED_PLACE) as usize;
-    let debits = debits_of(journal, used, n);
-    let limit = debits + x.threshold;
-    sources_of(journal, used, n) <= limit
+    let s = sums_of(journal, used, n);
+    let limit = s.debits + x.threshold;
+    s.sources <= limit
 }

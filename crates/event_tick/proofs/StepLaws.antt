@@ -1,42 +1,43 @@
 -- An accepted event 9, step by step: the tables after each step hold the book after it.
-use mathlib.Core.Path.{_≡_, refl, sym, ap, _∙_}
+use mathlib.Core.Path.{_≡_, refl, sym, _∙_}
 use mathlib.Core.Logic.{_≢_}
-use mathlib.Core.Bool.{Bool, true, false, cond, _&&_}
-use Prim.Native.Nat.{ℕ, _+_, _-_, _^_, _/_, _≤_, _<_}
+use mathlib.Core.Bool.{true, false}
+use Prim.Native.Nat.{ℕ, suc, _+_, _-_, _/_, _≤_, _<_}
 use native.Mathlib.Omega.{arith}
 use mathlib.Core.List.{List}
-use lib.ListN.{length, set, length-set}
+use lib.ListN.{length, getD, set, length-set}
 use lib.IntN.{ℤ, pos}
-use lib.Dec.{eqb, ltb}
 use borrow.Author.Tests.{eqb-false, ltb-false}
-use Rattle.records.specs.Layout.{headerWidth, dayPlace, usedPlace, headerSchedule, rowWidth}
-use Rattle.records.specs.Encoding.{word, rowAt, rowsOf, accountsOf}
+use Rattle.records.specs.Layout.{headerWidth, dayPlace, usedPlace, rowWidth}
+use Rattle.records.specs.Encoding.{word}
 use Rattle.lists.specs.Tests.{_is_}
 use Rattle.lists.specs.Lists.{count}
 use Rattle.rules.specs.Limits.{finalDay}
-use Rattle.rules.specs.Book.{Instruction, Book, settled}
-use Rattle.rules.specs.Tick.{nextDay, endHolds, beforeRaising, rises, raiseTolls, raisedBy, closeAccounts}
+use Rattle.rules.specs.Book.{unused, Instruction, Book, settled}
+use Rattle.rules.specs.Tick.{nextDay, endHolds, beforeRaising, rises, raiseTolls, raisedBy, closes, closeAccounts}
 use Rattle.rules.specs.Refusals.{after, lastDay, full, answerNumber}
 use Rattle.rules.specs.Posting.{newRows, removesTopUp, acceptance}
-use Rattle.rules.specs.Tables.{Tables, accountsIn, roomIn, rowsUsed, scheduleFrom, bookOf, lengthsFit, soundTables}
-use Rattle.rules.proofs.SoundnessLaws.{Near, Sound}
+use Rattle.rules.specs.Tables.{Tables, roomIn, rowsUsed, bookOf, soundTables}
 use Rattle.rules.proofs.TableLaws.{sound-book, header-length}
 use Rattle.preservation.proofs.Accepted.{Accepted, accepted}
 use Rattle.preservation.proofs.HoldsEnded.{beforeRaising-near}
 use Rattle.tick_rules.specs.Ticks.{feesAdded, refundsAdded}
 use Rattle.tick_rules.proofs.RisingLaws.{dusk-length}
 use Rattle.tick_rules.proofs.LateLaws.{late}
+use Rattle.tick_rules.proofs.RefundLaws.{none-closing}
 use Rattle.tick_rules.proofs.QuietLaws.{near-late, after-tick}
 use Rattle.tick_rules.proofs.CountLaws.{rows-after, late-fits}
 use Rattle.posting.specs.Posts.{tablesAt, acceptanceOf, Posts}
 use Rattle.posting.proofs.BookLaws.{day-read, used-read, room-read, schedule-read}
-use Rattle.posting_laws.proofs.RefusalLaws.{at-kind}
 use Rattle.posting_laws.proofs.AddedLaws.{posts-accepted}
 use Rattle.posting_laws.proofs.HeaderLaws.{schedule-same, word-put, word-others}
 use Rattle.posting_laws.proofs.WrittenLaws.{Written}
 use Rattle.tick_base.specs.Midway.{Midway}
 use Rattle.tick_base.proofs.MidwayLaws.{written-written, sound-midway}
+use Rattle.tick_count.specs.declared.Plan.{Plan}
+use Rattle.tick_count.specs.Counts.{Planned}
 use Rattle.tick_holds.specs.Holds.{DuskRows}
+use Rattle.tick_close.specs.Closing.{Closing}
 use Rattle.event_tick.proofs.TickLaws.{written-book, written-midway}
 
 module _ (t : Tables) (s : soundTables t ≡ true) (e : Instruction) (k : e .kind ≡ 9) (q : 0 ≡ answerNumber (bookOf t) e) where
@@ -123,12 +124,24 @@ module _ (t : Tables) (s : soundTables t ≡ true) (e : Instruction) (k : e .kin
       late-day : word (u .header) dayPlace ≡ beforeRaising b .day
       late-day = late-written .day ∙ (unfold raiseTolls in refl)
 
-      pub late-midway : Midway (word (u .header) dayPlace) u
+      late-midway : Midway (word (u .header) dayPlace) u
       late-midway =
           rw late-day (written-midway t u (raiseTolls (beforeRaising b)) (beforeRaising b .day) (sound-midway t s .lengths) late-written late-room (near-late b (sound-book t s) not-last fits-late))
 
-      pub closing-room : length (closeAccounts (bookOf u) .rows) ≤ length (u .journal) / rowWidth
+      closing-room : length (closeAccounts (bookOf u) .rows) ≤ length (u .journal) / rowWidth
       closing-room = rw (late-book, late-written .journal-size) (omega (arith, fits-after, room-read t s))
+
+      -- no account closes that was not to
+      pub late-closing : (p : Plan) → Planned b p → Closing u (p .closing)
+      late-closing p w = record { midway = late-midway; room = closing-room; quiet = λ e. rw late-book (quiet e) }
+        where
+          same-accounts : raiseTolls (beforeRaising b) .accounts ≡ b .accounts
+          same-accounts = unfold raiseTolls beforeRaising settled endHolds nextDay in refl
+
+          quiet : p .closing ≡ false → (n : ℕ) → n < length (raiseTolls (beforeRaising b) .accounts) → closes (raiseTolls (beforeRaising b)) (suc n) (getD (raiseTolls (beforeRaising b) .accounts) n unused) ≡ false
+          quiet e n h =
+              let l : n < length (b .accounts) = rw same-accounts at h in
+              none-closing b (sound-book t s) not-last n l (getD (raiseTolls (beforeRaising b) .accounts) n unused) (rw same-accounts (w .closing e n l))
 
       -- ---- accounts have closed
 

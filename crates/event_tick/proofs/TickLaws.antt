@@ -1,43 +1,27 @@
 -- Event 9: which refusals concern it, and the tables that its steps leave.
-use mathlib.Core.Path.{_≡_, refl, sym, ap, _∙_}
+use mathlib.Core.Path.{_≡_, refl, _∙_}
 use mathlib.Core.Logic.{_≢_}
-use mathlib.Core.Bool.{Bool, true, false, not, cond, _&&_, _||_}
-use Prim.Native.Nat.{ℕ, zero, suc, _+_, _-_, _*_, _/_, _≤_, _<_, min}
+use mathlib.Core.Bool.{Bool, true, false, not}
+use Prim.Native.Nat.{ℕ, _+_, _-_, _≤_, _<_, min}
 use native.Mathlib.Omega.{arith}
-use mathlib.Core.List.{List, [], _∷_}
-use lib.ListN.{length, getD, set, length-set}
-use lib.Seq.{getD-set-same, getD-set-other}
-use lib.IntN.{ℤ, pos}
-use lib.Dec.{eqb, leb, ltb}
+use mathlib.Core.List.{[], _∷_}
+use lib.ListN.{length}
+use lib.Dec.{ltb}
 use borrow.Author.Tests.{eqb-false, ltb-false, lt-ltb, le-leb, le-ltb}
-use Rattle.records.specs.Layout.{dayPlace, usedPlace, headerSchedule, rowWidth}
-use Rattle.records.specs.Encoding.{natOf, word, rowAt, rowsOf, accountsOf}
 use Rattle.lists.specs.Tests.{_is_, _from_to_, first}
-use Rattle.lists.specs.Lists.{count}
 use Rattle.rules.specs.Limits.{finalDay}
-use Rattle.rules.specs.Book.{Instruction, Book, settled}
-use Rattle.rules.specs.Tick.{nextDay, endHolds, beforeRaising, rises, raiseTolls, raisedBy, closeAccounts}
+use Rattle.rules.specs.Book.{Instruction, Book}
 use Rattle.rules.specs.Refusals.{after, tickForm, formOf, wellFormed, unknown, taken, onClosed, unclassed, misdated, duplicate, barred, noRow, untimely, lastDay, full, ceiling, refusals, answerNumber}
-use Rattle.rules.specs.Posting.{newRows, removesTopUp, acceptance}
-use Rattle.rules.specs.Tables.{Tables, accountsIn, roomIn, rowsUsed, scheduleFrom, bookOf, wholeRecords, lengthsFit, usedFits, soundTables}
+use Rattle.rules.specs.Tables.{Tables, roomIn, rowsUsed, bookOf, wholeRecords, lengthsFit, usedFits, soundTables}
 use Rattle.rules.proofs.SoundnessLaws.{Near, Sound}
-use Rattle.rules.proofs.TableLaws.{sound-book, sound-rows, header-length}
-use Rattle.preservation.proofs.Accepted.{Accepted, accepted}
-use Rattle.preservation.proofs.HoldsEnded.{beforeRaising-near}
 use Rattle.tick_rules.specs.Ticks.{feesAdded, refundsAdded}
-use Rattle.tick_rules.proofs.RisingLaws.{dusk-length}
-use Rattle.tick_rules.proofs.LateLaws.{late}
-use Rattle.tick_rules.proofs.QuietLaws.{near-late, after-tick}
-use Rattle.tick_rules.proofs.CountLaws.{rows-after, late-fits, tick-low}
-use Rattle.posting.specs.Posts.{tablesAt, acceptanceOf, Posts}
-use Rattle.posting.proofs.BookLaws.{day-read, used-read, room-read, schedule-read}
+use Rattle.tick_rules.proofs.CountLaws.{rows-after, tick-low}
+use Rattle.posting.proofs.BookLaws.{used-read, room-read}
 use Rattle.posting_laws.proofs.RefusalLaws.{ofKind, at-kind}
-use Rattle.posting_laws.proofs.AddedLaws.{posts-accepted}
 use Rattle.posting_laws.proofs.WrittenLaws.{Written}
 use Rattle.tick_base.specs.Midway.{Midway}
-use Rattle.tick_base.proofs.MidwayLaws.{written-written}
-use Rattle.tick_holds.specs.Holds.{DuskRows}
-use Rattle.event_tick.specs.TickEvent.{tickRefusals}
+use Rattle.event_tick.specs.declared.Judged.{Judged}
+use Rattle.event_tick.specs.TickEvent.{tickRefusals, Judges}
 
 -- ---- the number
 
@@ -75,6 +59,10 @@ pub tick-by : (b : Book) (e : Instruction) → Sound b → e .kind ≡ 9 → (f 
     → ltb (b .room) (length (b .rows) + feesAdded b + refundsAdded b) ≡ r → first ((2, not f) ∷ (12, d) ∷ (13, r) ∷ []) ≡ answerNumber b e
 unfolding tickRefusals
 tick-by b e s k f d r p q w = rw (answer-tick b e s k, p, q, w)
+
+-- refused, there is no plan to tell of
+pub judged-refused : (b : Book) (e : Instruction) (j : Judged) (n : ℕ) → 0 < n → j .number ≡ n → n ≡ answerNumber b e → Judges b e j
+judged-refused b e j n l q w = record { number = q ∙ w; plan = λ z. absurd (omega arith) }
 
 -- ---- tables that hold a book of rows that fit
 

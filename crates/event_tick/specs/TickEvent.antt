@@ -1,5 +1,6 @@
--- The refusals that concern event 9, out of the table of all, in checking order; 14 never applies.
-use mathlib.Core.Bool.{not}
+-- Event 9: its refusals, and a tick that is not refused.
+use mathlib.Core.Path.{_≡_}
+use mathlib.Core.Bool.{true, not}
 use Prim.Native.Nat.{_+_}
 use mathlib.Core.List.{[], _∷_}
 use lib.ListN.{length}
@@ -7,12 +8,29 @@ use lib.Dec.{ltb}
 use Rattle.lists.specs.Tests.{_is_, Cases}
 use Rattle.rules.specs.Limits.{finalDay}
 use Rattle.rules.specs.Book.{Instruction, Book}
-use Rattle.rules.specs.Refusals.{tickForm}
+use Rattle.rules.specs.Refusals.{tickForm, answerNumber}
+use Rattle.rules.specs.Tables.{Tables, bookOf, soundTables}
 use Rattle.tick_rules.specs.Ticks.{feesAdded, refundsAdded}
+use Rattle.tick_count.specs.declared.Plan.{Plan}
+use Rattle.tick_count.specs.Counts.{Planned}
+use Rattle.event_tick.specs.declared.Judged.{Judged}
 
+-- the refusals that concern event 9, out of the table of all, in checking order; 14 never applies
 unfoldable pub tickRefusals : Book → Instruction → Cases
 tickRefusals b e =
     (2, not (tickForm e))
     ∷ (12, b .day is finalDay)
     ∷ (13, ltb (b .room) (length (b .rows) + feesAdded b + refundsAdded b))
     ∷ []
+
+-- the number, and the plan where it is 0
+pub record Judges (b : Book) (e : Instruction) (j : Judged) : Type 0 where
+  pub number : j .number ≡ answerNumber b e
+  pub plan : j .number ≡ 0 → Planned b (j .plan)
+
+-- sound tables whose book takes the tick e, and its plan
+pub record Accepts (t : Tables) (e : Instruction) (p : Plan) : Type 0 where
+  pub sound : soundTables t ≡ true
+  pub kind : e .kind ≡ 9
+  pub taken : 0 ≡ answerNumber (bookOf t) e
+  pub plan : Planned (bookOf t) p

@@ -1,8 +1,8 @@
--- What is listed of a sound book: lines one after the other, dates and balances that fit.
+-- What is listed of a sound book: lines one after the other, dates that fit.
 use mathlib.Core.Path.{_≡_, refl}
 use mathlib.Core.Bool.{true}
 use mathlib.Core.List.{List, [], _++_}
-use Prim.Native.Nat.{ℕ, _+_, _^_, _≤_, _<_}
+use Prim.Native.Nat.{ℕ, _+_, _≤_, _<_}
 use native.Mathlib.Omega.{arith}
 use borrow.Author.Tests.{leb-true, eq-eqb, ne-eqb}
 use lib.IntN.{ℤ}
@@ -22,8 +22,6 @@ use Rattle.rules.specs.Tables.{Tables, accountsIn, rowsUsed, bookOf, soundTable
 use Rattle.rules.proofs.SoundnessLaws.{Near}
 use Rattle.rules.proofs.StorableLaws.{between-le, day-le}
 use Rattle.rules.proofs.TableLaws.{sound-book, sound-rows, length-sound-rows}
-use Rattle.balances.proofs.AmountLaws.{sources-small, debits-small}
-use Rattle.posting.specs.Posts.{Amounts}
 use Rattle.posting.proofs.BookLaws.{used-room}
 use Rattle.listing_rules.specs.Texts.{bytesOf, field, line, rowText, accountText, bookText}
 use Rattle.listing_text.specs.Puts.{Puts}
@@ -77,17 +75,6 @@ sound-dated t s = record {
 
     last : (k : ℕ) → k < rowsUsed t → getD (bookOf t .rows) k blank .day ≤ finalDay
     last k h = omega (arith, between-le 1 (bookOf t .day) (getD (bookOf t .rows) k blank .day) (shape k h), day-le (bookOf t .day) (bookOf t) near)
-
--- ---- balances
-
-module _ (j : List ℤ) (used : ℕ) (m : Amounts j used) (n : ℕ) where
-  -- the sum of sources that was read is a word
-  pub sources-fit : (p : ℕ) → p ≡ sources (rowsOf j used) n → p < 2 ^ 63
-  sources-fit p e = omega (arith, sources-small j used m n, m .few)
-
-  -- the debits too
-  pub debits-fit : (q : ℕ) → q ≡ debits (rowsOf j used) n → q < 2 ^ 63
-  debits-fit q e = omega (arith, debits-small j used m n, m .few)
 
 -- ---- accounts
 

@@ -1,7 +1,6 @@
 // The closing part of the listing, written to a lent buffer: a line for each used row and one for each used account, each part with its
 // names before it. Uses lists, records, rules, tables, table_rows, table_accounts, posting, balances, decimal, listing_rules and listing_text.
-use balances::debits_of;
-use balances::sources_of;
+use balances::sums_of;
 use decimal::write_date;
 use decimal::write_number;
 use listing_text::write_field;
@@ -77,9 +76,8 @@ fn write_balance(out: &mut [u8], at: usize, journal: &[i64], used: usize, n: u64
     requires { ⌜ (at + 21 ≤ length (now out)) × Amounts (now journal) used ⌝ }
     ensures { λ r. ⌜ Puts (now (out .entry)) (now (out .exit)) at r (line (textOf (less (sources (rowsOf (now (journal .entry)) used) n) (debits (rowsOf (now (journal .entry)) used) n)))) × (r ≤ at + 21) ⌝ }
 {
-    let sources = sources_of(journal, used, n);
-    let debits = debits_of(journal, used, n);
-    let next = write_number(out, at, minus(sources, debits));
+    let s = sums_of(journal, used, n);
+    let next = write_number(out, at, minus(s.sources, s.debits));
     out[next] = 10;
     next + 1
 }

@@ -4,22 +4,24 @@ use mathlib.Core.Logic.{_≢_}
 use mathlib.Core.Bool.{Bool, true, false, not, cond, _&&_}
 use Prim.Native.Nat.{ℕ, _+_, _*_, _-_, _^_, _≤_, _<_}
 use native.Mathlib.Omega.{arith}
-use mathlib.Core.List.{List, [], _∷_}
+use mathlib.Core.List.{[], _∷_}
 use lib.IntN.{ℤ, pos}
 use lib.ListN.{length, take, drop}
 use lib.Dec.{leb}
 use borrow.Author.Tests.{leb-true, ne-eqb, not-false}
 use Rattle.records.specs.Layout.{rowWidth}
-use Rattle.records.specs.Encoding.{natOf, rowsOf, accountsOf}
+use Rattle.records.specs.Encoding.{natOf, accountsOf}
 use Rattle.lists.specs.Tests.{_is_, _from_to_, first}
 use Rattle.lists.proofs.TestLaws.{and-left, and-right, first-none}
 use Rattle.rules.specs.Limits.{mostRows}
-use Rattle.rules.specs.Book.{Account, Unused, Book, account, accountNo, sources, debits, less, balance}
+use Rattle.rules.specs.Book.{Account, Unused, Book, account, accountNo, less, balance}
 use Rattle.rules.specs.Tables.{Tables, accountsIn, rowsUsed, bookOf, soundTables}
 use Rattle.rules.specs.Calls.{questionRefusals, question, rowCall}
 use Rattle.rules.proofs.StorableLaws.{between-le}
 use Rattle.rules.proofs.TableLaws.{sound-rows}
-use Rattle.balances.proofs.AmountLaws.{sources-small, debits-small}
+use Rattle.balances.specs.declared.Sums.{Sums}
+use Rattle.balances.specs.Summed.{Summed}
+use Rattle.balances.proofs.AmountLaws.{sums-fit}
 use Rattle.posting.proofs.BookLaws.{account-read, used-small, used-room, journal-summable}
 use Rattle.questions.specs.Replies.{Replies}
 
@@ -54,20 +56,13 @@ module _ (f : Book → ℕ → ℤ) (t : Tables) (a : ℤ) (n : ℕ) (e : n ≡ 
 
 -- ---- balance
 
-module _ (t : Tables) (s : soundTables t ≡ true) (used : ℕ) (u : used ≡ rowsUsed t) where
-  pub sources-fit : (n p : ℕ) → p ≡ sources (rowsOf (t .journal) used) n → p < 2 ^ 63
-  sources-fit n p x =
-      let g : p ≡ sources (rowsOf (t .journal) (rowsUsed t)) n = rw (← u) x in
-      omega (arith, sources-small (t .journal) (rowsUsed t) (journal-summable t s) n, used-small t s)
+module _ (t : Tables) (s : soundTables t ≡ true) (used : ℕ) (u : used ≡ rowsUsed t) (n : ℕ) (q : Sums) (e : Summed (t .journal) n used q) where
+  pub sums-small : (q .sources < 2 ^ 63) × (q .debits < 2 ^ 63)
+  sums-small = sums-fit (t .journal) used (rw u (journal-summable t s)) n q e
 
-  pub debits-fit : (n q : ℕ) → q ≡ debits (rowsOf (t .journal) used) n → q < 2 ^ 63
-  debits-fit n q y =
-      let g : q ≡ debits (rowsOf (t .journal) (rowsUsed t)) n = rw (← u) y in
-      omega (arith, debits-small (t .journal) (rowsUsed t) (journal-summable t s) n, used-small t s)
-
-  pub balance-read : (n p q : ℕ) → p ≡ sources (rowsOf (t .journal) used) n → q ≡ debits (rowsOf (t .journal) used) n → less p q ≡ balance (bookOf t) n
+  pub balance-read : less (q .sources) (q .debits) ≡ balance (bookOf t) n
   unfolding balance
-  balance-read n p q x y = rw (sound-rows t s, ← u, ← x, ← y)
+  balance-read = rw (sound-rows t s, ← u, ← e .sources, ← e .debits)
 
 -- ---- the row
 

@@ -1,7 +1,6 @@
 // The questions, which change nothing: an account's balance, whether its top-up is due, and a row's words as a part of the lent journal.
 // Each checks the book first. Uses lists, records, rules, tables, soundness and posting.
-use balances::debits_of;
-use balances::sources_of;
+use balances::sums_of;
 use soundness::sound;
 use table_accounts::account_numbered;
 use tables::codes::UNUSED;
@@ -49,11 +48,10 @@ pub fn balance(header: &[i64], accounts: &[i64], journal: &[i64], account: i64) 
         return Reply { number, value: 0 };
     }
     let used = get(header, USED_PLACE) as usize;
-    let sources = sources_of(journal, used, n);
-    let debits = debits_of(journal, used, n);
+    let s = sums_of(journal, used, n);
     Reply {
         number: 0,
-        value: minus(sources, debits),
+        value: minus(s.sources, s.debits),
     }
 }
 

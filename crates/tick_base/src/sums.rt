@@ -8,13 +8,12 @@ use plain_rows::small_settled;
 use table_rows::kind_at;
 use tables::codes::CREDIT;
 use tables::codes::PAYMENT;
-ghost use mathlib.Core.Path.{_≡_};
 ghost use Prim.Native.Nat.{_+_, _<_};
 ghost use Rattle.account_sums.specs.Tallies.{Countable};
 ghost use Rattle.tick_base.specs.Remainders.{Remainders};
 
 // Row i, to its account's money or to what the account owes.
-fn add_remainder(
+pub fn add_remainder(
     journal: &[i64],
     used: usize,
     i: usize,

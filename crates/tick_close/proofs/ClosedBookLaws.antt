@@ -27,6 +27,7 @@ use Rattle.rules.specs.Tables.{Tables, accountsIn, roomIn, rowsUsed, bookOf}
 use Rattle.rules.proofs.StorableLaws.{used-inside, day-le, account-storable}
 use Rattle.preservation.proofs.ClosingLaws.{none-owed}
 use Rattle.tick_rules.proofs.RefundLaws.{none-unsettled}
+use Rattle.tick_rules.proofs.UnclosedLaws.{unclosed}
 use Rattle.tables.specs.Changes.{RowsMapped}
 use Rattle.tables.proofs.ChangeLaws.{mapped-all}
 use Rattle.account_sums.specs.Tallies.{moneyOf}
@@ -71,6 +72,12 @@ module _ (t : Tables) (m : Midway (word (t .header) dayPlace) t) where
   accounts-length : length (b .accounts) ≡ accountsIn t
   unfolding bookOf
   accounts-length = length-tabulate (accountAt (t .accounts)) (accountsIn t)
+
+  -- where none closes, the tables are as they were
+  pub none-closed : ((k : ℕ) → k < length (b .accounts) → closes b (suc k) (getD (b .accounts) k unused) ≡ false) → Written t t (closeAccounts b)
+  none-closed z =
+      rw (unclosed b account-inside z)
+      (rows-written t (t .header) (t .journal) (b .rows) (rw (midway-rows _ t m) (rows-before t)) (t .accounts) (b .accounts) refl (sym accounts-same))
 
   inside : (k : ℕ) → k < rowsUsed t → (1 ≤ rowAt (t .journal) k .account) × (rowAt (t .journal) k .account ≤ accountsIn t)
   inside = rw accounts-length at (midway-each _ t m (λ r. (1 ≤ r .account) × (r .account ≤ length (b .accounts))) account-inside)

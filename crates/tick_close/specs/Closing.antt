@@ -2,22 +2,25 @@
 -- arrays that hold it at each account number.
 use mathlib.Core.Path.{_≡_}
 use mathlib.Core.Bool.{Bool, true, false, cond, _&&_}
-use Prim.Native.Nat.{ℕ, _+_, _*_, _-_, _/_, _^_, _≤_, _<_}
+use Prim.Native.Nat.{ℕ, suc, _+_, _*_, _-_, _/_, _^_, _≤_, _<_}
 use mathlib.Core.List.{List, _++_}
 use lib.ListN.{length, getD}
 use lib.IntN.{ℤ}
 use lib.Dec.{ltb}
-use Rattle.records.specs.Layout.{headerWidth, usedPlace, rowWidth, accountWidth}
+use Rattle.records.specs.Layout.{headerWidth, dayPlace, usedPlace, rowWidth, accountWidth}
 use Rattle.records.specs.Encoding.{word, rowAt, rowsOf, accountAt, accountsOf, StorableAccount}
 use Rattle.records.specs.AccountOperations.{closed}
 use Rattle.lists.specs.Tests.{_is_}
 use Rattle.lists.specs.Lists.{one, gather, change}
 use Rattle.rules.specs.Limits.{mostAccounts}
 use Rattle.rules.specs.Rows.{Row, Refund, newRow, source, settleWhole}
-use Rattle.rules.specs.Book.{Account}
+use Rattle.rules.specs.Book.{Account, unused}
+use Rattle.rules.specs.Tick.{closes, closeAccounts}
+use Rattle.rules.specs.Tables.{Tables, bookOf}
 use Rattle.tables.specs.Changes.{AccountIn, AccountChanged}
 use Rattle.posting.specs.Posts.{tablesAt, RowRoom, RowAdded}
 use Rattle.posting_laws.proofs.UsedRowsLaws.{UsedRows}
+use Rattle.tick_base.specs.Midway.{Midway}
 use Rattle.tick_base.specs.Remainders.{daysOver}
 
 -- ---- one account
@@ -97,3 +100,11 @@ pub record ClosedTo (h a j h′ a′ j′ : List ℤ) (today : ℕ) (money owed 
   pub done : accountsOf a′ i ≡ change (closeAt today owed) (accountsOf a i)
   pub left : (k : ℕ) → i ≤ k → accountAt a′ k ≡ accountAt a k
   pub rows : UsedRows (tablesAt h a j) h′ j′ (rowsOf j (word h usedPlace) ++ refundsTo today money owed a i)
+
+-- ---- the tables
+
+-- midway, with room for the refunds, and whether an account closes
+pub record Closing (t : Tables) (closing : Bool) : Type 0 where
+  pub midway : Midway (word (t .header) dayPlace) t
+  pub room : length (closeAccounts (bookOf t) .rows) ≤ length (t .journal) / rowWidth
+  pub quiet : closing ≡ false → (k : ℕ) → k < length (bookOf t .accounts) → closes (bookOf t) (suc k) (getD (bookOf t .accounts) k unused) ≡ false

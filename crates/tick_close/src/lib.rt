@@ -18,17 +18,16 @@ use tables::words::get;
 use tick_base::days::days_over;
 use tick_base::sums::add_remainders;
 ghost use mathlib.Core.Path.{_≡_};
-ghost use Prim.Native.Nat.{_/_, _≤_};
+ghost use Prim.Native.Nat.{_/_};
 ghost use lib.ListN.{length};
-ghost use Rattle.records.specs.Layout.{dayPlace, accountWidth, rowWidth};
-ghost use Rattle.records.specs.Encoding.{word, rowAt};
+ghost use Rattle.records.specs.Layout.{accountWidth};
+ghost use Rattle.records.specs.Encoding.{rowAt};
 ghost use Rattle.rules.specs.Tick.{closeAccounts};
 ghost use Rattle.rules.specs.Tables.{bookOf};
 ghost use Rattle.tables.specs.Changes.{RowIn, RowChanged, RowsMapped};
 ghost use Rattle.posting.specs.Posts.{tablesAt};
 ghost use Rattle.posting_laws.proofs.WrittenLaws.{Written};
-ghost use Rattle.tick_base.specs.Midway.{Midway};
-ghost use Rattle.tick_close.specs.Closing.{closesBy, Closable, ClosedOne, useUpBy, Usable, UsableRows, AllClosable, ClosedTo};
+ghost use Rattle.tick_close.specs.Closing.{closesBy, Closable, ClosedOne, useUpBy, Usable, UsableRows, AllClosable, ClosedTo, Closing};
 
 // Its days are over and it owes nothing.
 fn is_closing(x: Account, today: u64, owed: u64) -> bool
@@ -120,11 +119,14 @@ fn close_each(
     }
 }
 
-// What remains is summed first: an account is judged on the book before any closes.
-pub fn close_accounts(header: &mut [i64], accounts: &mut [i64], journal: &mut [i64])
-    requires { ⌜ Midway (word (now header) dayPlace) (tablesAt (now header) (now accounts) (now journal)) × (length (closeAccounts (bookOf (tablesAt (now header) (now accounts) (now journal))) .rows) ≤ length (now journal) / rowWidth) ⌝ }
+// What remains is summed first: an account is judged on the book before any closes. On most days none closes, and nothing changes.
+pub fn close_accounts(header: &mut [i64], accounts: &mut [i64], journal: &mut [i64], closing: bool)
+    requires { ⌜ Closing (tablesAt (now header) (now accounts) (now journal)) closing ⌝ }
     ensures { λ _. ⌜ Written (tablesAt (now (header .entry)) (now (accounts .entry)) (now (journal .entry))) (tablesAt (now (header .exit)) (now (accounts .exit)) (now (journal .exit))) (closeAccounts (bookOf (tablesAt (now (header .entry)) (now (accounts .entry)) (now (journal .entry))))) ⌝ }
 {
+    if !closing {
+        return;
+    }
     let used = get(header, USED_PLACE) as usize;
     let today = get(header, DAY_PLACE);
     let mut money = [0u64; SEATS];

@@ -1,20 +1,18 @@
-// The fee rows that a tick adds.
+// The fee row of a toll that will rise.
 use table_rows::due_at;
 use table_rows::read_row;
 use tick_base::stages::fee_due;
 ghost use mathlib.Core.Path.{_≡_};
-ghost use Prim.Native.Nat.{ℕ, _*_, _≤_};
+ghost use Prim.Native.Nat.{ℕ, _≤_};
 ghost use lib.ListN.{length};
-ghost use Rattle.lists.specs.Lists.{gather};
-ghost use Rattle.records.specs.Layout.{headerWidth, headerSchedule, rowWidth};
-ghost use Rattle.records.specs.Encoding.{rowAt, rowsOf};
-ghost use Rattle.rules.specs.Limits.{mostRows};
+ghost use Rattle.records.specs.Layout.{headerWidth, headerSchedule};
+ghost use Rattle.records.specs.Encoding.{rowAt};
 ghost use Rattle.rules.specs.Tick.{feeRow};
 ghost use Rattle.rules.specs.Tables.{scheduleFrom};
 ghost use Rattle.tables.specs.Changes.{RowIn};
 
 // How many fee rows row i brings: one or none. Few rows are due today, so the due day is read first and alone.
-fn fee_rows(header: &[i64], journal: &[i64], i: usize, today: u64) -> usize
+pub fn fee_rows(header: &[i64], journal: &[i64], i: usize, today: u64) -> usize
     requires { ⌜ (headerWidth ≤ length (now header)) × RowIn (now journal) i ⌝ }
     ensures { λ n. ⌜ ((k : ℕ) → n ≡ length (feeRow (scheduleFrom (now (header .entry)) headerSchedule) today k (rowAt (now (journal .entry)) i))) × (n ≤ 1) ⌝ }
 {
@@ -25,18 +23,4 @@ fn fee_rows(header: &[i64], journal: &[i64], i: usize, today: u64) -> usize
         return 0;
     }
     1
-}
-
-// How many fee rows the used rows bring.
-pub fn fees_added(header: &[i64], journal: &[i64], used: usize, today: u64) -> usize
-    requires { ⌜ (headerWidth ≤ length (now header)) × (used * rowWidth ≤ length (now journal)) × (used ≤ mostRows) ⌝ }
-    ensures { λ n. ⌜ (n ≡ length (gather (feeRow (scheduleFrom (now (header .entry)) headerSchedule) today) (rowsOf (now (journal .entry)) used))) × (n ≤ used) ⌝ }
-{
-    let mut n = 0;
-    let mut i = 0;
-    while i < used {
-        n += fee_rows(header, journal, i, today);
-        i += 1;
-    }
-    n
 }

@@ -1,43 +1,42 @@
 -- Laws of the end of holds: a released row fits, the accounts settled are those of which a hold has ended.
 use mathlib.Core.Path.{_≡_, refl, sym, ap, _∙_}
-use mathlib.Core.Bool.{Bool, true, false, cond, _&&_}
-use Prim.Native.Nat.{ℕ, zero, suc, _+_, _*_, _-_, _^_, _≤_, _<_}
+use mathlib.Core.Bool.{Bool, true, false, cond}
+use Prim.Native.Nat.{ℕ, zero, suc, _+_, _-_, _^_, _≤_, _<_}
 use native.Mathlib.Omega.{arith}
 use native.Mathlib.Numerals.{add-one}
-use mathlib.Core.List.{List, map}
+use mathlib.Core.List.{List}
 use lib.IntN.{ℤ}
-use lib.ListN.{length, getD, length-map, List·getD-map}
+use lib.ListN.{length, getD}
 use lib.Dec.{eqb, ltb}
 use borrow.Author.Tests.{eqb-true}
 use Rattle.lists.specs.Tests.{_is_}
-use Rattle.lists.specs.Lists.{count, exists, tabulate}
+use Rattle.lists.specs.Lists.{count, exists}
 use Rattle.lists.proofs.TestLaws.{and-left, and-right}
-use Rattle.lists.proofs.ListLaws.{tabulate-at, length-tabulate}
-use Rattle.records.specs.Layout.{dayPlace, rowWidth}
+use Rattle.lists.proofs.ListLaws.{tabulate-at}
+use Rattle.records.specs.Layout.{dayPlace}
 use Rattle.records.specs.Encoding.{word, rowAt, rowsOf, StorableRow}
-use Rattle.rules.specs.Limits.{holdDays, finalDay, longestStage}
+use Rattle.rules.specs.Limits.{holdDays}
 use Rattle.rules.specs.Rows.{Row, blank, heldToll}
 use Rattle.rules.specs.Events.{release}
-use Rattle.rules.specs.Settlement.{settle, settleAccounts}
+use Rattle.rules.specs.Settlement.{settle}
 use Rattle.rules.specs.Book.{Book, settled}
-use Rattle.rules.specs.Tick.{nextDay, holdEnds, endHolds, beforeRaising}
+use Rattle.rules.specs.Tick.{holdEnds}
 use Rattle.rules.specs.Tables.{Tables, accountsIn, rowsUsed, bookOf, soundTables}
 use Rattle.rules.proofs.AllocationLaws.{bare}
-use Rattle.rules.proofs.SettlementLaws.{settle-row, length-settle}
+use Rattle.rules.proofs.SettlementLaws.{settle-row}
 use Rattle.rules.proofs.TableLaws.{sound-book, sound-rows}
 use Rattle.rules.proofs.StorableLaws.{row-storable, day-le, stage-le}
-use Rattle.rules.proofs.SoundnessLaws.{Sound}
 use Rattle.preservation.proofs.DisputeKept.{HeldToll, held-is}
 use Rattle.tick_rules.specs.Ticks.{freed, settleThose}
-use Rattle.tick_rules.proofs.FreedLaws.{atDawn, dawn, dawn-rows, settleThose-all, freed-settled}
+use Rattle.tick_rules.proofs.FreedLaws.{atDawn, dawn, dawn-rows, freed-settled, none-ended}
 use Rattle.tables.specs.Changes.{RowsMapped}
 use Rattle.tables.proofs.ChangeLaws.{mapped-all}
 use Rattle.settlement.specs.Settling.{Journal, Settled}
 use Rattle.account_sums.specs.Tallies.{Tallied}
 use Rattle.account_sums.proofs.SumsLaws.{Share}
-use Rattle.posting.proofs.BookLaws.{day-read, used-read, count-read, used-room, journal-settles}
+use Rattle.posting.proofs.BookLaws.{day-read, used-read, count-read, used-room}
 use Rattle.tick_base.proofs.MidwayLaws.{sound-midway, midway-row}
-use Rattle.tick_holds.specs.Holds.{endsOf, Ending, Dawning, RowsBecome, SettledThose, DuskRows}
+use Rattle.tick_holds.specs.Holds.{endsOf, Dawning, Ends, RowsBecome, SettledThose, DuskRows}
 
 -- ---- the share of a row
 
@@ -169,6 +168,12 @@ module _ (t : Tables) (s : soundTables t ≡ true) (ends : List ℕ) (u v : List
         ∙ rw (count-read t s) (sym (freed-settled (bookOf t) (sound-book t s))));
     rest = λ k h. d .rest k h ∙ m .left k h;
   }
+
+-- where no hold ends, the journal is as it was
+pub dusk-same : (t : Tables) (ending : Bool) → Ends t ending → ending ≡ false → DuskRows t (t .journal)
+dusk-same t ending e z =
+    let r : rowsOf (t .journal) (rowsUsed t) ≡ bookOf t .rows = sym (sound-rows t (e .sound)) in
+    record { size = refl; rows = r ∙ sym (none-ended (bookOf t) (sound-book t (e .sound)) (sym (e .told) ∙ z)); rest = λ k h. refl }
 
 -- ---- one row released, one account settled
 

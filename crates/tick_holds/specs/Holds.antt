@@ -7,13 +7,14 @@ use lib.Dec.{ltb}
 use lib.IntN.{ℤ}
 use lib.ListN.{length, getD}
 use Rattle.lists.specs.Tests.{_is_}
+use Rattle.lists.specs.Lists.{exists}
 use Rattle.records.specs.Layout.{rowWidth}
 use Rattle.records.specs.Encoding.{rowAt, rowsOf, StorableRow}
 use Rattle.rules.specs.Rows.{Row}
 use Rattle.rules.specs.Events.{release}
 use Rattle.rules.specs.Settlement.{settle}
 use Rattle.rules.specs.Tick.{holdEnds, beforeRaising}
-use Rattle.rules.specs.Tables.{Tables, rowsUsed, bookOf}
+use Rattle.rules.specs.Tables.{Tables, rowsUsed, bookOf, soundTables}
 use Rattle.tick_rules.specs.Ticks.{settleThose}
 
 -- a row's share in the holds of account n that end
@@ -29,6 +30,11 @@ pub record Ending (today : ℕ) (r : Row) : Type 0 where
 pub record Dawning (t : List ℤ) (used today : ℕ) : Type 0 where
   pub room : used * rowWidth ≤ length t
   pub each : (k : ℕ) → k < used → Ending today (rowAt t k)
+
+-- sound tables, and whether a hold ends at the tick to the next day
+pub record Ends (t : Tables) (ending : Bool) : Type 0 where
+  pub sound : soundTables t ≡ true
+  pub told : ending ≡ exists (holdEnds (bookOf t .day + 1)) (bookOf t .rows)
 
 -- the used rows become those given; the others are as before
 pub record RowsBecome (t u : List ℤ) (used : ℕ) (new : List Row) : Type 0 where

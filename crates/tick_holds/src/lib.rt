@@ -15,18 +15,15 @@ use tables::layout::DAY_PLACE;
 use tables::layout::USED_PLACE;
 use tables::words::get;
 use tick_base::days::hold_ends;
-ghost use mathlib.Core.Path.{_≡_};
-ghost use mathlib.Core.Bool.{true};
 ghost use Prim.Native.Nat.{_+_, _≤_, _<_};
 ghost use Rattle.records.specs.Encoding.{rowAt};
 ghost use Rattle.rules.specs.Limits.{mostAccounts};
-ghost use Rattle.rules.specs.Tables.{soundTables};
 ghost use Rattle.tick_rules.proofs.FreedLaws.{atDawn};
 ghost use Rattle.tables.specs.Changes.{RowIn, RowChanged, RowsMapped};
 ghost use Rattle.account_sums.specs.Tallies.{Tallied, Countable};
 ghost use Rattle.settlement.specs.Settling.{Journal};
 ghost use Rattle.posting.specs.Posts.{tablesAt};
-ghost use Rattle.tick_holds.specs.Holds.{endsOf, Ending, Dawning, SettledIf, SettledThose, DuskRows};
+ghost use Rattle.tick_holds.specs.Holds.{endsOf, Ending, Dawning, Ends, SettledIf, SettledThose, DuskRows};
 
 // Row i, where its hold ends, is counted at its account. Few rows are in dispute, so that is read first and alone, here and below.
 fn count_end(journal: &[i64], used: usize, i: usize, today: u64, ends: &mut [u64; SEATS])
@@ -101,11 +98,14 @@ fn settle_freed(journal: &mut [i64], used: usize, count: usize, ends: &[u64; SEA
     }
 }
 
-// The holds that end at the tick to the next day, and the settlement that they allow.
-pub fn free_and_settle(header: &[i64], accounts: &[i64], journal: &mut [i64])
-    requires { ⌜ soundTables (tablesAt (now header) (now accounts) (now journal)) ≡ true ⌝ }
+// The holds that end at the tick to the next day, and the settlement that they allow. On most days none ends, and nothing changes.
+pub fn free_and_settle(header: &[i64], accounts: &[i64], journal: &mut [i64], ending: bool)
+    requires { ⌜ Ends (tablesAt (now header) (now accounts) (now journal)) ending ⌝ }
     ensures { λ _. ⌜ DuskRows (tablesAt (now (header .entry)) (now (accounts .entry)) (now (journal .entry))) (now (journal .exit)) ⌝ }
 {
+    if !ending {
+        return;
+    }
     let used = get(header, USED_PLACE) as usize;
     let today = get(header, DAY_PLACE) + 1;
     let mut ends = [0u64; SEATS];

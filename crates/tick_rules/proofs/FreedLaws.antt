@@ -1,18 +1,19 @@
 -- The settlement after holds have ended: only accounts of which a hold ended can have something to move.
 use mathlib.Core.Path.{_≡_, refl, sym, ap, _∙_}
-use mathlib.Core.Logic.{_≢_}
 use mathlib.Core.Bool.{Bool, true, false, cond, _&&_}
 use Prim.Native.Nat.{ℕ, zero, suc, _+_, _≤_, _<_}
 use native.Mathlib.Omega.{arith}
 use mathlib.Core.List.{List, map}
 use lib.ListN.{length, getD, length-map}
+use lib.Seq.{ext-getD}
 use lib.Dec.{eqb}
 use borrow.Author.Tests.{eq-eqb}
-use Rattle.lists.specs.Lists.{only}
-use Rattle.lists.proofs.ExistsLaws.{exists-none}
+use Rattle.lists.specs.Lists.{only, exists}
+use Rattle.lists.proofs.TestLaws.{and-false}
+use Rattle.lists.proofs.ExistsLaws.{exists-none, none-exists}
 use Rattle.lists.proofs.GatherLaws.{map-at}
-use Rattle.rules.specs.Rows.{Row, blank, remaining, sourceOf, debitOf}
-use Rattle.rules.specs.Settlement.{money, debt, moved, settle, settleAccounts, owed}
+use Rattle.rules.specs.Rows.{Row, blank}
+use Rattle.rules.specs.Settlement.{moved, settle, settleAccounts}
 use Rattle.rules.specs.Book.{Book, settled}
 use Rattle.rules.specs.Events.{release}
 use Rattle.rules.specs.Tick.{nextDay, holdEnds, endHolds, beforeRaising}
@@ -21,7 +22,7 @@ use Rattle.rules.proofs.SettlementAccountsLaws.{settleAccounts-none}
 use Rattle.rules.proofs.SoundnessLaws.{Near, Sound}
 use Rattle.preservation.proofs.NamedLaws.{sound-moved}
 use Rattle.tick_rules.specs.Ticks.{freed, settleThose}
-use Rattle.tick_rules.proofs.KeptLaws.{gist, Kept, money-kept, debt-kept, owed-kept}
+use Rattle.tick_rules.proofs.KeptLaws.{gist, Kept, money-kept, debt-kept}
 
 -- ---- accounts that have nothing to move need no settlement
 
@@ -102,3 +103,25 @@ module _ (b : Book) where
   unfolding beforeRaising settled endHolds nextDay
   freed-settled s =
       sym (settleThose-all (freed today (b .rows)) (length (b .accounts)) dawn (λ m l h f. moved-dawn m f (s .near) ∙ sound-moved b s m l h))
+
+-- ---- where no hold ends, nothing changes
+
+settleThose-none : (t : ℕ → Bool) → ((m : ℕ) → t m ≡ false) → (n : ℕ) (rows : List Row) → settleThose t n rows ≡ rows
+unfolding settleThose
+settleThose-none t z zero rows = refl
+settleThose-none t z (suc n) rows = rw (z (suc n)) (settleThose-none t z n rows)
+
+module _ (b : Book) (s : Sound b) (z : exists (holdEnds (b .day + 1)) (b .rows) ≡ false) where
+  goes-on : (k : ℕ) → k < length (b .rows) → holdEnds (today b) (getD (b .rows) k blank) ≡ false
+  goes-on = exists-none (holdEnds (today b)) (b .rows) blank z
+
+  dawn-same : dawn b ≡ b .rows
+  dawn-same = ext-getD blank (dawn b) (b .rows) (dawn-length b) (λ k l. dawn-at b k ∙ rw (goes-on k (rw (dawn-length b) at l)))
+
+  none-freed : (m : ℕ) → freed (today b) (b .rows) m ≡ false
+  unfolding freed
+  none-freed m =
+      none-exists (λ r. eqb (r .account) m && holdEnds (today b) r) (b .rows) blank (λ k l. rw (goes-on k l) (and-false (eqb (getD (b .rows) k blank .account) m)))
+
+  pub none-ended : beforeRaising b .rows ≡ b .rows
+  none-ended = freed-settled b s ∙ settleThose-none (freed (today b) (b .rows)) none-freed (length (b .accounts)) (dawn b) ∙ dawn-same

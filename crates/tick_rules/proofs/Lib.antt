@@ -5,3 +5,4 @@ pub mod LateLaws
 pub mod RefundLaws
 pub mod QuietLaws
 pub mod CountLaws
+pub mod UnclosedLaws

@@ -9,15 +9,15 @@ use native.Mathlib.Decide.{ℕ-discrete}
 use mathlib.Core.List.{List}
 use lib.ListN.{length, getD}
 use lib.Dec.{eqb, leb, ltb}
-use borrow.Author.Tests.{eqb-true, eq-eqb, ne-eqb, lt-ltb, le-ltb, ltb-true, ltb-false, not-true, not-false}
-use Rattle.lists.specs.Lists.{sumBy, only, exists}
+use borrow.Author.Tests.{eqb-true, eq-eqb, ne-eqb, lt-ltb, le-leb, ltb-true, not-true}
+use Rattle.lists.specs.Lists.{only, exists}
 use Rattle.lists.proofs.TestLaws.{and-left, and-right, and-false}
 use Rattle.lists.proofs.SumLaws.{sumBy-at-le, sumBy-ext, sumBy-ext-at, sumBy-map}
 use Rattle.lists.proofs.ExistsLaws.{exists-none, none-exists}
 use Rattle.rules.specs.Limits.{closingDays, finalDay}
 use Rattle.rules.specs.Rows.{Row, blank, rowNo, remaining, debit, held, heldToll, unsettled, debitOf, payable}
 use Rattle.rules.specs.Settlement.{money, debt, moved, owed}
-use Rattle.rules.specs.Book.{Account, unused, Pending, Book, settled}
+use Rattle.rules.specs.Book.{Account, Pending, Book, settled}
 use Rattle.rules.specs.Events.{release}
 use Rattle.rules.specs.Tick.{nextDay, holdEnds, endHolds, beforeRaising, raiseTolls, closes}
 use Rattle.rules.proofs.AllocationLaws.{bare}
@@ -27,9 +27,9 @@ use Rattle.preservation.proofs.FeeLaws.{Named, fee-at}
 use Rattle.preservation.proofs.DisputeKept.{HeldToll, held-is}
 use Rattle.preservation.proofs.HoldsEnded.{endHolds-near, beforeRaising-near}
 use Rattle.preservation.proofs.ClosingLaws.{none-owed}
-use Rattle.tick_rules.specs.Ticks.{staysHeld, willRefund}
+use Rattle.tick_rules.specs.Ticks.{staysHeld, willRefund, willClose}
 use Rattle.tick_rules.proofs.FreedLaws.{atDawn, dawn-keeps, today, dawn, dawn-rows, dawn-length, dawn-at, dawn-account}
-use Rattle.tick_rules.proofs.RisingLaws.{Grown, settleAccounts-row, money-dawn, dusk, dusk-rows, dusk-length}
+use Rattle.tick_rules.proofs.RisingLaws.{settleAccounts-row, money-dawn, dusk, dusk-rows, dusk-length}
 use Rattle.tick_rules.proofs.LateLaws.{late, money-late, owed-grows, clear-late}
 
 -- a debit of account n that is unsettled is owed
@@ -97,19 +97,37 @@ module _ (b : Book) (s : Sound b) (ne : b .day ≢ finalDay) (j : ℕ) (h : j < 
   abbrev lateRows : List Row
   lateRows = late settledBook
 
+  -- where nothing is owed at dusk, no toll stays held
+  none-stays : owed n (dusk b s) ≡ 0 → not (exists (staysHeld (today b) n) (b .rows)) ≡ true
+  none-stays z = rw (none-exists (staysHeld (today b) n) (b .rows) blank (λ k l. none k l (staysHeld (today b) n (getD (b .rows) k blank)) refl))
+    where
+      none : (k : ℕ) → k < length (b .rows) → (v : Bool) → staysHeld (today b) n (getD (b .rows) k blank) ≡ v → v ≡ false
+      none k l true e = absurd (omega (arith, held-owes k l e))
+      none k l false e = refl
+
   told-after : not (exists (λ r. debitOf n r && unsettled r) lateRows) ≡ true → ltb 0 (money n lateRows) ≡ true
       → (not (exists (staysHeld (today b) n) (b .rows)) ≡ true) × (ltb (owed n (b .rows)) (money n (b .rows)) ≡ true)
   told-after q m =
       let o : owed n lateRows ≡ 0 = none-owed n lateRows q in
       let z : owed n (dusk b s) ≡ 0 = omega (arith, owed-grows settledBook n) in
-      let p : 0 < money n (dusk b s) = omega (arith, money-late settledBook n, ltb-true 0 (money n lateRows) m) in (
-        rw (none-exists (staysHeld (today b) n) (b .rows) blank (λ k l. none k l z (staysHeld (today b) n (getD (b .rows) k blank)) refl)),
-        lt-ltb (owed n (b .rows)) (money n (b .rows)) (omega (arith, remains .money, remains .owed, owed-dawn, money-dawn b n)),
-      )
+      let p : 0 < money n (dusk b s) = omega (arith, money-late settledBook n, ltb-true 0 (money n lateRows) m) in
+      (none-stays z, lt-ltb (owed n (b .rows)) (money n (b .rows)) (omega (arith, remains .money, remains .owed, owed-dawn, money-dawn b n)))
+
+  -- an account that closes was to close
+  told-closing : not (exists (λ r. debitOf n r && unsettled r) lateRows) ≡ true
+      → (not (exists (staysHeld (today b) n) (b .rows)) ≡ true) × (leb (owed n (b .rows)) (money n (b .rows)) ≡ true)
+  told-closing q =
+      let z : owed n (dusk b s) ≡ 0 = omega (arith, owed-grows settledBook n, none-owed n lateRows q) in
+      (none-stays z, le-leb (owed n (b .rows)) (money n (b .rows)) (omega (arith, remains .money, remains .owed, owed-dawn, money-dawn b n)))
+
+  pub none-closing : (x : Account) → willClose b n x ≡ false → closes (raiseTolls settledBook) n x ≡ false
+  unfolding closes willClose raiseTolls beforeRaising settled endHolds nextDay
+  none-closing x w = go (eqb (x .state) Pending && leb (x .request + closingDays) (b .day + 1)) _ _ _ told-closing w
     where
-      none : (k : ℕ) → k < length (b .rows) → owed n (dusk b s) ≡ 0 → (v : Bool) → staysHeld (today b) n (getD (b .rows) k blank) ≡ v → v ≡ false
-      none k l z true e = absurd (omega (arith, held-owes k l e))
-      none k l z false e = refl
+      go : (p q q′ m′ : Bool) → (q ≡ true → (q′ ≡ true) × (m′ ≡ true)) → p && q′ && m′ ≡ false → p && q ≡ false
+      go true true q′ m′ f e = let t = f refl in absurd (true≢false (rw (t .0, t .1) at e))
+      go true false q′ m′ f e = refl
+      go false q q′ m′ f e = refl
 
   -- ---- from the book before to the late one
 

@@ -1,15 +1,16 @@
 -- A day tick in the terms in which code carries it out.
-use mathlib.Core.Bool.{Bool, not, cond, _&&_}
-use Prim.Native.Nat.{ℕ, zero, suc, _+_}
+use mathlib.Core.Path.{_≡_}
+use mathlib.Core.Bool.{Bool, false, not, cond, _&&_}
+use Prim.Native.Nat.{ℕ, zero, suc, _+_, _<_}
 use mathlib.Core.List.{List}
-use lib.ListN.{length}
+use lib.ListN.{length, getD}
 use lib.Dec.{leb, ltb}
 use Rattle.lists.specs.Tests.{_is_}
 use Rattle.lists.specs.Lists.{exists, one, gather}
 use Rattle.rules.specs.Limits.{closingDays}
 use Rattle.rules.specs.Rows.{Row, Test, blank, heldToll}
 use Rattle.rules.specs.Settlement.{money, settle, owed}
-use Rattle.rules.specs.Book.{Account, Pending, Book}
+use Rattle.rules.specs.Book.{Account, Pending, unused, Book}
 use Rattle.rules.specs.Tick.{holdEnds, feeRow}
 
 -- ---- the settlement after holds have ended
@@ -34,6 +35,16 @@ unfoldable pub willRefund : Book → ℕ → Account → Bool
 willRefund b n x =
     x .state is Pending && leb (x .request + closingDays) (b .day + 1) && not (exists (staysHeld (b .day + 1) n) (b .rows))
     && ltb (owed n (b .rows)) (money n (b .rows))
+
+-- account n will close, with money left or not
+unfoldable pub willClose : Book → ℕ → Account → Bool
+willClose b n x =
+    x .state is Pending && leb (x .request + closingDays) (b .day + 1) && not (exists (staysHeld (b .day + 1) n) (b .rows))
+    && leb (owed n (b .rows)) (money n (b .rows))
+
+-- no account will
+abbrev pub NoneCloses : Book → Type 0
+NoneCloses b = (k : ℕ) → k < length (b .accounts) → willClose b (suc k) (getD (b .accounts) k unused) ≡ false
 
 -- the fees of the tolls that will rise
 unfoldable pub feesAdded : Book → ℕ

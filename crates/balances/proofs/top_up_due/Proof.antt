@@ -22,27 +22,22 @@ returns c =
 get-requires-2 : tie.Need-get-requires-2
 get-requires-2 c κs = omega (arith, header-length _ (c .before .before .before .before .before .before .pre))
 
-debits-of-requires : tie.Need-debits-of-requires
-debits-of-requires c κs = rw (c .get2 .ensures) (journal-summable _ (c .before .before .before .before .before .before .before .pre))
+sums-of-requires : tie.Need-sums-of-requires
+sums-of-requires c κs = rw (c .get2 .ensures) (journal-summable _ (c .before .before .before .before .before .before .before .pre))
 
 add-limit : tie.Need-add-limit
 add-limit c =
-    let i = c .before .before .before in
-    let a = i .before .before .before .before .before in
-    omega (arith, debits-fit _ (a .before .pre) _ _ (a .account-numbered .ensures) _ _ (c .before .before .get2 .ensures) (c .before .debits-of .ensures))
-
-sources-of-requires : tie.Need-sources-of-requires
-sources-of-requires c κs =
-    let g = c .before .before in
-    rw (g .get2 .ensures) (journal-summable _ (g .before .before .before .before .before .before .before .pre))
+    let d = c .before .before in
+    let a = d .before .before .before .before .before .before .before in
+    omega (arith, debits-fit _ (a .before .pre) _ _ (a .account-numbered .ensures) _ _ (d .before .get2 .ensures) (d .sums-of .ensures))
 
 returns-2 : tie.Need-returns-2
 returns-2 c =
-    let d = c .before .before in
+    let d = c .before .before .before in
     let i = d .before .before in
     let a = i .before .before .before .before .before in
-    due-by-balance _ (a .before .pre) _ _ (a .account-numbered .ensures) _ _ (d .before .get2 .ensures) (d .debits-of .ensures) _
-    (i .before .before .before .before .get .ensures) (not-false _ (i .if1 .left)) _ (c .sources-of .ensures)
+    due-by-balance _ (a .before .pre) _ _ (a .account-numbered .ensures) _ _ (d .before .get2 .ensures) (d .sums-of .ensures) _
+    (i .before .before .before .before .get .ensures) (not-false _ (i .if1 .left))
 
 pub top-up-due-spec : {M : Type 1} → statement M
 top-up-due-spec =
@@ -52,7 +47,6 @@ top-up-due-spec =
     get-requires
     returns
     get-requires-2
-    debits-of-requires
+    sums-of-requires
     add-limit
-    sources-of-requires
     returns-2)

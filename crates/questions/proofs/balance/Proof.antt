@@ -1,5 +1,5 @@
 -- `balance` meets its contract: refused, its value is 0; else it is the difference of the sums.
-use Rattle.questions.proofs.QuestionLaws.{asked-sound, question-refused, question-answered, sources-fit, debits-fit, balance-read}
+use Rattle.questions.proofs.QuestionLaws.{asked-sound, question-refused, question-answered, sums-small, balance-read}
 use Rattle.rules.specs.Book as book
 use Rattle.rules.specs.Calls.{balanceCall}
 use Rattle.rules.proofs.TableLaws.{header-length}
@@ -42,27 +42,23 @@ returns c =
 get-requires : tie.Need-get-requires
 get-requires c κs = omega (arith, header-length _ (asked c))
 
-sources-of-requires : tie.Need-sources-of-requires
-sources-of-requires c κs = rw (c .get .ensures) (journal-summable _ (asked (c .before)))
-
-debits-of-requires : tie.Need-debits-of-requires
-debits-of-requires c κs = rw (c .before .get .ensures) (journal-summable _ (asked (c .before .before)))
+sums-of-requires : tie.Need-sums-of-requires
+sums-of-requires c κs = rw (c .get .ensures) (journal-summable _ (asked (c .before)))
 
 minus-requires : tie.Need-minus-requires
 minus-requires c κs =
-    let g = c .before .before in
-    let p = sources-fit (lent (g .before .before .before .before)) (asked (g .before)) _ (g .get .ensures) _ _ (c .before .sources-of .ensures) in
-    let q = debits-fit (lent (g .before .before .before .before)) (asked (g .before)) _ (g .get .ensures) _ _ (c .debits-of .ensures) in
+    let g = c .before in
+    let h = sums-small (lent (g .before .before .before .before)) (asked (g .before)) _ (g .get .ensures) _ _ (c .sums-of .ensures) in
     (omega arith, omega arith)
 
 returns-2 : tie.Need-returns-2
 unfolding balanceCall
 returns-2 c =
     let d = c .before in
-    let g = d .before .before in
+    let g = d .before in
     let q = g .before .before in
     question-answered book.balance (lent (q .before .before)) _ _ (numbered (q .before)) _ (q .question-refusal .ensures) (g .before .if1 .left) _
-    (toZ-ofZ (sfits-of (c .minus .ok)) ∙ c .minus .ensures ∙ balance-read (lent (q .before .before)) (asked (g .before)) _ (g .get .ensures) _ _ _ (d .before .sources-of .ensures) (d .debits-of .ensures))
+    (toZ-ofZ (sfits-of (c .minus .ok)) ∙ c .minus .ensures ∙ balance-read (lent (q .before .before)) (asked (g .before)) _ (g .get .ensures) _ _ (d .sums-of .ensures))
 
 pub balance-spec : {M : Type 1} → statement M
 balance-spec =
@@ -72,7 +68,6 @@ balance-spec =
     question-refusal-requires
     returns
     get-requires
-    sources-of-requires
-    debits-of-requires
+    sums-of-requires
     minus-requires
     returns-2)
