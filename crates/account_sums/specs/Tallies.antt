@@ -39,16 +39,6 @@ debtOf rows n = only (payable rows n) remaining
 abbrev pub owedOf : ℕ → Row → ℕ
 owedOf n = only (debitOf n) remaining
 
-pub record SourceTallies (t : List ℤ) (returned drawn money : List ℕ) (i : ℕ) : Type 0 where
-  pub returns : Tallied returnOf 257 t returned i
-  pub draws : Tallied drawnOf 257 t drawn i
-  pub moneys : Tallied moneyOf 257 t money i
-
-pub record DebitTallies (t : List ℤ) (used : ℕ) (paid debt owed : List ℕ) (i : ℕ) : Type 0 where
-  pub payments : Tallied paidOf 257 t paid i
-  pub debts : Tallied (debtOf (rowsOf t used)) 257 t debt i
-  pub owings : Tallied owedOf 257 t owed i
-
 -- rows that have a kind, an account and amounts whose sums fit
 pub record Countable (t : List ℤ) (used : ℕ) : Type 0 where
   pub room : used * rowWidth ≤ length t

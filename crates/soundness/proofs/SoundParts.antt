@@ -23,6 +23,7 @@ use Rattle.rules.specs.Opening.{dayFits, sizesFit}
 use Rattle.rules.specs.Soundness.{passageOnce, feesFit, rowSound, returnedFits, even, spent, closedClear, accountSound, sound}
 use Rattle.rules.specs.Tables.{Tables, accountsIn, roomIn, rowsUsed, scheduleFrom, bookOf, wholeRecords, lengthsFit, usedFits, laterRowsZero, soundTables}
 use Rattle.rules.proofs.StorableLaws.{between-le, schedule-storable}
+use Rattle.sound_header.specs.declared.frame.Frame.{Frame}
 use Rattle.sound_header.specs.Clauses.{ownWords, rowAlone, rowStands, rowsStand, restZero, tablesAt, Bounds}
 use Rattle.sound_header.proofs.LengthLaws.{lengths-known}
 use Rattle.sound_passages.specs.Trees.{passagesDiffer}
@@ -34,8 +35,8 @@ use Rattle.soundness.specs.Book.{bookStands}
 use Rattle.sound_sums.specs.Accounts.{sumsAgree, accountStands, sumsAt, sumsOf, allAgree, accountsStand}
 use Rattle.sound_sums.proofs.AccountLaws.{all-stand}
 use Rattle.sound_accounts.specs.Alone.{accountAlone}
-use Rattle.account_sums.specs.Tallies.{returnOf, drawnOf, moneyOf, paidOf, debtOf, owedOf}
 use Rattle.account_sums.proofs.TallyLaws.{tallied-none}
+use Rattle.account_sums.proofs.ColumnLaws.{tallies-none}
 use Rattle.sound_walk.specs.Walks.{Walked, Unfit}
 
 -- ---- rows and accounts
@@ -132,7 +133,7 @@ module _ (h a j : List ℤ) (used today stage : ℕ) (f : Fit h a j used today s
       schedule-fits : scheduleFits (bookOf tables .schedule) ≡ true
       schedule-fits = unfold bookOf in (f .schedule)
 
-  pub fit-bounds : Bounds a j (length a / accountWidth) used today stage
+  pub fit-bounds : Bounds a j (record { count = length a / accountWidth; used = used; today = today; stage = stage })
   unfolding dayFits scheduleFrom
   fit-bounds =
       let l = lengths-known h a j (f .lengths) in
@@ -149,38 +150,40 @@ module _ (h a j : List ℤ) (used today stage : ℕ) (f : Fit h a j used today s
 -- ---- the rows once they are walked
 
 -- no fees, sums or passage numbers before the first row
-pub walked-none : (accounts journal : List ℤ) (count used today stage : ℕ) → Walked accounts journal count used today stage (replicate 32768 0) (replicate 8193 0) (replicate 257 0) (replicate 257 0) (replicate 257 0) (replicate 257 0) (replicate 257 0) (replicate 257 0) 0
-walked-none accounts journal count used today stage = record {
+pub walked-none : (accounts journal : List ℤ) (f : Frame) → Walked accounts journal f (replicate 32768 0) (replicate 8193 0) (replicate 1542 0) 0
+walked-none accounts journal f = record {
   stood = below-none _;
   grown = grown-none journal 32768 refl;
   fees = tallied-none feeOf 8193 journal;
-  sources = record { returns = tallied-none returnOf 257 journal; draws = tallied-none drawnOf 257 journal; moneys = tallied-none moneyOf 257 journal };
-  debits = record { payments = tallied-none paidOf 257 journal; debts = tallied-none (debtOf (rowsOf journal used)) 257 journal; owings = tallied-none owedOf 257 journal };
+  tallies = tallies-none journal (f .used);
 }
 
-module _ (accounts journal : List ℤ) (count used today stage : ℕ) where
-  pub unfit-stands : Unfit accounts journal count used today stage → false ≡ bookStands (accountsOf accounts count) (rowsOf journal used) today stage
+module _ (accounts journal : List ℤ) (f : Frame) where
+  abbrev standing : Bool
+  standing = bookStands (accountsOf accounts (f .count)) (rowsOf journal (f .used)) (f .today) (f .stage)
+
+  pub unfit-stands : Unfit accounts journal f → false ≡ standing
   unfolding bookStands allOf
-  unfit-stands e = rw (← and-assoc (rowsStand (accountsOf accounts count) (rowsOf journal used) today stage) (passagesDiffer (rowsOf journal used)) (feesFew (rowsOf journal used) && (accountsStand today (rowsOf journal used) (accountsOf accounts count) && true)), e)
+  unfit-stands e = rw (← and-assoc (rowsStand (accountsOf accounts (f .count)) (rowsOf journal (f .used)) (f .today) (f .stage)) (passagesDiffer (rowsOf journal (f .used))) (feesFew (rowsOf journal (f .used)) && (accountsStand (f .today) (rowsOf journal (f .used)) (accountsOf accounts (f .count)) && true)), e)
 
-  module _ (b : Bounds accounts journal count used today stage) {cells counts returned drawn money paid debt owed : List ℕ} (w : Walked accounts journal count used today stage cells counts returned drawn money paid debt owed used) where
-    rows-stand : rowsStand (accountsOf accounts count) (rowsOf journal used) today stage ≡ true
+  module _ (b : Bounds accounts journal f) {cells counts sums : List ℕ} (w : Walked accounts journal f cells counts sums (f .used)) where
+    rows-stand : rowsStand (accountsOf accounts (f .count)) (rowsOf journal (f .used)) (f .today) (f .stage) ≡ true
     unfolding rowsStand
-    rows-stand = every-tabulate _ (rowAt journal) used (w .stood)
+    rows-stand = every-tabulate _ (rowAt journal) (f .used) (w .stood)
 
-    passages-differ : passagesDiffer (rowsOf journal used) ≡ true
-    passages-differ = clean-differ journal used (w .grown .clean)
+    passages-differ : passagesDiffer (rowsOf journal (f .used)) ≡ true
+    passages-differ = clean-differ journal (f .used) (w .grown .clean)
 
     -- too many fees
-    pub fees-unfit : feesAllWithin counts (rowsOf journal used) ≡ false → false ≡ bookStands (accountsOf accounts count) (rowsOf journal used) today stage
+    pub fees-unfit : feesAllWithin counts (rowsOf journal (f .used)) ≡ false → false ≡ standing
     unfolding bookStands allOf
     fees-unfit e =
-        let f : feesFew (rowsOf journal used) ≡ false = sym (fees-counted journal counts used (b .few) (w .fees)) ∙ e in
-        rw (rows-stand, passages-differ, f)
+        let n : feesFew (rowsOf journal (f .used)) ≡ false = sym (fees-counted journal counts (f .used) (b .few) (w .fees)) ∙ e in
+        rw (rows-stand, passages-differ, n)
 
     -- few fees: the accounts decide
-    pub sums-decide : feesAllWithin counts (rowsOf journal used) ≡ true → allAgree today (sumsAt returned drawn money paid debt owed) (accountsOf accounts count) ≡ bookStands (accountsOf accounts count) (rowsOf journal used) today stage
+    pub sums-decide : feesAllWithin counts (rowsOf journal (f .used)) ≡ true → allAgree (f .today) (sumsAt sums) (accountsOf accounts (f .count)) ≡ standing
     unfolding bookStands allOf
     sums-decide e =
-        let f : feesFew (rowsOf journal used) ≡ true = sym (fees-counted journal counts used (b .few) (w .fees)) ∙ e in
-        all-stand journal used returned drawn money paid debt owed (w .sources) (w .debits) today accounts count (b .fewer) ∙ rw (rows-stand, passages-differ, f, and-true)
+        let n : feesFew (rowsOf journal (f .used)) ≡ true = sym (fees-counted journal counts (f .used) (b .few) (w .fees)) ∙ e in
+        all-stand journal (f .used) sums (w .tallies) (f .today) accounts (f .count) (b .fewer) ∙ rw (rows-stand, passages-differ, n, and-true)
