@@ -37,7 +37,10 @@ fn account_stands(accounts: &[i64], i: usize, today: u64, s: Sums) -> bool
     ensures { λ b. ⌜ b ≡ accountStands today s (accountAt (now (accounts .entry)) i) ⌝ }
 {
     let x = read_account(accounts, i);
-    account_alone(today, x) & sums_agree(x, s)
+    if !account_alone(today, x) {
+        return false;
+    }
+    sums_agree(x, s)
 }
 
 // The sums of account number n.
