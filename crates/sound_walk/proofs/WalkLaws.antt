@@ -8,31 +8,39 @@ use mathlib.Core.List.{List, [], _∷_}
 use lib.IntN.{ℤ}
 use lib.ListN.{getD}
 use lib.Dec.{eqb, leb}
-use borrow.Author.Tests.{leb-true, not-true, ne-eqb}
+use native.Mathlib.Decide.{decLt}
+use borrow.Author.Tests.{leb-true, not-true, ne-eqb, le-ltb}
 use borrow.Author.Count.{below-more}
 use Rattle.lists.specs.Tests.{_is_, _implies_}
 use Rattle.lists.proofs.TestLaws.{and-left, allOf-at}
 use Rattle.lists.proofs.ListLaws.{every-fails, length-tabulate}
 use Rattle.records.specs.Encoding.{rowAt, rowsOf, accountAt, accountsOf}
 use Rattle.rules.specs.Limits.{mostRows, mostAccounts, highestRefund}
-use Rattle.rules.specs.Rows.{Row, Toll, Fee, Payment, Credit, Refund, source, debit, held}
-use Rattle.rules.specs.Soundness.{kindFits, mostOf, amountFits, settledFits, accountUsed, referenceFits}
+use Rattle.rules.specs.Rows.{Row, Toll, Fee, Payment, Credit, Refund, rowNo, source, debit, heldToll, held}
+use Rattle.rules.specs.Soundness.{kindFits, mostOf, amountFits, settledFits, accountUsed, names, referenceFits}
 use Rattle.rules.proofs.StorableLaws.{mostOf-le, used-inside, between-le}
 use Rattle.sound_header.specs.declared.frame.Frame.{Frame}
 use Rattle.sound_header.specs.Clauses.{rowAlone, rowStands, rowsStand, standsIn, Bounds}
 use Rattle.sound_journal.proofs.JournalLaws.{stands-alike, stands-same}
 use Rattle.sound_passages.specs.Trees.{passagesDiffer, Grown}
-use Rattle.sound_fees.specs.Fees.{feeOf}
-use Rattle.account_sums.specs.Tallies.{Tallied}
+use Rattle.sound_fees.specs.Fees.{feesFew, Counted}
 use Rattle.account_sums.specs.Columns.{Tallies, Addable}
 use Rattle.account_sums.proofs.SumsLaws.{no-source-debit}
 use Rattle.account_sums.proofs.ColumnLaws.{addable}
 use Rattle.sound_walk.specs.Walks.{Walked, Unfit, Walks, Turn}
 
--- a toll is held by its own word; neither a payment nor a credit is a debit, and every other kind is
+-- a toll is held by its own word, a fee by its toll's, no other row; neither a payment nor a credit is a debit, and every other kind is
 pub toll-held : (rows : List Row) (r : Row) → r .kind ≡ Toll → eqb (r .dispute) 1 ≡ held rows r
 unfolding held
 toll-held rows r e = rw (e, or-false)
+
+pub fee-held : (rows : List Row) (r : Row) → r .kind ≡ Fee → heldToll (rowNo rows (r .reference)) ≡ held rows r
+unfolding held
+fee-held rows r e = rw e
+
+pub none-held : (rows : List Row) (r : Row) → r .kind ≢ Toll → r .kind ≢ Fee → false ≡ held rows r
+unfolding held
+none-held rows r p q = rw (ne-eqb (r .kind) Toll p, ne-eqb (r .kind) Fee q)
 
 pub no-source : (r : Row) → r .kind ≢ Payment → r .kind ≢ Credit → source r ≡ false
 no-source r p q = rw (ne-eqb (r .kind) Payment p, ne-eqb (r .kind) Credit q)
@@ -41,6 +49,10 @@ module _ (accounts journal : List ℤ) (f : Frame) where
   -- two tolls of the same passage number
   pub unfit-passage : passagesDiffer (rowsOf journal (f .used)) ≡ false → Unfit accounts journal f
   unfit-passage e = rw e (and-false (rowsStand (accountsOf accounts (f .count)) (rowsOf journal (f .used)) (f .today) (f .stage)))
+
+  -- a toll that too many fees name
+  pub unfit-fees : feesFew (rowsOf journal (f .used)) ≡ false → Unfit accounts journal f
+  unfit-fees e = simp (e, and-false)
 
   -- what each result says
   module _ {cells counts sums : List ℕ} {i : ℕ} where
@@ -68,6 +80,15 @@ module _ (accounts journal : List ℤ) (f : Frame) where
       pub row-kind : kindFits r ≡ true
       row-kind = unfold rowAlone in allOf-at _ (part 0) 0
 
+      -- a fee names an earlier row
+      pub row-earlier : r .kind ≡ Fee → r .reference < i + 1
+      unfolding referenceFits names
+      row-earlier k =
+          elim (decLt (r .reference) (i + 1)) [
+            | yes h ↦ h
+            | no h ↦ absurd (false≢true (simp (k, le-ltb (r .reference) (i + 1) (omega arith)) at (part 2)))
+          ]
+
       pub row-debit : source r ≡ false → debit r ≡ true
       row-debit = no-source-debit r row-kind
 
@@ -89,6 +110,6 @@ module _ (accounts journal : List ℤ) (f : Frame) where
 
       -- and is entered everywhere
       pub row-walks : {cells counts sums cells₁ counts₁ sums₁ : List ℕ} → Walked accounts journal f cells counts sums i
-          → Grown journal cells₁ (i + 1) → Tallied feeOf 8193 journal counts₁ (i + 1) → Tallies journal (f .used) sums₁ (i + 1) → Walks accounts journal f cells₁ counts₁ sums₁ (i + 1) true
+          → Grown journal cells₁ (i + 1) → Counted journal counts₁ (i + 1) → Tallies journal (f .used) sums₁ (i + 1) → Walks accounts journal f cells₁ counts₁ sums₁ (i + 1) true
       row-walks w g c s =
           walks-good record { stood = below-more _ _ (w .stood) (sym (stands-alike accounts journal f (t .bounds) i (t .inside) r (t .alike)) ∙ e); grown = g; fees = c; tallies = s }

@@ -6,7 +6,7 @@ use account_sums::add_debit;
 use account_sums::add_source;
 use plain_rows::plain_row;
 use records::Row;
-use row_tests::is_held;
+use row_tests::held_toll;
 use sound_fees::COUNTS;
 use sound_fees::count_fee;
 use sound_header::frame::Frame;
@@ -15,8 +15,10 @@ use sound_journal::payment_stands;
 use sound_journal::toll_stands;
 use sound_passages::passages::CELLS;
 use sound_passages::passages::plant_toll;
+use table_rows::row_numbered;
 use tables::codes::CHECK_RETURNED;
 use tables::codes::CREDIT;
+use tables::codes::FEE;
 use tables::codes::HELD;
 use tables::codes::PAYMENT;
 use tables::codes::TOLL;
@@ -26,10 +28,9 @@ ghost use Prim.Native.Nat.{ℕ, _+_, _<_};
 ghost use Rattle.rules.specs.Rows.{Toll, Payment};
 ghost use Rattle.sound_header.specs.Clauses.{Bounds};
 ghost use Rattle.sound_passages.specs.Trees.{Grown};
-ghost use Rattle.sound_fees.specs.Fees.{feeOf};
-ghost use Rattle.account_sums.specs.Tallies.{Tallied};
-ghost use Rattle.account_sums.specs.Columns.{Tallies};
-ghost use Rattle.sound_walk.specs.Walks.{Walked, Walks, Turn, Turns};
+ghost use Rattle.sound_fees.specs.Fees.{Counted};
+ghost use Rattle.account_sums.specs.Columns.{Tallies, Addable};
+ghost use Rattle.sound_walk.specs.Walks.{Walked, Walks, Turn, Turns, FeeTurn, FeeTurns};
 
 // Row i, r, a toll: false where it does not stand, or an earlier one has its passage number. As any row, it is added only once it is found to
 // stand, so the sums are of amounts that are known to be small.
@@ -55,7 +56,27 @@ fn toll_turn(
     true
 }
 
-// Row i, r, neither a toll nor a payment: false where it does not stand.
+// Row i, r, a fee that stands: false where the row that it names has one too many.
+fn fee_turn(
+    journal: &[i64],
+    f: Frame,
+    i: usize,
+    r: Row,
+    counts: &mut [u16; COUNTS],
+    sums: &mut [u64; SUMS],
+) -> bool
+    requires { ⌜ FeeTurn (now journal) f i r × Counted (now journal) (now counts) i × Tallies (now journal) (f .used) (now sums) i × Addable (now sums) r ⌝ }
+    ensures { λ b. ⌜ FeeTurns (now (journal .entry)) f i (now (counts .exit)) (now (sums .exit)) b ⌝ }
+{
+    let named = row_numbered(journal, f.used, r.reference);
+    if !count_fee(counts, r.reference as usize, named) {
+        return false;
+    }
+    add_debit(sums, r, held_toll(named));
+    true
+}
+
+// Row i, r, neither a toll nor a payment: false where it does not stand, or is one fee too many.
 fn other_turn(
     accounts: &[i64],
     journal: &[i64],
@@ -65,18 +86,20 @@ fn other_turn(
     counts: &mut [u16; COUNTS],
     sums: &mut [u64; SUMS],
 ) -> bool
-    requires { ⌜ Turn (now accounts) (now journal) f i r × (r .kind ≡ Toll → ⊥) × (r .kind ≡ Payment → ⊥) × Tallied feeOf 8193 (now journal) (now counts) i × Tallies (now journal) (f .used) (now sums) i ⌝ }
+    requires { ⌜ Turn (now accounts) (now journal) f i r × (r .kind ≡ Toll → ⊥) × (r .kind ≡ Payment → ⊥) × Counted (now journal) (now counts) i × Tallies (now journal) (f .used) (now sums) i ⌝ }
     ensures { λ b. ⌜ ((cells : List ℕ) → Turns (now (accounts .entry)) (now (journal .entry)) f i cells (now (counts .entry)) (now (sums .entry)) cells (now (counts .exit)) (now (sums .exit)) b) ⌝ }
 {
     if !other_stands(accounts, journal, f, (i + 1) as u64, r) {
         return false;
     }
-    count_fee(journal, counts, i);
+    if r.kind == FEE {
+        return fee_turn(journal, f, i, r, counts, sums);
+    }
     if r.kind == CREDIT {
         add_source(sums, r, false);
         return true;
     }
-    add_debit(sums, r, is_held(journal, f.used, r));
+    add_debit(sums, r, false);
     true
 }
 

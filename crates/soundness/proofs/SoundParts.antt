@@ -1,6 +1,6 @@
 -- The groups of clauses that the code tests are together rules' soundTables.
 use mathlib.Core.Path.{_≡_, refl, sym, ap, _∙_}
-use mathlib.Core.Bool.{Bool, true, false, _&&_, and-assoc, and-true, and-false}
+use mathlib.Core.Bool.{Bool, true, false, _&&_, and-assoc, and-true, and-false, true≢false}
 use Prim.Native.Nat.{ℕ, _+_, _/_, _≤_, _<_, min}
 use native.Mathlib.Omega.{arith}
 use mathlib.Core.List.{List, [], _∷_}
@@ -29,13 +29,12 @@ use Rattle.sound_header.proofs.LengthLaws.{lengths-known}
 use Rattle.sound_passages.specs.Trees.{passagesDiffer}
 use Rattle.sound_passages.proofs.PassageLaws.{clean-differ}
 use Rattle.sound_passages.proofs.TreeLaws.{grown-none}
-use Rattle.sound_fees.specs.Fees.{feesFew, feeOf, feesAllWithin}
-use Rattle.sound_fees.proofs.FeeLaws.{fees-counted}
+use Rattle.sound_fees.specs.Fees.{feesFew}
+use Rattle.sound_fees.proofs.FeeLaws.{counted-none, fees-few}
 use Rattle.soundness.specs.Book.{bookStands}
 use Rattle.sound_sums.specs.Accounts.{sumsAgree, accountStands, sumsAt, sumsOf, allAgree, accountsStand}
 use Rattle.sound_sums.proofs.AccountLaws.{all-stand}
 use Rattle.sound_accounts.specs.Alone.{accountAlone}
-use Rattle.account_sums.proofs.TallyLaws.{tallied-none}
 use Rattle.account_sums.proofs.ColumnLaws.{tallies-none}
 use Rattle.sound_walk.specs.Walks.{Walked, Unfit}
 
@@ -154,7 +153,7 @@ pub walked-none : (accounts journal : List ℤ) (f : Frame) → Walked accounts 
 walked-none accounts journal f = record {
   stood = below-none _;
   grown = grown-none journal 32768 refl;
-  fees = tallied-none feeOf 8193 journal;
+  fees = counted-none journal;
   tallies = tallies-none journal (f .used);
 }
 
@@ -164,8 +163,15 @@ module _ (accounts journal : List ℤ) (f : Frame) where
 
   pub unfit-stands : Unfit accounts journal f → false ≡ standing
   unfolding bookStands allOf
-  unfit-stands e = rw (← and-assoc (rowsStand (accountsOf accounts (f .count)) (rowsOf journal (f .used)) (f .today) (f .stage)) (passagesDiffer (rowsOf journal (f .used))) (feesFew (rowsOf journal (f .used)) && (accountsStand (f .today) (rowsOf journal (f .used)) (accountsOf accounts (f .count)) && true)), e)
+  unfit-stands e = sym (regroup (rowsStand (accountsOf accounts (f .count)) (rowsOf journal (f .used)) (f .today) (f .stage)) (passagesDiffer (rowsOf journal (f .used))) (feesFew (rowsOf journal (f .used))) _ e)
+    where
+      regroup : (a b c d : Bool) → a && (b && c) ≡ false → a && (b && (c && d)) ≡ false
+      regroup true true true d e = absurd (true≢false e)
+      regroup true true false d e = refl
+      regroup true false c d e = refl
+      regroup false b c d e = refl
 
+  -- where the rows have passed, the accounts decide
   module _ (b : Bounds accounts journal f) {cells counts sums : List ℕ} (w : Walked accounts journal f cells counts sums (f .used)) where
     rows-stand : rowsStand (accountsOf accounts (f .count)) (rowsOf journal (f .used)) (f .today) (f .stage) ≡ true
     unfolding rowsStand
@@ -174,16 +180,8 @@ module _ (accounts journal : List ℤ) (f : Frame) where
     passages-differ : passagesDiffer (rowsOf journal (f .used)) ≡ true
     passages-differ = clean-differ journal (f .used) (w .grown .clean)
 
-    -- too many fees
-    pub fees-unfit : feesAllWithin counts (rowsOf journal (f .used)) ≡ false → false ≡ standing
+    pub sums-decide : allAgree (f .today) (sumsAt sums) (accountsOf accounts (f .count)) ≡ standing
     unfolding bookStands allOf
-    fees-unfit e =
-        let n : feesFew (rowsOf journal (f .used)) ≡ false = sym (fees-counted journal counts (f .used) (b .few) (w .fees)) ∙ e in
-        rw (rows-stand, passages-differ, n)
-
-    -- few fees: the accounts decide
-    pub sums-decide : feesAllWithin counts (rowsOf journal (f .used)) ≡ true → allAgree (f .today) (sumsAt sums) (accountsOf accounts (f .count)) ≡ standing
-    unfolding bookStands allOf
-    sums-decide e =
-        let n : feesFew (rowsOf journal (f .used)) ≡ true = sym (fees-counted journal counts (f .used) (b .few) (w .fees)) ∙ e in
-        all-stand journal (f .used) sums (w .tallies) (f .today) accounts (f .count) (b .fewer) ∙ rw (rows-stand, passages-differ, n, and-true)
+    sums-decide =
+        all-stand journal (f .used) sums (w .tallies) (f .today) accounts (f .count) (b .fewer)
+        ∙ rw (rows-stand, passages-differ, fees-few journal counts (f .used) (b .few) (w .fees), and-true)

@@ -2,7 +2,6 @@
 // accounts. Uses lists, records, rules, tables and the crates of its clauses.
 use account_sums::SUMS;
 use sound_fees::COUNTS;
-use sound_fees::fees_all_within;
 use sound_header::frame::Frame;
 use sound_header::header::day_fits;
 use sound_header::header::lengths_fit;
@@ -27,7 +26,7 @@ ghost use Rattle.rules.specs.Tables.{soundTables};
 ghost use Rattle.sound_header.specs.Clauses.{tablesAt, Bounds};
 ghost use Rattle.soundness.specs.Book.{bookStands};
 
-// The used rows and the accounts, once the lengths and the header are found fit: one pass over the rows, then the counts of fees and the
+// The used rows and the accounts, once the lengths and the header are found fit: one pass over the rows, then the
 // sums of accounts that it leaves.
 fn book_stands(accounts: &[i64], journal: &[i64], f: Frame) -> bool
     requires { ⌜ Bounds (now accounts) (now journal) f ⌝ }
@@ -37,9 +36,6 @@ fn book_stands(accounts: &[i64], journal: &[i64], f: Frame) -> bool
     let mut counts = [0u16; COUNTS];
     let mut sums = [0u64; SUMS];
     if !walk(accounts, journal, f, &mut cells, &mut counts, &mut sums) {
-        return false;
-    }
-    if !fees_all_within(journal, f.used, &counts) {
         return false;
     }
     all_agree(accounts, f.count, f.today, &sums)

@@ -1,6 +1,6 @@
 -- `toll_turn` meets its contract: the first test that fails decides, and a toll that stands is planted and added.
 use Rattle.sound_walk.proofs.WalkLaws.{toll-held, unfit-passage, walks-bad, row-unfit, row-same, row-addable, row-walks}
-use Rattle.sound_fees.proofs.FeeLaws.{fee-not}
+use Rattle.sound_fees.proofs.FeeLaws.{counted-skip}
 use Rattle.account_sums.proofs.ColumnLaws.{debit-added}
 use Rattle.sound_header.specs.Clauses.{standsIn}
 use Rattle.records.specs.Encoding.{rowAt, rowsOf}
@@ -57,7 +57,7 @@ returns-3 c =
     let d = debit-added (s .args .journal .now) (s .args .f .used) (s .args .sums .now) (s .args .i) (s .pre .3) (s .args .r) (same e) a _ (toll-held (rowsOf (s .args .journal .now) (s .args .f .used)) (s .args .r) k) (rw k) (rw k) in
     λ counts w.
     row-walks (s .args .accounts .now) (s .args .journal .now) (s .args .f) (s .args .i) (s .args .r) (s .pre .0) (stood e) w (l .before .plant-toll .ensures .good (not-false _ (l .if2 .left)))
-    (fee-not (s .args .journal .now) counts (s .args .i) (w .fees) (λ z. omega (arith, rw (same e) at k))) (rw (c .add-debit .ensures) d)
+    (counted-skip (s .args .journal .now) counts (s .args .i) (w .fees) (λ z. omega (arith, rw (same e) at k))) (rw (c .add-debit .ensures) d)
 
 pub toll-turn-spec : {M : Type 1} → statement M
 toll-turn-spec =
