@@ -1,8 +1,8 @@
 -- Laws of the sums of each account: every share is of the form "a row of the account that passes a test counts so much".
-use Prim.Native.Nat.{ℕ, zero, suc, _+_, _*_, _-_, _^_, _≤_, _<_}
+use Prim.Native.Nat.{ℕ, _+_, _-_, _^_, _≤_, _<_}
 use native.Mathlib.Omega.{arith}
 use native.Mathlib.Decide.{ℕ-discrete}
-use mathlib.Core.Path.{_≡_, refl, sym, ap, _∙_}
+use mathlib.Core.Path.{_≡_, refl, sym, _∙_}
 use mathlib.Core.Logic.{_≢_}
 use mathlib.Core.Bool.{Bool, true, false, cond, not, _&&_, _||_, and-assoc, and-false, true≢false, false≢true}
 use mathlib.Core.List.{List}
@@ -13,8 +13,8 @@ use lib.ListN.{getD, set}
 use Rattle.lists.specs.Tests.{_is_}
 use Rattle.lists.specs.Lists.{only}
 use Rattle.lists.proofs.TestLaws.{and-left, and-right}
-use Rattle.records.specs.Encoding.{rowAt, rowsOf}
-use Rattle.rules.specs.Limits.{mostRows, highestRefund}
+use Rattle.records.specs.Encoding.{rowAt}
+use Rattle.rules.specs.Limits.{highestRefund}
 use Rattle.rules.specs.Rows.{Row, Test, Payment, remaining, source, debit, held, sourceOf, debitOf, payable}
 use Rattle.rules.specs.Soundness.{kindFits, returnedOf}
 use Rattle.tables.specs.Changes.{RowIn}

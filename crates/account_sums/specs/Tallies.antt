@@ -1,18 +1,16 @@
 -- Arrays that hold, at each number below their size, a sum over the first rows.
-use Prim.Native.Nat.{ℕ, _*_, _-_, _≤_, _<_}
+use Prim.Native.Nat.{ℕ, _*_, _≤_, _<_}
 use mathlib.Core.Path.{_≡_}
-use mathlib.Core.Bool.{Bool, true, cond}
+use mathlib.Core.Bool.{true, cond}
 use mathlib.Core.List.{List}
-use lib.Dec.{leb}
 use lib.IntN.{ℤ}
 use lib.ListN.{length, getD}
-use Rattle.lists.specs.Tests.{_implies_}
-use Rattle.lists.specs.Lists.{sumBy, only, every}
+use Rattle.lists.specs.Lists.{sumBy, only}
 use Rattle.records.specs.Layout.{rowWidth}
 use Rattle.records.specs.Encoding.{rowAt, rowsOf}
 use Rattle.rules.specs.Limits.{mostRows, mostAccounts, highestRefund}
-use Rattle.rules.specs.Rows.{Row, toll, feeNaming, remaining, sourceOf, debitOf, payable}
-use Rattle.rules.specs.Soundness.{kindFits, feesFit, returnedOf}
+use Rattle.rules.specs.Rows.{Row, remaining, sourceOf, debitOf, payable}
+use Rattle.rules.specs.Soundness.{kindFits, returnedOf}
 
 -- xs holds the sums of f n over the first i rows
 pub record Tallied (f : ℕ → Row → ℕ) (size : ℕ) (t : List ℤ) (xs : List ℕ) (i : ℕ) : Type 0 where

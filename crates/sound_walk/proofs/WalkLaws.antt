@@ -1,7 +1,7 @@
 -- What a row that stands, and one that does not, shows of the rows.
 use mathlib.Core.Path.{_≡_, sym, _∙_}
 use mathlib.Core.Logic.{_≢_}
-use mathlib.Core.Bool.{Bool, true, false, _||_, and-false, or-false, true≢false, false≢true}
+use mathlib.Core.Bool.{true, false, and-false, or-false, true≢false, false≢true}
 use Prim.Native.Nat.{ℕ, _+_, _≤_, _<_}
 use native.Mathlib.Omega.{arith}
 use mathlib.Core.List.{List, [], _∷_}
@@ -15,12 +15,12 @@ use Rattle.lists.specs.Tests.{_is_, _implies_}
 use Rattle.lists.proofs.TestLaws.{and-left, allOf-at}
 use Rattle.lists.proofs.ListLaws.{every-fails, length-tabulate}
 use Rattle.records.specs.Encoding.{rowAt, rowsOf, accountAt, accountsOf}
-use Rattle.rules.specs.Limits.{mostRows, mostAccounts, highestRefund}
+use Rattle.rules.specs.Limits.{mostAccounts, highestRefund}
 use Rattle.rules.specs.Rows.{Row, Toll, Fee, Payment, Credit, Refund, rowNo, source, debit, heldToll, held}
 use Rattle.rules.specs.Soundness.{kindFits, mostOf, amountFits, settledFits, accountUsed, names, referenceFits}
 use Rattle.rules.proofs.StorableLaws.{mostOf-le, used-inside, between-le}
 use Rattle.sound_header.specs.declared.frame.Frame.{Frame}
-use Rattle.sound_header.specs.Clauses.{rowAlone, rowStands, rowsStand, standsIn, Bounds}
+use Rattle.sound_header.specs.Clauses.{rowAlone, rowStands, rowsStand, standsIn}
 use Rattle.sound_journal.proofs.JournalLaws.{stands-alike, stands-same}
 use Rattle.sound_passages.specs.Trees.{passagesDiffer, Grown}
 use Rattle.sound_fees.specs.Fees.{feesFew, Counted}
@@ -77,7 +77,7 @@ module _ (accounts journal : List ℤ) (f : Frame) where
       part : (k : ℕ) → getD (rowAlone (f .today) (f .stage) r ∷ accountUsed (accountsOf accounts (f .count)) r ∷ referenceFits (rowsOf journal (f .used)) (i + 1) r ∷ []) k true ≡ true
       part = unfold rowStands in allOf-at _ e
 
-      pub row-kind : kindFits r ≡ true
+      row-kind : kindFits r ≡ true
       row-kind = unfold rowAlone in allOf-at _ (part 0) 0
 
       -- a fee names an earlier row

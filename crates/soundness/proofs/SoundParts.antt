@@ -1,12 +1,12 @@
 -- The groups of clauses that the code tests are together rules' soundTables.
-use mathlib.Core.Path.{_≡_, refl, sym, ap, _∙_}
+use mathlib.Core.Path.{_≡_, refl, sym, _∙_}
 use mathlib.Core.Bool.{Bool, true, false, _&&_, and-assoc, and-true, and-false, true≢false}
-use Prim.Native.Nat.{ℕ, _+_, _/_, _≤_, _<_, min}
+use Prim.Native.Nat.{ℕ, _+_, _/_, _≤_, min}
 use native.Mathlib.Omega.{arith}
-use mathlib.Core.List.{List, [], _∷_}
+use mathlib.Core.List.{List}
 use lib.IntN.{ℤ}
 use lib.ListN.{length, replicate}
-use lib.Dec.{leb, eqb}
+use lib.Dec.{leb}
 use borrow.Author.Tests.{le-leb}
 use borrow.Author.Count.{below-none}
 use Rattle.lists.specs.Tests.{allOf}
@@ -16,9 +16,8 @@ use Rattle.lists.proofs.ListLaws.{every-ext, every-and, every-tabulate, length-
 use Rattle.records.specs.Layout.{dayPlace, usedPlace, headerSchedule, stagePlace, accountWidth, rowWidth}
 use Rattle.records.specs.Encoding.{word, rowAt, rowsOf, accountsOf}
 use Rattle.rules.specs.Limits.{finalDay}
-use Rattle.rules.specs.Rows.{Row}
 use Rattle.rules.specs.Schedule.{scheduleFits}
-use Rattle.rules.specs.Book.{Account, Book}
+use Rattle.rules.specs.Book.{Book}
 use Rattle.rules.specs.Opening.{dayFits, sizesFit}
 use Rattle.rules.specs.Soundness.{passageOnce, feesFit, rowSound, returnedFits, even, spent, closedClear, accountSound, sound}
 use Rattle.rules.specs.Tables.{Tables, accountsIn, roomIn, rowsUsed, scheduleFrom, bookOf, wholeRecords, lengthsFit, usedFits, laterRowsZero, soundTables}

@@ -5,8 +5,8 @@ use Rattle.account_sums.proofs.ColumnLaws.{debit-added}
 use Rattle.sound_header.specs.Clauses.{standsIn}
 use Rattle.records.specs.Encoding.{rowAt, rowsOf}
 use borrow.Author.Tests.{not-true, not-false}
-use mathlib.Core.Bool.{true, false}
-use mathlib.Core.Path.{_≡_, refl, sym, ap, _∙_}
+use mathlib.Core.Bool.{true}
+use mathlib.Core.Path.{_≡_, sym, _∙_}
 use native.Mathlib.Omega.{arith}
 use Prim.Native.Nat.{_+_}
 use borrow.Author.Needs.{needs}

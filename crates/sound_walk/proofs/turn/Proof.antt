@@ -5,7 +5,6 @@ use Rattle.sound_passages.proofs.TreeLaws.{grown-skip}
 use Rattle.sound_fees.proofs.FeeLaws.{counted-skip}
 use Rattle.account_sums.proofs.ColumnLaws.{source-added}
 use Rattle.sound_header.specs.Clauses.{standsIn}
-use Rattle.records.specs.Encoding.{rowAt}
 use borrow.Author.Tests.{not-true, not-false}
 use lib.Dec.{eqb}
 use mathlib.Core.Bool.{true}
