@@ -38,7 +38,7 @@ fn book_stands(accounts: &[i64], journal: &[i64], f: Frame) -> bool
     all_agree(accounts, f.count, f.today, &sums)
 }
 
-// Whether the tables are sound. It takes 93 KiB of the stack in all: 64 for passage numbers, 16 for fees, 12 for sums.
+// Whether the tables are sound. It takes 92 KiB of the stack: 64 for passage numbers, 16 for fees, 12 for sums.
 pub fn sound(header: &[i64], accounts: &[i64], journal: &[i64]) -> bool
     ensures { λ b. ⌜ b ≡ soundTables (tablesAt (now (header .entry)) (now (accounts .entry)) (now (journal .entry))) ⌝ }
 {
