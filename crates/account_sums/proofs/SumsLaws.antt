@@ -1,8 +1,8 @@
 -- Laws of the sums of each account: every share is of the form "a row of the account that passes a test counts so much".
-use Prim.Native.Nat.{ℕ, zero, suc, _+_, _*_, _-_, _^_, _≤_, _<_}
+use Prim.Native.Nat.{ℕ, _+_, _-_, _^_, _≤_, _<_}
 use native.Mathlib.Omega.{arith}
 use native.Mathlib.Decide.{ℕ-discrete}
-use mathlib.Core.Path.{_≡_, refl, sym, ap, _∙_}
+use mathlib.Core.Path.{_≡_, refl, sym, _∙_}
 use mathlib.Core.Logic.{_≢_}
 use mathlib.Core.Bool.{Bool, true, false, cond, not, _&&_, _||_, and-assoc, and-false, true≢false, false≢true}
 use mathlib.Core.List.{List}
@@ -13,27 +13,27 @@ use lib.ListN.{getD, set}
 use Rattle.lists.specs.Tests.{_is_}
 use Rattle.lists.specs.Lists.{only}
 use Rattle.lists.proofs.TestLaws.{and-left, and-right}
-use Rattle.records.specs.Encoding.{rowAt, rowsOf}
-use Rattle.rules.specs.Limits.{mostRows, highestRefund}
+use Rattle.records.specs.Encoding.{rowAt}
+use Rattle.rules.specs.Limits.{highestRefund}
 use Rattle.rules.specs.Rows.{Row, Test, Payment, remaining, source, debit, held, sourceOf, debitOf, payable}
 use Rattle.rules.specs.Soundness.{kindFits, returnedOf}
 use Rattle.tables.specs.Changes.{RowIn}
-use Rattle.account_sums.specs.Tallies.{Tallied, returnOf, drawnOf, moneyOf, paidOf, debtOf, owedOf, SourceTallies, DebitTallies, Countable}
+use Rattle.account_sums.specs.Tallies.{Tallied, returnOf, drawnOf, moneyOf, paidOf, debtOf, owedOf, Countable}
 use Rattle.account_sums.proofs.TallyLaws.{tallied-skip, tallied-add, tallied-small}
 
 -- a row's share of its account's sum
 pub record Share (f : ℕ → Row → ℕ) (u : Test) (v : Row → ℕ) : Type 0 where
   pub form : (n : ℕ) (r : Row) → f n r ≡ cond (eqb (r .account) n && u r) (v r) 0
 
-part-le : (b : Bool) (n m : ℕ) → n ≤ m → cond b n 0 ≤ m
+pub part-le : (b : Bool) (n m : ℕ) → n ≤ m → cond b n 0 ≤ m
 part-le true n m h = h
 part-le false n m h = omega arith
 
 module _ (f : ℕ → Row → ℕ) (u : Test) (v : Row → ℕ) (share : Share f u v) where
-  share-own : (n : ℕ) (r : Row) → n ≡ r .account → f n r ≡ cond (u r) (v r) 0
+  pub share-own : (n : ℕ) (r : Row) → n ≡ r .account → f n r ≡ cond (u r) (v r) 0
   share-own n r e = share .form n r ∙ rw (eq-eqb (r .account) n (sym e))
 
-  share-other : (n : ℕ) (r : Row) → n ≢ r .account → f n r ≡ 0
+  pub share-other : (n : ℕ) (r : Row) → n ≢ r .account → f n r ≡ 0
   share-other n r q = share .form n r ∙ rw (ne-eqb (r .account) n (λ e. q (sym e)))
 
   share-le : (n : ℕ) (r : Row) → f n r ≤ v r
@@ -139,27 +139,6 @@ no-source-debit r k e =
 
 pub no-source-return : (r : Row) → source r ≡ false → returnedCheck r ≡ false
 no-source-return r e = rw (or-left (eqb (r .kind) 4) (eqb (r .kind) 5) e)
-
--- a share that the test does not cut
-pub whole : (b : Bool) (n : ℕ) → b ≡ true → n ≡ cond b n 0
-whole b n e = rw e
-
-pub sources-skip : (t : List ℤ) (returned drawn money : List ℕ) (i : ℕ) → source (rowAt t i) ≡ false → SourceTallies t returned drawn money i → SourceTallies t returned drawn money (i + 1)
-sources-skip t returned drawn money i e s =
-    record {
-      returns = share-skipped returnOf returnedCheck (λ r. 1) share-return t returned i (s .returns) (no-source-return (rowAt t i) e);
-      draws = share-skipped drawnOf source (λ r. r .settled) share-drawn t drawn i (s .draws) e;
-      moneys = share-skipped moneyOf source remaining share-money t money i (s .moneys) e;
-    }
-
-pub debits-skip : (t : List ℤ) (used : ℕ) (paid debt owed : List ℕ) (i : ℕ) → source (rowAt t i) ≡ true → DebitTallies t used paid debt owed i → DebitTallies t used paid debt owed (i + 1)
-debits-skip t used paid debt owed i e s =
-    let d = source-no-debit (rowAt t i) e in
-    record {
-      payments = share-skipped paidOf debit (λ r. r .settled) share-paid t paid i (s .payments) d;
-      debts = share-skipped (debtOf (rowsOf t used)) (λ r. debit r && not (held (rowsOf t used) r)) remaining (share-debt (rowsOf t used)) t debt i (s .debts) (rw d);
-      owings = share-skipped owedOf debit remaining share-owed t owed i (s .owings) d;
-    }
 
 -- ---- bounds
 

@@ -1,18 +1,16 @@
 -- Arrays that hold, at each number below their size, a sum over the first rows.
-use Prim.Native.Nat.{ℕ, _*_, _-_, _≤_, _<_}
+use Prim.Native.Nat.{ℕ, _*_, _≤_, _<_}
 use mathlib.Core.Path.{_≡_}
-use mathlib.Core.Bool.{Bool, true, cond}
+use mathlib.Core.Bool.{true, cond}
 use mathlib.Core.List.{List}
-use lib.Dec.{leb}
 use lib.IntN.{ℤ}
 use lib.ListN.{length, getD}
-use Rattle.lists.specs.Tests.{_implies_}
-use Rattle.lists.specs.Lists.{sumBy, only, every}
+use Rattle.lists.specs.Lists.{sumBy, only}
 use Rattle.records.specs.Layout.{rowWidth}
 use Rattle.records.specs.Encoding.{rowAt, rowsOf}
 use Rattle.rules.specs.Limits.{mostRows, mostAccounts, highestRefund}
-use Rattle.rules.specs.Rows.{Row, toll, feeNaming, remaining, sourceOf, debitOf, payable}
-use Rattle.rules.specs.Soundness.{kindFits, feesFit, returnedOf}
+use Rattle.rules.specs.Rows.{Row, remaining, sourceOf, debitOf, payable}
+use Rattle.rules.specs.Soundness.{kindFits, returnedOf}
 
 -- xs holds the sums of f n over the first i rows
 pub record Tallied (f : ℕ → Row → ℕ) (size : ℕ) (t : List ℤ) (xs : List ℕ) (i : ℕ) : Type 0 where
@@ -38,16 +36,6 @@ debtOf rows n = only (payable rows n) remaining
 
 abbrev pub owedOf : ℕ → Row → ℕ
 owedOf n = only (debitOf n) remaining
-
-pub record SourceTallies (t : List ℤ) (returned drawn money : List ℕ) (i : ℕ) : Type 0 where
-  pub returns : Tallied returnOf 257 t returned i
-  pub draws : Tallied drawnOf 257 t drawn i
-  pub moneys : Tallied moneyOf 257 t money i
-
-pub record DebitTallies (t : List ℤ) (used : ℕ) (paid debt owed : List ℕ) (i : ℕ) : Type 0 where
-  pub payments : Tallied paidOf 257 t paid i
-  pub debts : Tallied (debtOf (rowsOf t used)) 257 t debt i
-  pub owings : Tallied owedOf 257 t owed i
 
 -- rows that have a kind, an account and amounts whose sums fit
 pub record Countable (t : List ℤ) (used : ℕ) : Type 0 where

@@ -1,27 +1,24 @@
-// What the rows come to for each account, a row at a time, as arrays by account number: returned checks, used sources, unused money, settled
-// debits, debts that settlement may pay, and all that is unsettled. Uses lists, records, rules and tables.
-use plain_rows::small_account;
-use plain_rows::small_amount;
-use plain_rows::small_settled;
-use row_tests::is_held;
-use table_rows::kind_at;
-use table_rows::mark_at;
-use table_rows::read_row;
-use tables::codes::CHECK_RETURNED;
-use tables::codes::CREDIT;
-use tables::codes::PAYMENT;
+// What the rows come to for each account, in arrays by account number: returned checks, used sources, unused money, settled debits, debts
+// that settlement may pay, and all that is unsettled. Uses lists, records, rules and tables.
+use records::Row;
 use tables::limits::MOST_ACCOUNTS;
 ghost use mathlib.Core.Path.{_≡_};
-ghost use mathlib.Core.Bool.{true, false, cond};
+ghost use mathlib.Core.Bool.{cond};
 ghost use Prim.Native.Nat.{_+_, _*_, _^_, _≤_, _<_};
-ghost use lib.ListN.{length, getD, set};
-ghost use Rattle.records.specs.Layout.{rowWidth};
-ghost use Rattle.records.specs.Encoding.{rowAt};
-ghost use Rattle.rules.specs.Rows.{source};
-ghost use Rattle.account_sums.specs.Tallies.{Countable, SourceTallies, DebitTallies};
+ghost use lib.ListN.{getD, set};
+ghost use Rattle.rules.specs.Limits.{mostRows, highestRefund};
+ghost use Rattle.account_sums.specs.Columns.{Low, raised, withSource, withDebit, Addable};
 
 // A sum for each account number, from 0 on.
 pub const SEATS: usize = MOST_ACCOUNTS + 1;
+
+// Six sums for each account number, side by side so that a row touches one place of memory: three of sources, then three of debits. 12 KiB
+// of a caller's stack.
+pub const SUMS: usize = SEATS * WIDTH;
+
+const WIDTH: usize = 6;
+
+const DEBITS: usize = 3;
 
 pub fn part(test: bool, v: u64) -> u64
     ensures { λ r. ⌜ r ≡ cond test v 0 ⌝ }
@@ -37,69 +34,34 @@ pub fn add(sums: &mut [u64; SEATS], account: usize, v: u64)
     sums[account] = old + v;
 }
 
-// Row i, a source.
-fn add_source(
-    journal: &[i64],
-    i: usize,
-    returned: &mut [u64; SEATS],
-    drawn: &mut [u64; SEATS],
-    money: &mut [u64; SEATS],
-)
-    requires { ⌜ Countable (now journal) (i + 1) × (source (rowAt (now journal) i) ≡ true) × SourceTallies (now journal) (now returned) (now drawn) (now money) i ⌝ }
-    ensures { λ _. ⌜ SourceTallies (now (journal .entry)) (now (returned .exit)) (now (drawn .exit)) (now (money .exit)) (i + 1) ⌝ }
+// Three sums that stand side by side.
+fn raise(sums: &mut [u64; SUMS], p: usize, x: u64, y: u64, z: u64)
+    requires { ⌜ (p + 2 < 1542) × Low (now sums) mostRows × (x ≤ highestRefund) × (y ≤ highestRefund) × (z ≤ highestRefund) ⌝ }
+    ensures { λ _. ⌜ now (sums .exit) ≡ raised (now (sums .entry)) p x y z ⌝ }
 {
-    let a = small_account(journal, i) as usize;
-    let settled = small_settled(journal, i);
-    let check = kind_at(journal, i) == PAYMENT;
-    let bounced = mark_at(journal, i) == CHECK_RETURNED;
-    add(returned, a, part(check & bounced, 1));
-    add(drawn, a, settled);
-    add(money, a, small_amount(journal, i) - settled);
+    let first = sums[p];
+    let second = sums[p + 1];
+    let third = sums[p + 2];
+    sums[p] = first + x;
+    sums[p + 1] = second + y;
+    sums[p + 2] = third + z;
 }
 
-// Row i, a debit.
-fn add_debit(
-    journal: &[i64],
-    used: usize,
-    i: usize,
-    paid: &mut [u64; SEATS],
-    debt: &mut [u64; SEATS],
-    owed: &mut [u64; SEATS],
-)
-    requires { ⌜ Countable (now journal) (i + 1) × (used * rowWidth ≤ length (now journal)) × (source (rowAt (now journal) i) ≡ false) × DebitTallies (now journal) used (now paid) (now debt) (now owed) i ⌝ }
-    ensures { λ _. ⌜ DebitTallies (now (journal .entry)) used (now (paid .exit)) (now (debt .exit)) (now (owed .exit)) (i + 1) ⌝ }
+// A source: whether it is a returned check, what is used of it, what is not.
+pub fn add_source(sums: &mut [u64; SUMS], r: Row, returned: bool)
+    requires { ⌜ Addable (now sums) r ⌝ }
+    ensures { λ _. ⌜ now (sums .exit) ≡ withSource (now (sums .entry)) r returned ⌝ }
 {
-    let a = small_account(journal, i) as usize;
-    let settled = small_settled(journal, i);
-    let left = small_amount(journal, i) - settled;
-    add(paid, a, settled);
-    add(
-        debt,
-        a,
-        part(!is_held(journal, used, read_row(journal, i)), left),
-    );
-    add(owed, a, left);
+    let p = r.account as usize * WIDTH;
+    raise(sums, p, part(returned, 1), r.settled, r.amount - r.settled);
 }
 
-// Row i to its account's sums, where the rows up to it can be counted.
-pub fn add_row(
-    journal: &[i64],
-    used: usize,
-    i: usize,
-    returned: &mut [u64; SEATS],
-    drawn: &mut [u64; SEATS],
-    money: &mut [u64; SEATS],
-    paid: &mut [u64; SEATS],
-    debt: &mut [u64; SEATS],
-    owed: &mut [u64; SEATS],
-)
-    requires { ⌜ Countable (now journal) (i + 1) × (used * rowWidth ≤ length (now journal)) × SourceTallies (now journal) (now returned) (now drawn) (now money) i × DebitTallies (now journal) used (now paid) (now debt) (now owed) i ⌝ }
-    ensures { λ _. ⌜ SourceTallies (now (journal .entry)) (now (returned .exit)) (now (drawn .exit)) (now (money .exit)) (i + 1) × DebitTallies (now (journal .entry)) used (now (paid .exit)) (now (debt .exit)) (now (owed .exit)) (i + 1) ⌝ }
+// A debit: what is settled of it, what settlement may pay, all that is unsettled.
+pub fn add_debit(sums: &mut [u64; SUMS], r: Row, held: bool)
+    requires { ⌜ Addable (now sums) r ⌝ }
+    ensures { λ _. ⌜ now (sums .exit) ≡ withDebit (now (sums .entry)) r held ⌝ }
 {
-    let kind = kind_at(journal, i);
-    if (kind == PAYMENT) | (kind == CREDIT) {
-        add_source(journal, i, returned, drawn, money);
-        return;
-    }
-    add_debit(journal, used, i, paid, debt, owed);
+    let p = r.account as usize * WIDTH + DEBITS;
+    let left = r.amount - r.settled;
+    raise(sums, p, r.settled, part(!held, left), left);
 }

@@ -1,4 +1,4 @@
-// The clauses of soundness on an account by itself. Uses lists, records, rules, tables and, of sound_header, the tests.
+// The clauses of soundness on an account by itself. Each test returns at once, as those on rows do. Uses lists, records, rules, tables and, of sound_header, the tests.
 use records::Account;
 use sound_header::tests::between;
 use sound_header::tests::implies;
@@ -21,20 +21,27 @@ fn state_fits(x: Account) -> bool
 fn unused_zero(x: Account) -> bool
     ensures { λ b. ⌜ b ≡ unusedZero x ⌝ }
 {
-    let zero = (x.request == 0)
+    if x.state != UNUSED {
+        return true;
+    }
+    (x.request == 0)
         & (x.returned == 0)
         & (x.threshold == 0)
         & (x.topup == 0)
         & (x.declines == 0)
-        & (x.declined == 0);
-    implies(x.state == UNUSED, zero)
+        & (x.declined == 0)
 }
 
 fn request_fits(today: u64, x: Account) -> bool
     ensures { λ b. ⌜ b ≡ requestFits today x ⌝ }
 {
-    implies(x.state == OPEN, x.request == 0)
-        & implies(PENDING <= x.state, between(1, x.request, today))
+    if x.state == OPEN {
+        return x.request == 0;
+    }
+    if x.state < PENDING {
+        return true;
+    }
+    between(1, x.request, today)
 }
 
 fn top_up_fits(x: Account) -> bool
@@ -59,9 +66,17 @@ fn decline_fits(today: u64, x: Account) -> bool
 pub fn account_alone(today: u64, x: Account) -> bool
     ensures { λ b. ⌜ b ≡ accountAlone today x ⌝ }
 {
-    state_fits(x)
-        & unused_zero(x)
-        & request_fits(today, x)
-        & top_up_fits(x)
-        & decline_fits(today, x)
+    if !state_fits(x) {
+        return false;
+    }
+    if !unused_zero(x) {
+        return false;
+    }
+    if !request_fits(today, x) {
+        return false;
+    }
+    if !top_up_fits(x) {
+        return false;
+    }
+    decline_fits(today, x)
 }

@@ -1,4 +1,5 @@
 -- The clauses of soundness on single rows, in the groups in which the code tests them.
+use mathlib.Core.Path.{_≡_}
 use mathlib.Core.Bool.{Bool}
 use Prim.Native.Nat.{ℕ, _+_, _*_, _≤_}
 use mathlib.Core.List.{List, [], _∷_}
@@ -8,12 +9,14 @@ use lib.Dec.{eqb}
 use Rattle.lists.specs.Tests.{allOf}
 use Rattle.lists.specs.Lists.{every}
 use Rattle.records.specs.Layout.{rowWidth, accountWidth}
+use Rattle.records.specs.Encoding.{rowsOf, accountsOf}
 use Rattle.rules.specs.Limits.{finalDay, longestStage, mostAccounts, mostRows}
 use Rattle.rules.specs.Rows.{Row}
 use Rattle.rules.specs.Book.{Account}
 use Rattle.rules.specs.Soundness.{kindFits, amountFits, settledFits, markFits, tollWordsFit, noReference, rowDayFits, dueFits, holdFits, accountUsed, referenceFits}
 pub use Rattle.rules.specs.Tables.{tablesAt}
 use Rattle.rules.specs.Tables.{zeroWord}
+use Rattle.sound_header.specs.declared.frame.Frame.{Frame}
 
 -- a row by itself: the words that differ from kind to kind, and all
 unfoldable pub ownWords : ℕ → ℕ → Row → Bool
@@ -30,14 +33,22 @@ rowStands xs rows today L n r = allOf (rowAlone today L r ∷ accountUsed xs r �
 unfoldable pub rowsStand : List Account → List Row → ℕ → ℕ → Bool
 rowsStand xs rows today L = every (rowStands xs rows today L) rows
 
+-- a row numbered n as the tables' accounts, rows and header have it stand
+abbrev pub standsIn : List ℤ → List ℤ → Frame → ℕ → Row → Bool
+standsIn accounts journal f n r = rowStands (accountsOf accounts (f .count)) (rowsOf journal (f .used)) (f .today) (f .stage) n r
+
+-- b says whether r stands, whatever the rows are and its number among them: it refers to none
+abbrev pub StandsAnywhere : List ℤ → Frame → Row → Bool → Type 0
+StandsAnywhere accounts f r b = (rows : List Row) (n : ℕ) → b ≡ rowStands (accountsOf accounts (f .count)) rows (f .today) (f .stage) n r
+
 -- what the lengths and the header have shown before any row is read
-pub record Bounds (accounts journal : List ℤ) (count used today stage : ℕ) : Type 0 where
-  pub room : used * rowWidth ≤ length journal
-  pub few : used ≤ mostRows
-  pub seats : count * accountWidth ≤ length accounts
-  pub fewer : count ≤ mostAccounts
-  pub day : today ≤ finalDay
-  pub length : stage ≤ longestStage
+pub record Bounds (accounts journal : List ℤ) (f : Frame) : Type 0 where
+  pub room : f .used * rowWidth ≤ length journal
+  pub few : f .used ≤ mostRows
+  pub seats : f .count * accountWidth ≤ length accounts
+  pub fewer : f .count ≤ mostAccounts
+  pub day : f .today ≤ finalDay
+  pub length : f .stage ≤ longestStage
 
 -- ---- "later rows .. are all 0"
 

@@ -1,13 +1,13 @@
 -- What the passes over the rows leave to show.
 use mathlib.Core.Path.{_≡_, refl, sym, ap, _∙_}
 use mathlib.Core.Logic.{_≢_}
-use mathlib.Core.Bool.{Bool, true, _&&_, _||_, and-assoc, and-true, and-false}
-use Prim.Native.Nat.{ℕ, zero, suc, _+_, _*_, _≤_, _<_}
+use mathlib.Core.Bool.{true, _&&_, _||_, and-assoc, and-true, and-false}
+use Prim.Native.Nat.{ℕ, _+_, _*_, _≤_, _<_}
 use native.Mathlib.Omega.{arith}
 use mathlib.Core.List.{List, [], _∷_, _++_}
 use lib.IntN.{ℤ, pos}
 use lib.ListN.{length, getD, take, drop, take-append-drop}
-use lib.Seq.{drop-drop, drop-length, length-take-le}
+use lib.Seq.{drop-drop, drop-length}
 use lib.Dec.{eqb, leb}
 use borrow.Author.Tests.{leb-true, eqb-true, eq-eqb, ne-eqb, lt-ltb, le-ltb, not-true}
 use Rattle.lists.specs.Tests.{_is_, _implies_, allOf}
@@ -24,8 +24,9 @@ use Rattle.rules.proofs.StorableLaws.{between-le, used-inside, mostOf-le, mark-
 use Rattle.rules.specs.Tables.{zeroWord}
 use Rattle.tables.specs.Changes.{RowIn}
 use Rattle.plain_rows.specs.Alike.{AlikeRow}
-use Rattle.plain_rows.proofs.AlikeLaws.{alike-test}
-use Rattle.sound_header.specs.Clauses.{ownWords, rowAlone, rowStands, Bounds, emptyRow, restZero}
+use Rattle.plain_rows.proofs.AlikeLaws.{alike-first, alike-test}
+use Rattle.sound_header.specs.declared.frame.Frame.{Frame}
+use Rattle.sound_header.specs.Clauses.{ownWords, rowAlone, rowStands, standsIn, Bounds, emptyRow, restZero}
 
 -- ---- the row that is named
 
@@ -90,14 +91,25 @@ stands-small xs rows today L n d l a m r e =
     settled-le : r .settled ≤ r .amount
     settled-le = unfold settledFits in leb-true _ _ (and-left (leb (r .settled) (r .amount)) (r .kind is Refund implies r .settled is r .amount) (alone 2))
 
--- so it stands as it is read
-pub stands-alike : (accounts journal : List ℤ) (count used today stage i : ℕ) → Bounds accounts journal count used today stage → i < used → (r : Row) → AlikeRow r (rowAt journal i)
-    → (b : Bool) → b ≡ rowStands (accountsOf accounts count) (rowsOf journal used) today stage (i + 1) r → b ≡ rowStands (accountsOf accounts count) (rowsOf journal used) today stage (i + 1) (rowAt journal i)
-stands-alike accounts journal count used today stage i l h r a b e =
-    e
-    ∙ alike-test (rowStands (accountsOf accounts count) (rowsOf journal used) today stage (i + 1))
-    (stands-small (accountsOf accounts count) (rowsOf journal used) today stage (i + 1) (l .day) (l .length) (omega (arith, l .fewer, length-tabulate (accountAt accounts) count)) (omega (arith, l .few)))
-    r (rowAt journal i) a
+-- so it stands as it is read, and then it is the table's
+module _ (accounts journal : List ℤ) (f : Frame) (l : Bounds accounts journal f) (i : ℕ) (h : i < f .used) (r : Row) (a : AlikeRow r (rowAt journal i)) where
+  small-here : (s : Row) → standsIn accounts journal f (i + 1) s ≡ true → StorableRow s
+  small-here = stands-small (accountsOf accounts (f .count)) (rowsOf journal (f .used)) (f .today) (f .stage) (i + 1) (l .day) (l .length) (omega (arith, l .fewer, length-tabulate (accountAt accounts) (f .count))) (omega (arith, l .few))
+
+  pub stands-alike : standsIn accounts journal f (i + 1) r ≡ standsIn accounts journal f (i + 1) (rowAt journal i)
+  stands-alike = alike-test (standsIn accounts journal f (i + 1)) small-here r (rowAt journal i) a
+
+  pub stands-same : standsIn accounts journal f (i + 1) r ≡ true → r ≡ rowAt journal i
+  stands-same e = alike-first r (rowAt journal i) a (small-here r e)
+
+-- a toll and a payment refer to no row
+pub toll-names-none : (rows : List Row) (n : ℕ) (r : Row) → r .kind ≡ Toll → referenceFits rows n r ≡ true
+unfolding referenceFits
+toll-names-none rows n r e = rw e
+
+pub payment-names-none : (rows : List Row) (n : ℕ) (r : Row) → r .kind ≡ Payment → referenceFits rows n r ≡ true
+unfolding referenceFits
+payment-names-none rows n r e = rw e
 
 -- an empty row
 pub empty-small : (r : Row) → emptyRow r ≡ true → StorableRow r

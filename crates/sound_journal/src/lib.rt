@@ -2,8 +2,10 @@
 // records, rules, tables, plain_rows, sound_header and sound_rows.
 use plain_rows::plain_row;
 use records::Row;
+use sound_header::frame::Frame;
 use sound_header::tests::implies;
-use sound_rows::row::row_alone;
+use sound_rows::row::other_alone;
+use sound_rows::row::toll_alone;
 use table_accounts::account_numbered;
 use table_rows::row_numbered;
 use tables::codes::CREDIT;
@@ -13,14 +15,15 @@ use tables::codes::REVERSAL;
 use tables::codes::TOLL;
 use tables::codes::UNUSED;
 ghost use mathlib.Core.Path.{_≡_};
-ghost use Prim.Native.Nat.{ℕ, _+_, _*_, _≤_, _<_};
+ghost use Prim.Native.Nat.{ℕ, _*_, _≤_};
 ghost use lib.ListN.{length};
 ghost use lib.Dec.{eqb};
 ghost use Rattle.records.specs.Layout.{rowWidth, accountWidth};
-ghost use Rattle.records.specs.Encoding.{rowAt, rowsOf, accountsOf};
+ghost use Rattle.records.specs.Encoding.{rowsOf, accountsOf};
 ghost use Rattle.rules.specs.Limits.{finalDay, longestStage};
+ghost use Rattle.rules.specs.Rows.{Toll, Payment};
 ghost use Rattle.rules.specs.Soundness.{accountUsed, names, referenceFits};
-ghost use Rattle.sound_header.specs.Clauses.{Bounds, rowStands, emptyRow, restZero};
+ghost use Rattle.sound_header.specs.Clauses.{Bounds, standsIn, StandsAnywhere, emptyRow, restZero};
 
 fn account_used(accounts: &[i64], count: usize, r: Row) -> bool
     requires { ⌜ count * accountWidth ≤ length (now accounts) ⌝ }
@@ -65,53 +68,40 @@ fn reference_fits(journal: &[i64], used: usize, n: u64, r: Row) -> bool
     implies(r.kind == CREDIT, named == TOLL)
 }
 
-// Row number n, r, and its neighbours: all but the two clauses that count rows.
-fn stands(
-    accounts: &[i64],
-    count: usize,
-    journal: &[i64],
-    used: usize,
-    today: u64,
-    stage: u64,
-    n: u64,
-    r: Row,
-) -> bool
-    requires { ⌜ Bounds (now accounts) (now journal) count used today stage ⌝ }
-    ensures { λ b. ⌜ b ≡ rowStands (accountsOf (now (accounts .entry)) count) (rowsOf (now (journal .entry)) used) today stage n r ⌝ }
+// A toll: it refers to no row.
+pub fn toll_stands(accounts: &[i64], f: Frame, r: Row) -> bool
+    requires { ⌜ (r .kind ≡ Toll) × (f .count * accountWidth ≤ length (now accounts)) × (f .today ≤ finalDay) × (f .stage ≤ longestStage) ⌝ }
+    ensures { λ b. ⌜ StandsAnywhere (now (accounts .entry)) f r b ⌝ }
 {
-    if !row_alone(today, stage, r) {
+    if !toll_alone(f.today, f.stage, r) {
         return false;
     }
-    if !account_used(accounts, count, r) {
-        return false;
-    }
-    reference_fits(journal, used, n, r)
+    account_used(accounts, f.count, r)
 }
 
-// Row i with its words as they are: none that is negative passes its tests.
-pub fn row_stands(
-    accounts: &[i64],
-    count: usize,
-    journal: &[i64],
-    used: usize,
-    today: u64,
-    stage: u64,
-    i: usize,
-) -> bool
-    requires { ⌜ Bounds (now accounts) (now journal) count used today stage × (i < used) ⌝ }
-    ensures { λ b. ⌜ b ≡ rowStands (accountsOf (now (accounts .entry)) count) (rowsOf (now (journal .entry)) used) today stage (i + 1) (rowAt (now (journal .entry)) i) ⌝ }
+// A payment: nor does it.
+pub fn payment_stands(accounts: &[i64], f: Frame, r: Row) -> bool
+    requires { ⌜ (r .kind ≡ Payment) × (f .count * accountWidth ≤ length (now accounts)) ⌝ }
+    ensures { λ b. ⌜ StandsAnywhere (now (accounts .entry)) f r b ⌝ }
 {
-    let r = plain_row(journal, i);
-    stands(
-        accounts,
-        count,
-        journal,
-        used,
-        today,
-        stage,
-        (i + 1) as u64,
-        r,
-    )
+    if !other_alone(f.today, r) {
+        return false;
+    }
+    account_used(accounts, f.count, r)
+}
+
+// Row number n, r, which is no toll.
+pub fn other_stands(accounts: &[i64], journal: &[i64], f: Frame, n: u64, r: Row) -> bool
+    requires { ⌜ (r .kind ≡ Toll → ⊥) × Bounds (now accounts) (now journal) f ⌝ }
+    ensures { λ b. ⌜ b ≡ standsIn (now (accounts .entry)) (now (journal .entry)) f n r ⌝ }
+{
+    if !other_alone(f.today, r) {
+        return false;
+    }
+    if !account_used(accounts, f.count, r) {
+        return false;
+    }
+    reference_fits(journal, f.used, n, r)
 }
 
 fn row_empty(r: Row) -> bool

@@ -9,7 +9,7 @@ ghost use lib.ListN.{length};
 ghost use Rattle.records.specs.Layout.{rowWidth};
 ghost use Rattle.rules.specs.Limits.{mostRows};
 ghost use Rattle.tables.specs.Changes.{RowIn};
-ghost use Rattle.sound_passages.specs.Trees.{mixOf, Grown, Spot, Planted};
+ghost use Rattle.sound_passages.specs.Trees.{mixOf, IsToll, HasPassage, Grown, Spot, Planted};
 
 // A cell holds a row's number, 0 for none. The first ROOTS cells are the trees' roots; then each row has two cells, its branches.
 const ROOTS: usize = 16384;
@@ -49,7 +49,20 @@ pub fn spot(journal: &[i64], cells: &[u16; CELLS], n: usize, x: u64) -> usize
     c
 }
 
-// Row n goes to its cell, where it is a toll: false where an earlier toll has its passage number.
+// Row n, a toll of passage x, goes to its cell: false where an earlier toll has its passage number.
+pub fn plant_toll(journal: &[i64], cells: &mut [u16; CELLS], n: usize, x: u64) -> bool
+    requires { ⌜ RowIn (now journal) n × (n < mostRows) × Grown (now journal) (now cells) n × IsToll (now journal) n × HasPassage (now journal) n x ⌝ }
+    ensures { λ r. ⌜ Planted (now (journal .entry)) (now (cells .exit)) n r ⌝ }
+{
+    let c = spot(journal, cells, n, x);
+    if c >= CELLS {
+        return false;
+    }
+    cells[c] = (n + 1) as u16;
+    true
+}
+
+// The same for a row of any kind: one that is no toll leaves the trees.
 pub fn plant(journal: &[i64], cells: &mut [u16; CELLS], n: usize) -> bool
     requires { ⌜ RowIn (now journal) n × (n < mostRows) × Grown (now journal) (now cells) n ⌝ }
     ensures { λ r. ⌜ Planted (now (journal .entry)) (now (cells .exit)) n r ⌝ }
@@ -58,10 +71,5 @@ pub fn plant(journal: &[i64], cells: &mut [u16; CELLS], n: usize) -> bool
         return true;
     }
     let x = reference_at(journal, n);
-    let c = spot(journal, cells, n, x);
-    if c >= CELLS {
-        return false;
-    }
-    cells[c] = (n + 1) as u16;
-    true
+    plant_toll(journal, cells, n, x)
 }

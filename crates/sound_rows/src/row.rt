@@ -1,5 +1,5 @@
 // A row by itself: each clause of rules' Soundness that looks at one row and the day. Each test returns at once, so that a sound
-// row costs one well-predicted branch a test; tolls and other rows part at once, since they share few tests.
+// row costs one well-predicted branch a test; a caller parts tolls from other rows, since they share few tests.
 use records::Row;
 use sound_header::tests::between;
 use sound_tolls::row_day_fits;
@@ -103,19 +103,22 @@ fn other_fits(today: u64, r: Row) -> bool
 
 // ---- all that a row is tested for by itself
 
-fn own_words(today: u64, stage: u64, r: Row) -> bool
-    requires { ⌜ (today ≤ finalDay) × (stage ≤ longestStage) ⌝ }
-    ensures { λ b. ⌜ b ≡ ownWords today stage r ⌝ }
+pub fn toll_alone(today: u64, stage: u64, r: Row) -> bool
+    requires { ⌜ (r .kind ≡ Toll) × (today ≤ finalDay) × (stage ≤ longestStage) ⌝ }
+    ensures { λ b. ⌜ b ≡ rowAlone today stage r ⌝ }
 {
-    if r.kind == TOLL {
-        return toll_fits(today, stage, r);
+    if !between(1, r.amount, HIGHEST_RATE) {
+        return false;
     }
-    other_fits(today, r)
+    if !settled_fits(r) {
+        return false;
+    }
+    toll_fits(today, stage, r)
 }
 
-pub fn row_alone(today: u64, stage: u64, r: Row) -> bool
-    requires { ⌜ (today ≤ finalDay) × (stage ≤ longestStage) ⌝ }
-    ensures { λ b. ⌜ b ≡ rowAlone today stage r ⌝ }
+pub fn other_alone(today: u64, r: Row) -> bool
+    requires { ⌜ (r .kind ≡ Toll → ⊥) ⌝ }
+    ensures { λ b. ⌜ ((L : ℕ) → b ≡ rowAlone today L r) ⌝ }
 {
     if !kind_fits(r) {
         return false;
@@ -126,5 +129,5 @@ pub fn row_alone(today: u64, stage: u64, r: Row) -> bool
     if !settled_fits(r) {
         return false;
     }
-    own_words(today, stage, r)
+    other_fits(today, r)
 }

@@ -1,6 +1,6 @@
 -- The clauses on accounts in the groups in which the code tests them.
 use mathlib.Core.Bool.{Bool, _&&_, _||_}
-use Prim.Native.Nat.{ℕ}
+use Prim.Native.Nat.{ℕ, _+_, _*_}
 use mathlib.Core.List.{List, [], _∷_}
 use lib.Dec.{eqb}
 use lib.ListN.{getD}
@@ -22,15 +22,15 @@ sumsAgree x s = allOf
 unfoldable pub accountStands : ℕ → Sums → Account → Bool
 accountStands today s x = accountAlone today x && sumsAgree x s
 
--- the sums of account n, in arrays and by the definitions
-unfoldable pub sumsAt : List ℕ → List ℕ → List ℕ → List ℕ → List ℕ → List ℕ → ℕ → Sums
-sumsAt returned drawn money paid debt owed n = record {
-  returned = getD returned n 0;
-  drawn = getD drawn n 0;
-  money = getD money n 0;
-  paid = getD paid n 0;
-  debt = getD debt n 0;
-  owed = getD owed n 0;
+-- the sums of account n, in their array and by the definitions
+unfoldable pub sumsAt : List ℕ → ℕ → Sums
+sumsAt sums n = record {
+  returned = getD sums (n * 6) 0;
+  drawn = getD sums (n * 6 + 1) 0;
+  money = getD sums (n * 6 + 2) 0;
+  paid = getD sums (n * 6 + 3) 0;
+  debt = getD sums (n * 6 + 4) 0;
+  owed = getD sums (n * 6 + 5) 0;
 }
 
 unfoldable pub sumsOf : List Row → ℕ → Sums

@@ -1,5 +1,5 @@
 // The accounts: each by itself, and against the sums of its rows.
-use account_sums::SEATS;
+use account_sums::SUMS;
 use records::Account;
 use sound_accounts::account_alone;
 use sound_header::tests::implies;
@@ -37,34 +37,35 @@ fn account_stands(accounts: &[i64], i: usize, today: u64, s: Sums) -> bool
     ensures { λ b. ⌜ b ≡ accountStands today s (accountAt (now (accounts .entry)) i) ⌝ }
 {
     let x = read_account(accounts, i);
-    account_alone(today, x) & sums_agree(x, s)
+    if !account_alone(today, x) {
+        return false;
+    }
+    sums_agree(x, s)
 }
 
-pub fn all_agree(
-    accounts: &[i64],
-    count: usize,
-    today: u64,
-    returned: &[u64; SEATS],
-    drawn: &[u64; SEATS],
-    money: &[u64; SEATS],
-    paid: &[u64; SEATS],
-    debt: &[u64; SEATS],
-    owed: &[u64; SEATS],
-) -> bool
+// The sums of account number n.
+fn sums_of(sums: &[u64; SUMS], n: usize) -> Sums
+    requires { ⌜ n < 257 ⌝ }
+    ensures { λ s. ⌜ s ≡ sumsAt (now (sums .entry)) n ⌝ }
+{
+    let p = n * 6;
+    Sums {
+        returned: sums[p],
+        drawn: sums[p + 1],
+        money: sums[p + 2],
+        paid: sums[p + 3],
+        debt: sums[p + 4],
+        owed: sums[p + 5],
+    }
+}
+
+pub fn all_agree(accounts: &[i64], count: usize, today: u64, sums: &[u64; SUMS]) -> bool
     requires { ⌜ (count * accountWidth ≤ length (now accounts)) × (count ≤ mostAccounts) ⌝ }
-    ensures { λ b. ⌜ b ≡ allAgree today (sumsAt (now (returned .entry)) (now (drawn .entry)) (now (money .entry)) (now (paid .entry)) (now (debt .entry)) (now (owed .entry))) (accountsOf (now (accounts .entry)) count) ⌝ }
+    ensures { λ b. ⌜ b ≡ allAgree today (sumsAt (now (sums .entry))) (accountsOf (now (accounts .entry)) count) ⌝ }
 {
     let mut i = 0;
     while i < count {
-        let n = i + 1;
-        let s = Sums {
-            returned: returned[n],
-            drawn: drawn[n],
-            money: money[n],
-            paid: paid[n],
-            debt: debt[n],
-            owed: owed[n],
-        };
+        let s = sums_of(sums, i + 1);
         if !account_stands(accounts, i, today, s) {
             return false;
         }

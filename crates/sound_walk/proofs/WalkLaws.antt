@@ -1,65 +1,115 @@
 -- What a row that stands, and one that does not, shows of the rows.
 use mathlib.Core.Path.{_≡_, sym, _∙_}
-use mathlib.Core.Bool.{Bool, true, false, and-false, true≢false, false≢true}
+use mathlib.Core.Logic.{_≢_}
+use mathlib.Core.Bool.{true, false, and-false, or-false, true≢false, false≢true}
 use Prim.Native.Nat.{ℕ, _+_, _≤_, _<_}
 use native.Mathlib.Omega.{arith}
 use mathlib.Core.List.{List, [], _∷_}
 use lib.IntN.{ℤ}
 use lib.ListN.{getD}
-use lib.Dec.{leb}
-use borrow.Author.Tests.{leb-true, not-true}
+use lib.Dec.{eqb, leb}
+use native.Mathlib.Decide.{decLt}
+use borrow.Author.Tests.{leb-true, not-true, ne-eqb, le-ltb}
+use borrow.Author.Count.{below-more}
 use Rattle.lists.specs.Tests.{_is_, _implies_}
 use Rattle.lists.proofs.TestLaws.{and-left, allOf-at}
 use Rattle.lists.proofs.ListLaws.{every-fails, length-tabulate}
 use Rattle.records.specs.Encoding.{rowAt, rowsOf, accountAt, accountsOf}
 use Rattle.rules.specs.Limits.{mostAccounts, highestRefund}
-use Rattle.rules.specs.Rows.{Refund}
-use Rattle.rules.specs.Soundness.{kindFits, mostOf, amountFits, settledFits, accountUsed, referenceFits}
+use Rattle.rules.specs.Rows.{Row, Toll, Fee, Payment, Credit, Refund, rowNo, source, debit, heldToll, held}
+use Rattle.rules.specs.Soundness.{kindFits, mostOf, amountFits, settledFits, accountUsed, names, referenceFits}
 use Rattle.rules.proofs.StorableLaws.{mostOf-le, used-inside, between-le}
-use Rattle.sound_header.specs.Clauses.{rowAlone, rowStands, rowsStand, Bounds}
-use Rattle.sound_passages.specs.Trees.{passagesDiffer}
-use Rattle.account_sums.specs.Tallies.{Countable}
-use Rattle.sound_walk.specs.Walks.{Walked, Unfit, Walks}
+use Rattle.sound_header.specs.declared.frame.Frame.{Frame}
+use Rattle.sound_header.specs.Clauses.{rowAlone, rowStands, rowsStand, standsIn}
+use Rattle.sound_journal.proofs.JournalLaws.{stands-alike, stands-same}
+use Rattle.sound_passages.specs.Trees.{passagesDiffer, Grown}
+use Rattle.sound_fees.specs.Fees.{feesFew, Counted}
+use Rattle.account_sums.specs.Columns.{Tallies, Addable}
+use Rattle.account_sums.proofs.SumsLaws.{no-source-debit}
+use Rattle.account_sums.proofs.ColumnLaws.{addable}
+use Rattle.sound_walk.specs.Walks.{Walked, Unfit, Walks, Turn}
 
-module _ (accounts journal : List ℤ) (count used today stage : ℕ) where
-  -- a row that does not stand
-  pub unfit-row : (i : ℕ) → i < used → (r : Bool) → r ≡ rowStands (accountsOf accounts count) (rowsOf journal used) today stage (i + 1) (rowAt journal i) → r ≡ false → Unfit accounts journal count used today stage
-  unfolding rowsStand
-  unfit-row i h r p e = rw (every-fails (rowStands (accountsOf accounts count) (rowsOf journal used) today stage) (rowAt journal) used i h (sym p ∙ e))
+-- a toll is held by its own word, a fee by its toll's, no other row; neither a payment nor a credit is a debit, and every other kind is
+pub toll-held : (rows : List Row) (r : Row) → r .kind ≡ Toll → eqb (r .dispute) 1 ≡ held rows r
+unfolding held
+toll-held rows r e = rw (e, or-false)
 
+pub fee-held : (rows : List Row) (r : Row) → r .kind ≡ Fee → heldToll (rowNo rows (r .reference)) ≡ held rows r
+unfolding held
+fee-held rows r e = rw e
+
+pub none-held : (rows : List Row) (r : Row) → r .kind ≢ Toll → r .kind ≢ Fee → false ≡ held rows r
+unfolding held
+none-held rows r p q = rw (ne-eqb (r .kind) Toll p, ne-eqb (r .kind) Fee q)
+
+pub no-source : (r : Row) → r .kind ≢ Payment → r .kind ≢ Credit → source r ≡ false
+no-source r p q = rw (ne-eqb (r .kind) Payment p, ne-eqb (r .kind) Credit q)
+
+module _ (accounts journal : List ℤ) (f : Frame) where
   -- two tolls of the same passage number
-  pub unfit-passage : passagesDiffer (rowsOf journal used) ≡ false → Unfit accounts journal count used today stage
-  unfit-passage e = rw e (and-false (rowsStand (accountsOf accounts count) (rowsOf journal used) today stage))
+  pub unfit-passage : passagesDiffer (rowsOf journal (f .used)) ≡ false → Unfit accounts journal f
+  unfit-passage e = rw e (and-false (rowsStand (accountsOf accounts (f .count)) (rowsOf journal (f .used)) (f .today) (f .stage)))
+
+  -- a toll that too many fees name
+  pub unfit-fees : feesFew (rowsOf journal (f .used)) ≡ false → Unfit accounts journal f
+  unfit-fees e = simp (e, and-false)
 
   -- what each result says
-  module _ {cells counts returned drawn money paid debt owed : List ℕ} {i : ℕ} where
-    pub walks-good : Walked accounts journal count used today stage cells counts returned drawn money paid debt owed i → Walks accounts journal count used today stage cells counts returned drawn money paid debt owed i true
+  module _ {cells counts sums : List ℕ} {i : ℕ} where
+    pub walks-good : Walked accounts journal f cells counts sums i → Walks accounts journal f cells counts sums i true
     walks-good w = record { good = λ e. w; bad = λ e. absurd (true≢false e) }
 
-    pub walks-bad : Unfit accounts journal count used today stage → Walks accounts journal count used today stage cells counts returned drawn money paid debt owed i false
+    pub walks-bad : Unfit accounts journal f → Walks accounts journal f cells counts sums i false
     walks-bad u = record { good = λ e. absurd (false≢true e); bad = λ e. u }
 
-  -- rows that stand can be counted
-  module _ (b : Bounds accounts journal count used today stage) (n : ℕ) (m : n ≤ used)
-      (stood : (k : ℕ) → k < n → rowStands (accountsOf accounts count) (rowsOf journal used) today stage (k + 1) (rowAt journal k) ≡ true) where
-    pub countable : Countable journal n
-    countable = record { room = omega (arith, b .room); few = omega (arith, b .few); kind = kind-fits; account = account-le; amount = amount-le; settled = settled-le }
-      where
-        part : (k : ℕ) → k < n → (i : ℕ) → getD (rowAlone today stage (rowAt journal k) ∷ accountUsed (accountsOf accounts count) (rowAt journal k) ∷ referenceFits (rowsOf journal used) (k + 1) (rowAt journal k) ∷ []) i true ≡ true
-        part k h = unfold rowStands in allOf-at _ (stood k h)
+  module _ (i : ℕ) (r : Row) (t : Turn accounts journal f i r) where
+    -- a row that does not stand
+    pub row-unfit : standsIn accounts journal f (i + 1) r ≡ false → Unfit accounts journal f
+    unfolding rowsStand
+    row-unfit e =
+        rw (every-fails (standsIn accounts journal f) (rowAt journal) (f .used) i (t .inside) (sym (stands-alike accounts journal f (t .bounds) i (t .inside) r (t .alike)) ∙ e))
 
-        kind-fits : (k : ℕ) → k < n → kindFits (rowAt journal k) ≡ true
-        kind-fits k h = unfold rowAlone in allOf-at _ (part k h 0) 0
+    -- a row that stands
+    module _ (e : standsIn accounts journal f (i + 1) r ≡ true) where
+      pub row-same : r ≡ rowAt journal i
+      row-same = stands-same accounts journal f (t .bounds) i (t .inside) r (t .alike) e
 
-        account-le : (k : ℕ) → k < n → rowAt journal k .account ≤ mostAccounts
-        account-le k h = unfold accountUsed in
-            (let x = used-inside (accountsOf accounts count) (rowAt journal k .account) (not-true _ (part k h 1)) in
-            omega (arith, b .fewer, length-tabulate (accountAt accounts) count))
+      part : (k : ℕ) → getD (rowAlone (f .today) (f .stage) r ∷ accountUsed (accountsOf accounts (f .count)) r ∷ referenceFits (rowsOf journal (f .used)) (i + 1) r ∷ []) k true ≡ true
+      part = unfold rowStands in allOf-at _ e
 
-        amount-le : (k : ℕ) → k < n → rowAt journal k .amount ≤ highestRefund
-        amount-le k h = unfold rowAlone amountFits in
-            omega (arith, between-le 1 (mostOf (rowAt journal k .kind)) (rowAt journal k .amount) (allOf-at _ (part k h 0) 1), mostOf-le (rowAt journal k .kind))
+      row-kind : kindFits r ≡ true
+      row-kind = unfold rowAlone in allOf-at _ (part 0) 0
 
-        settled-le : (k : ℕ) → k < n → rowAt journal k .settled ≤ rowAt journal k .amount
-        settled-le k h = unfold rowAlone settledFits in
-            leb-true _ _ (and-left (leb (rowAt journal k .settled) (rowAt journal k .amount)) (rowAt journal k .kind is Refund implies rowAt journal k .settled is rowAt journal k .amount) (allOf-at _ (part k h 0) 2))
+      -- a fee names an earlier row
+      pub row-earlier : r .kind ≡ Fee → r .reference < i + 1
+      unfolding referenceFits names
+      row-earlier k =
+          elim (decLt (r .reference) (i + 1)) [
+            | yes h ↦ h
+            | no h ↦ absurd (false≢true (simp (k, le-ltb (r .reference) (i + 1) (omega arith)) at (part 2)))
+          ]
+
+      pub row-debit : source r ≡ false → debit r ≡ true
+      row-debit = no-source-debit r row-kind
+
+      pub row-addable : {sums : List ℕ} → Tallies journal (f .used) sums i → Addable sums r
+      row-addable w = addable journal (f .used) _ i w (omega (arith, t .inside, t .bounds .few)) r account-le amount-le settled-le
+        where
+          account-le : r .account ≤ mostAccounts
+          account-le = unfold accountUsed in
+              (let x = used-inside (accountsOf accounts (f .count)) (r .account) (not-true _ (part 1)) in
+              omega (arith, t .bounds .fewer, length-tabulate (accountAt accounts) (f .count)))
+
+          amount-le : r .amount ≤ highestRefund
+          amount-le = unfold rowAlone amountFits in
+              omega (arith, between-le 1 (mostOf (r .kind)) (r .amount) (allOf-at _ (part 0) 1), mostOf-le (r .kind))
+
+          settled-le : r .settled ≤ r .amount
+          settled-le = unfold rowAlone settledFits in
+              leb-true _ _ (and-left (leb (r .settled) (r .amount)) (r .kind is Refund implies r .settled is r .amount) (allOf-at _ (part 0) 2))
+
+      -- and is entered everywhere
+      pub row-walks : {cells counts sums cells₁ counts₁ sums₁ : List ℕ} → Walked accounts journal f cells counts sums i
+          → Grown journal cells₁ (i + 1) → Counted journal counts₁ (i + 1) → Tallies journal (f .used) sums₁ (i + 1) → Walks accounts journal f cells₁ counts₁ sums₁ (i + 1) true
+      row-walks w g c s =
+          walks-good record { stood = below-more _ _ (w .stood) (sym (stands-alike accounts journal f (t .bounds) i (t .inside) r (t .alike)) ∙ e); grown = g; fees = c; tallies = s }

@@ -1,89 +1,150 @@
-// The one pass of the check over the journal: each row is read once, tested, planted among the passage numbers, counted where it is a fee
-// and added to the sums of its account. Uses lists, records, rules, tables and the crates of these clauses.
-use account_sums::SEATS;
-use account_sums::add_row;
+// The one pass of the check over the journal: each row is read once, and its kind decides once how it is tested, planted among the passage
+// numbers, counted where it is a fee, and added to the sums of its account. Uses lists, records, rules, tables and the crates of these
+// clauses.
+use account_sums::SUMS;
+use account_sums::add_debit;
+use account_sums::add_source;
+use plain_rows::plain_row;
+use records::Row;
+use row_tests::held_toll;
 use sound_fees::COUNTS;
 use sound_fees::count_fee;
-use sound_journal::row_stands;
+use sound_header::frame::Frame;
+use sound_journal::other_stands;
+use sound_journal::payment_stands;
+use sound_journal::toll_stands;
 use sound_passages::passages::CELLS;
-use sound_passages::passages::plant;
+use sound_passages::passages::plant_toll;
+use table_rows::row_numbered;
+use tables::codes::CHECK_RETURNED;
+use tables::codes::CREDIT;
+use tables::codes::FEE;
+use tables::codes::HELD;
+use tables::codes::PAYMENT;
+use tables::codes::TOLL;
 ghost use mathlib.Core.Path.{_≡_};
-ghost use Prim.Native.Nat.{_+_, _<_};
+ghost use mathlib.Core.List.{List};
+ghost use Prim.Native.Nat.{ℕ, _+_, _<_};
+ghost use Rattle.rules.specs.Rows.{Toll, Payment};
 ghost use Rattle.sound_header.specs.Clauses.{Bounds};
-ghost use Rattle.sound_walk.specs.Walks.{Walked, Walks};
+ghost use Rattle.sound_passages.specs.Trees.{Grown};
+ghost use Rattle.sound_fees.specs.Fees.{Counted};
+ghost use Rattle.account_sums.specs.Columns.{Tallies, Addable};
+ghost use Rattle.sound_walk.specs.Walks.{Walked, Walks, Turn, Turns, FeeTurn, FeeTurns};
 
-// Row i: false where it does not stand, or an earlier toll has its passage number. It is added only once it is found to stand, so the
-// sums are of amounts that are known to be small.
+// Row i, r, a toll: false where it does not stand, or an earlier one has its passage number. As any row, it is added only once it is found to
+// stand, so the sums are of amounts that are known to be small.
+fn toll_turn(
+    accounts: &[i64],
+    journal: &[i64],
+    f: Frame,
+    i: usize,
+    r: Row,
+    cells: &mut [u16; CELLS],
+    sums: &mut [u64; SUMS],
+) -> bool
+    requires { ⌜ Turn (now accounts) (now journal) f i r × (r .kind ≡ Toll) × Grown (now journal) (now cells) i × Tallies (now journal) (f .used) (now sums) i ⌝ }
+    ensures { λ b. ⌜ ((counts : List ℕ) → Turns (now (accounts .entry)) (now (journal .entry)) f i (now (cells .entry)) counts (now (sums .entry)) (now (cells .exit)) counts (now (sums .exit)) b) ⌝ }
+{
+    if !toll_stands(accounts, f, r) {
+        return false;
+    }
+    if !plant_toll(journal, cells, i, r.reference) {
+        return false;
+    }
+    add_debit(sums, r, r.dispute == HELD);
+    true
+}
+
+// Row i, r, a fee that stands: false where the row that it names has one too many.
+fn fee_turn(
+    journal: &[i64],
+    f: Frame,
+    i: usize,
+    r: Row,
+    counts: &mut [u16; COUNTS],
+    sums: &mut [u64; SUMS],
+) -> bool
+    requires { ⌜ FeeTurn (now journal) f i r × Counted (now journal) (now counts) i × Tallies (now journal) (f .used) (now sums) i × Addable (now sums) r ⌝ }
+    ensures { λ b. ⌜ FeeTurns (now (journal .entry)) f i (now (counts .exit)) (now (sums .exit)) b ⌝ }
+{
+    let named = row_numbered(journal, f.used, r.reference);
+    if !count_fee(counts, r.reference as usize, named) {
+        return false;
+    }
+    add_debit(sums, r, held_toll(named));
+    true
+}
+
+// Row i, r, neither a toll nor a payment: false where it does not stand, or is one fee too many.
+fn other_turn(
+    accounts: &[i64],
+    journal: &[i64],
+    f: Frame,
+    i: usize,
+    r: Row,
+    counts: &mut [u16; COUNTS],
+    sums: &mut [u64; SUMS],
+) -> bool
+    requires { ⌜ Turn (now accounts) (now journal) f i r × (r .kind ≡ Toll → ⊥) × (r .kind ≡ Payment → ⊥) × Counted (now journal) (now counts) i × Tallies (now journal) (f .used) (now sums) i ⌝ }
+    ensures { λ b. ⌜ ((cells : List ℕ) → Turns (now (accounts .entry)) (now (journal .entry)) f i cells (now (counts .entry)) (now (sums .entry)) cells (now (counts .exit)) (now (sums .exit)) b) ⌝ }
+{
+    if !other_stands(accounts, journal, f, (i + 1) as u64, r) {
+        return false;
+    }
+    if r.kind == FEE {
+        return fee_turn(journal, f, i, r, counts, sums);
+    }
+    if r.kind == CREDIT {
+        add_source(sums, r, false);
+        return true;
+    }
+    add_debit(sums, r, false);
+    true
+}
+
+// Row i.
 fn turn(
     accounts: &[i64],
-    count: usize,
     journal: &[i64],
-    used: usize,
-    today: u64,
-    stage: u64,
+    f: Frame,
     i: usize,
     cells: &mut [u16; CELLS],
     counts: &mut [u16; COUNTS],
-    returned: &mut [u64; SEATS],
-    drawn: &mut [u64; SEATS],
-    money: &mut [u64; SEATS],
-    paid: &mut [u64; SEATS],
-    debt: &mut [u64; SEATS],
-    owed: &mut [u64; SEATS],
+    sums: &mut [u64; SUMS],
 ) -> bool
-    requires { ⌜ Bounds (now accounts) (now journal) count used today stage × (i < used) × Walked (now accounts) (now journal) count used today stage (now cells) (now counts) (now returned) (now drawn) (now money) (now paid) (now debt) (now owed) i ⌝ }
-    ensures { λ r. ⌜ Walks (now (accounts .entry)) (now (journal .entry)) count used today stage (now (cells .exit)) (now (counts .exit)) (now (returned .exit)) (now (drawn .exit)) (now (money .exit)) (now (paid .exit)) (now (debt .exit)) (now (owed .exit)) (i + 1) r ⌝ }
+    requires { ⌜ Bounds (now accounts) (now journal) f × (i < f .used) × Walked (now accounts) (now journal) f (now cells) (now counts) (now sums) i ⌝ }
+    ensures { λ b. ⌜ Walks (now (accounts .entry)) (now (journal .entry)) f (now (cells .exit)) (now (counts .exit)) (now (sums .exit)) (i + 1) b ⌝ }
 {
-    if !row_stands(accounts, count, journal, used, today, stage, i) {
+    let r = plain_row(journal, i);
+    if r.kind == TOLL {
+        return toll_turn(accounts, journal, f, i, r, cells, sums);
+    }
+    if r.kind != PAYMENT {
+        return other_turn(accounts, journal, f, i, r, counts, sums);
+    }
+    if !payment_stands(accounts, f, r) {
         return false;
     }
-    if !plant(journal, cells, i) {
-        return false;
-    }
-    count_fee(journal, counts, i);
-    add_row(journal, used, i, returned, drawn, money, paid, debt, owed);
+    add_source(sums, r, r.mark == CHECK_RETURNED);
     true
 }
 
 // The used rows, one after another.
 pub fn walk(
     accounts: &[i64],
-    count: usize,
     journal: &[i64],
-    used: usize,
-    today: u64,
-    stage: u64,
+    f: Frame,
     cells: &mut [u16; CELLS],
     counts: &mut [u16; COUNTS],
-    returned: &mut [u64; SEATS],
-    drawn: &mut [u64; SEATS],
-    money: &mut [u64; SEATS],
-    paid: &mut [u64; SEATS],
-    debt: &mut [u64; SEATS],
-    owed: &mut [u64; SEATS],
+    sums: &mut [u64; SUMS],
 ) -> bool
-    requires { ⌜ Bounds (now accounts) (now journal) count used today stage × Walked (now accounts) (now journal) count used today stage (now cells) (now counts) (now returned) (now drawn) (now money) (now paid) (now debt) (now owed) 0 ⌝ }
-    ensures { λ r. ⌜ Walks (now (accounts .entry)) (now (journal .entry)) count used today stage (now (cells .exit)) (now (counts .exit)) (now (returned .exit)) (now (drawn .exit)) (now (money .exit)) (now (paid .exit)) (now (debt .exit)) (now (owed .exit)) used r ⌝ }
+    requires { ⌜ Bounds (now accounts) (now journal) f × Walked (now accounts) (now journal) f (now cells) (now counts) (now sums) 0 ⌝ }
+    ensures { λ b. ⌜ Walks (now (accounts .entry)) (now (journal .entry)) f (now (cells .exit)) (now (counts .exit)) (now (sums .exit)) (f .used) b ⌝ }
 {
     let mut i = 0;
-    while i < used {
-        if !turn(
-            accounts,
-            count,
-            journal,
-            used,
-            today,
-            stage,
-            i,
-            cells,
-            counts,
-            returned,
-            drawn,
-            money,
-            paid,
-            debt,
-            owed,
-        ) {
+    while i < f.used {
+        if !turn(accounts, journal, f, i, cells, counts, sums) {
             return false;
         }
         i += 1;

@@ -1,12 +1,12 @@
 -- The groups of clauses that the code tests are together rules' soundTables.
-use mathlib.Core.Path.{_≡_, refl, sym, ap, _∙_}
-use mathlib.Core.Bool.{Bool, true, false, _&&_, and-assoc, and-true, and-false}
-use Prim.Native.Nat.{ℕ, _+_, _/_, _≤_, _<_, min}
+use mathlib.Core.Path.{_≡_, refl, sym, _∙_}
+use mathlib.Core.Bool.{Bool, true, false, _&&_, and-assoc, and-true, and-false, true≢false}
+use Prim.Native.Nat.{ℕ, _+_, _/_, _≤_, min}
 use native.Mathlib.Omega.{arith}
-use mathlib.Core.List.{List, [], _∷_}
+use mathlib.Core.List.{List}
 use lib.IntN.{ℤ}
 use lib.ListN.{length, replicate}
-use lib.Dec.{leb, eqb}
+use lib.Dec.{leb}
 use borrow.Author.Tests.{le-leb}
 use borrow.Author.Count.{below-none}
 use Rattle.lists.specs.Tests.{allOf}
@@ -16,26 +16,25 @@ use Rattle.lists.proofs.ListLaws.{every-ext, every-and, every-tabulate, length-
 use Rattle.records.specs.Layout.{dayPlace, usedPlace, headerSchedule, stagePlace, accountWidth, rowWidth}
 use Rattle.records.specs.Encoding.{word, rowAt, rowsOf, accountsOf}
 use Rattle.rules.specs.Limits.{finalDay}
-use Rattle.rules.specs.Rows.{Row}
 use Rattle.rules.specs.Schedule.{scheduleFits}
-use Rattle.rules.specs.Book.{Account, Book}
+use Rattle.rules.specs.Book.{Book}
 use Rattle.rules.specs.Opening.{dayFits, sizesFit}
 use Rattle.rules.specs.Soundness.{passageOnce, feesFit, rowSound, returnedFits, even, spent, closedClear, accountSound, sound}
 use Rattle.rules.specs.Tables.{Tables, accountsIn, roomIn, rowsUsed, scheduleFrom, bookOf, wholeRecords, lengthsFit, usedFits, laterRowsZero, soundTables}
 use Rattle.rules.proofs.StorableLaws.{between-le, schedule-storable}
+use Rattle.sound_header.specs.declared.frame.Frame.{Frame}
 use Rattle.sound_header.specs.Clauses.{ownWords, rowAlone, rowStands, rowsStand, restZero, tablesAt, Bounds}
 use Rattle.sound_header.proofs.LengthLaws.{lengths-known}
 use Rattle.sound_passages.specs.Trees.{passagesDiffer}
 use Rattle.sound_passages.proofs.PassageLaws.{clean-differ}
 use Rattle.sound_passages.proofs.TreeLaws.{grown-none}
-use Rattle.sound_fees.specs.Fees.{feesFew, feeOf, feesAllWithin}
-use Rattle.sound_fees.proofs.FeeLaws.{fees-counted}
+use Rattle.sound_fees.specs.Fees.{feesFew}
+use Rattle.sound_fees.proofs.FeeLaws.{counted-none, fees-few}
 use Rattle.soundness.specs.Book.{bookStands}
 use Rattle.sound_sums.specs.Accounts.{sumsAgree, accountStands, sumsAt, sumsOf, allAgree, accountsStand}
 use Rattle.sound_sums.proofs.AccountLaws.{all-stand}
 use Rattle.sound_accounts.specs.Alone.{accountAlone}
-use Rattle.account_sums.specs.Tallies.{returnOf, drawnOf, moneyOf, paidOf, debtOf, owedOf}
-use Rattle.account_sums.proofs.TallyLaws.{tallied-none}
+use Rattle.account_sums.proofs.ColumnLaws.{tallies-none}
 use Rattle.sound_walk.specs.Walks.{Walked, Unfit}
 
 -- ---- rows and accounts
@@ -132,7 +131,7 @@ module _ (h a j : List ℤ) (used today stage : ℕ) (f : Fit h a j used today s
       schedule-fits : scheduleFits (bookOf tables .schedule) ≡ true
       schedule-fits = unfold bookOf in (f .schedule)
 
-  pub fit-bounds : Bounds a j (length a / accountWidth) used today stage
+  pub fit-bounds : Bounds a j (record { count = length a / accountWidth; used = used; today = today; stage = stage })
   unfolding dayFits scheduleFrom
   fit-bounds =
       let l = lengths-known h a j (f .lengths) in
@@ -149,38 +148,39 @@ module _ (h a j : List ℤ) (used today stage : ℕ) (f : Fit h a j used today s
 -- ---- the rows once they are walked
 
 -- no fees, sums or passage numbers before the first row
-pub walked-none : (accounts journal : List ℤ) (count used today stage : ℕ) → Walked accounts journal count used today stage (replicate 32768 0) (replicate 8193 0) (replicate 257 0) (replicate 257 0) (replicate 257 0) (replicate 257 0) (replicate 257 0) (replicate 257 0) 0
-walked-none accounts journal count used today stage = record {
+pub walked-none : (accounts journal : List ℤ) (f : Frame) → Walked accounts journal f (replicate 32768 0) (replicate 8193 0) (replicate 1542 0) 0
+walked-none accounts journal f = record {
   stood = below-none _;
   grown = grown-none journal 32768 refl;
-  fees = tallied-none feeOf 8193 journal;
-  sources = record { returns = tallied-none returnOf 257 journal; draws = tallied-none drawnOf 257 journal; moneys = tallied-none moneyOf 257 journal };
-  debits = record { payments = tallied-none paidOf 257 journal; debts = tallied-none (debtOf (rowsOf journal used)) 257 journal; owings = tallied-none owedOf 257 journal };
+  fees = counted-none journal;
+  tallies = tallies-none journal (f .used);
 }
 
-module _ (accounts journal : List ℤ) (count used today stage : ℕ) where
-  pub unfit-stands : Unfit accounts journal count used today stage → false ≡ bookStands (accountsOf accounts count) (rowsOf journal used) today stage
+module _ (accounts journal : List ℤ) (f : Frame) where
+  abbrev standing : Bool
+  standing = bookStands (accountsOf accounts (f .count)) (rowsOf journal (f .used)) (f .today) (f .stage)
+
+  pub unfit-stands : Unfit accounts journal f → false ≡ standing
   unfolding bookStands allOf
-  unfit-stands e = rw (← and-assoc (rowsStand (accountsOf accounts count) (rowsOf journal used) today stage) (passagesDiffer (rowsOf journal used)) (feesFew (rowsOf journal used) && (accountsStand today (rowsOf journal used) (accountsOf accounts count) && true)), e)
+  unfit-stands e = sym (regroup (rowsStand (accountsOf accounts (f .count)) (rowsOf journal (f .used)) (f .today) (f .stage)) (passagesDiffer (rowsOf journal (f .used))) (feesFew (rowsOf journal (f .used))) _ e)
+    where
+      regroup : (a b c d : Bool) → a && (b && c) ≡ false → a && (b && (c && d)) ≡ false
+      regroup true true true d e = absurd (true≢false e)
+      regroup true true false d e = refl
+      regroup true false c d e = refl
+      regroup false b c d e = refl
 
-  module _ (b : Bounds accounts journal count used today stage) {cells counts returned drawn money paid debt owed : List ℕ} (w : Walked accounts journal count used today stage cells counts returned drawn money paid debt owed used) where
-    rows-stand : rowsStand (accountsOf accounts count) (rowsOf journal used) today stage ≡ true
+  -- where the rows have passed, the accounts decide
+  module _ (b : Bounds accounts journal f) {cells counts sums : List ℕ} (w : Walked accounts journal f cells counts sums (f .used)) where
+    rows-stand : rowsStand (accountsOf accounts (f .count)) (rowsOf journal (f .used)) (f .today) (f .stage) ≡ true
     unfolding rowsStand
-    rows-stand = every-tabulate _ (rowAt journal) used (w .stood)
+    rows-stand = every-tabulate _ (rowAt journal) (f .used) (w .stood)
 
-    passages-differ : passagesDiffer (rowsOf journal used) ≡ true
-    passages-differ = clean-differ journal used (w .grown .clean)
+    passages-differ : passagesDiffer (rowsOf journal (f .used)) ≡ true
+    passages-differ = clean-differ journal (f .used) (w .grown .clean)
 
-    -- too many fees
-    pub fees-unfit : feesAllWithin counts (rowsOf journal used) ≡ false → false ≡ bookStands (accountsOf accounts count) (rowsOf journal used) today stage
+    pub sums-decide : allAgree (f .today) (sumsAt sums) (accountsOf accounts (f .count)) ≡ standing
     unfolding bookStands allOf
-    fees-unfit e =
-        let f : feesFew (rowsOf journal used) ≡ false = sym (fees-counted journal counts used (b .few) (w .fees)) ∙ e in
-        rw (rows-stand, passages-differ, f)
-
-    -- few fees: the accounts decide
-    pub sums-decide : feesAllWithin counts (rowsOf journal used) ≡ true → allAgree today (sumsAt returned drawn money paid debt owed) (accountsOf accounts count) ≡ bookStands (accountsOf accounts count) (rowsOf journal used) today stage
-    unfolding bookStands allOf
-    sums-decide e =
-        let f : feesFew (rowsOf journal used) ≡ true = sym (fees-counted journal counts used (b .few) (w .fees)) ∙ e in
-        all-stand journal used returned drawn money paid debt owed (w .sources) (w .debits) today accounts count (b .fewer) ∙ rw (rows-stand, passages-differ, f, and-true)
+    sums-decide =
+        all-stand journal (f .used) sums (w .tallies) (f .today) accounts (f .count) (b .fewer)
+        ∙ rw (rows-stand, passages-differ, fees-few journal counts (f .used) (b .few) (w .fees), and-true)

@@ -1,8 +1,8 @@
 // The check of a whole book: whether three lent tables of any lengths and contents are sound, in time that grows with the rows and
 // accounts. Uses lists, records, rules, tables and the crates of its clauses.
-use account_sums::SEATS;
+use account_sums::SUMS;
 use sound_fees::COUNTS;
-use sound_fees::fees_all_within;
+use sound_header::frame::Frame;
 use sound_header::header::day_fits;
 use sound_header::header::lengths_fit;
 use sound_header::header::schedule_fits;
@@ -18,70 +18,27 @@ use tables::layout::STAGE_PLACE;
 use tables::layout::USED_PLACE;
 use tables::words::get;
 ghost use mathlib.Core.Path.{_≡_};
-ghost use Prim.Native.Nat.{_*_, _≤_};
-ghost use lib.ListN.{length};
-ghost use Rattle.records.specs.Layout.{rowWidth};
 ghost use Rattle.records.specs.Encoding.{rowsOf, accountsOf};
 ghost use Rattle.rules.specs.Tables.{soundTables};
 ghost use Rattle.sound_header.specs.Clauses.{tablesAt, Bounds};
 ghost use Rattle.soundness.specs.Book.{bookStands};
 
-// The used rows and the accounts, once the lengths and the header are found fit: one pass over the rows, then the counts of fees and the
+// The used rows and the accounts, once the lengths and the header are found fit: one pass over the rows, then the
 // sums of accounts that it leaves.
-fn book_stands(
-    accounts: &[i64],
-    count: usize,
-    journal: &[i64],
-    used: usize,
-    today: u64,
-    stage: u64,
-) -> bool
-    requires { ⌜ Bounds (now accounts) (now journal) count used today stage ⌝ }
-    ensures { λ b. ⌜ b ≡ bookStands (accountsOf (now (accounts .entry)) count) (rowsOf (now (journal .entry)) used) today stage ⌝ }
+fn book_stands(accounts: &[i64], journal: &[i64], f: Frame) -> bool
+    requires { ⌜ Bounds (now accounts) (now journal) f ⌝ }
+    ensures { λ b. ⌜ b ≡ bookStands (accountsOf (now (accounts .entry)) (f .count)) (rowsOf (now (journal .entry)) (f .used)) (f .today) (f .stage) ⌝ }
 {
     let mut cells = [0u16; CELLS];
     let mut counts = [0u16; COUNTS];
-    let mut returned = [0u64; SEATS];
-    let mut drawn = [0u64; SEATS];
-    let mut money = [0u64; SEATS];
-    let mut paid = [0u64; SEATS];
-    let mut debt = [0u64; SEATS];
-    let mut owed = [0u64; SEATS];
-    if !walk(
-        accounts,
-        count,
-        journal,
-        used,
-        today,
-        stage,
-        &mut cells,
-        &mut counts,
-        &mut returned,
-        &mut drawn,
-        &mut money,
-        &mut paid,
-        &mut debt,
-        &mut owed,
-    ) {
+    let mut sums = [0u64; SUMS];
+    if !walk(accounts, journal, f, &mut cells, &mut counts, &mut sums) {
         return false;
     }
-    if !fees_all_within(journal, used, &counts) {
-        return false;
-    }
-    all_agree(
-        accounts,
-        count,
-        today,
-        &returned,
-        &drawn,
-        &money,
-        &paid,
-        &debt,
-        &owed,
-    )
+    all_agree(accounts, f.count, f.today, &sums)
 }
 
-// Whether the tables are sound. It takes 93 KiB of the stack in all: 64 for passage numbers, 16 for fees, 12 for sums.
+// Whether the tables are sound. It takes 92 KiB of the stack: 64 for passage numbers, 16 for fees, 12 for sums.
 pub fn sound(header: &[i64], accounts: &[i64], journal: &[i64]) -> bool
     ensures { λ b. ⌜ b ≡ soundTables (tablesAt (now (header .entry)) (now (accounts .entry)) (now (journal .entry))) ⌝ }
 {
@@ -103,13 +60,11 @@ pub fn sound(header: &[i64], accounts: &[i64], journal: &[i64]) -> bool
     if !later_rows_zero(journal, used as usize, room) {
         return false;
     }
-    let stage = get(header, HEADER_SCHEDULE + STAGE_PLACE);
-    book_stands(
-        accounts,
-        accounts.len() / ACCOUNT_WIDTH,
-        journal,
-        used as usize,
+    let f = Frame {
+        count: accounts.len() / ACCOUNT_WIDTH,
+        used: used as usize,
         today,
-        stage,
-    )
+        stage: get(header, HEADER_SCHEDULE + STAGE_PLACE),
+    };
+    book_stands(accounts, journal, f)
 }

@@ -1,8 +1,9 @@
--- `account_alone` meets its contract: five tests, from the left.
+-- `account_alone` meets its contract: the first test that fails decides.
 use Rattle.sound_accounts.specs.Alone.{accountAlone}
-use Rattle.lists.proofs.TestLaws.{all-left}
-use mathlib.Core.List.{[], _∷_}
-use mathlib.Core.Path.{_∙_}
+use Rattle.lists.specs.Tests.{allOf}
+use borrow.Author.Tests.{not-true, not-false}
+use mathlib.Core.Bool.{and-true, and-false}
+use mathlib.Core.Path.{sym, _∙_}
 use borrow.Author.Needs.{needs}
 use Rattle.sound_accounts.proofs.account_alone.Statement.{statement}
 use Rattle.sound_accounts.proofs.account_alone.Tie as tie
@@ -10,33 +11,66 @@ use Rattle.sound_accounts.proofs.account_alone.Tie as tie
 state-fits-requires : tie.Need-state-fits-requires
 state-fits-requires c κs = search needs
 
+returns : tie.Need-returns
+unfolding accountAlone allOf
+returns c =
+    let e = sym (c .before .state-fits .ensures) ∙ not-true _ (c .if1 .taken) in
+    simp e
+
 unused-zero-requires : tie.Need-unused-zero-requires
 unused-zero-requires c κs = search needs
+
+returns-2 : tie.Need-returns-2
+unfolding accountAlone allOf
+returns-2 c =
+    let e = sym (c .before .unused-zero .ensures) ∙ not-true _ (c .if2 .taken) in
+    simp (e, and-false)
 
 request-fits-requires : tie.Need-request-fits-requires
 request-fits-requires c κs = search needs
 
+returns-3 : tie.Need-returns-3
+unfolding accountAlone allOf
+returns-3 c =
+    let e = sym (c .before .request-fits .ensures) ∙ not-true _ (c .if3 .taken) in
+    simp (e, and-false)
+
 top-up-fits-requires : tie.Need-top-up-fits-requires
 top-up-fits-requires c κs = search needs
+
+returns-4 : tie.Need-returns-4
+unfolding accountAlone allOf
+returns-4 c =
+    let e = sym (c .before .top-up-fits .ensures) ∙ not-true _ (c .if4 .taken) in
+    simp (e, and-false)
 
 decline-fits-requires : tie.Need-decline-fits-requires
 decline-fits-requires c κs = search needs
 
-returns : tie.Need-returns
-unfolding accountAlone
-returns c =
-    let d = c .before in
-    let r = d .before in
-    let u = r .before in
-    all-left (u .before .state-fits .result) (u .unused-zero .result ∷ r .request-fits .result ∷ d .top-up-fits .result ∷ c .decline-fits .result ∷ []) ∙ cc
+returns-5 : tie.Need-returns-5
+unfolding accountAlone allOf
+returns-5 c =
+    let e4 = c .before in
+    let e3 = e4 .before .before in
+    let e2 = e3 .before .before in
+    let e1 = e2 .before .before in
+    let t1 = sym (e1 .before .state-fits .ensures) ∙ not-false _ (e1 .if1 .left) in
+    let t2 = sym (e2 .before .unused-zero .ensures) ∙ not-false _ (e2 .if2 .left) in
+    let t3 = sym (e3 .before .request-fits .ensures) ∙ not-false _ (e3 .if3 .left) in
+    let t4 = sym (e4 .before .top-up-fits .ensures) ∙ not-false _ (e4 .if4 .left) in
+    rw (t1, t2, t3, t4, and-true) (c .decline-fits .ensures)
 
 pub account-alone-spec : {M : Type 1} → statement M
 account-alone-spec =
     tie.close
     (tie.spec
     state-fits-requires
+    returns
     unused-zero-requires
+    returns-2
     request-fits-requires
+    returns-3
     top-up-fits-requires
+    returns-4
     decline-fits-requires
-    returns)
+    returns-5)

@@ -1,75 +1,81 @@
--- `turn` meets its contract: the first test that fails decides, and a row that stands is counted.
-use Rattle.sound_walk.proofs.WalkLaws.{unfit-row, unfit-passage, walks-good, walks-bad, countable}
-use Rattle.sound_header.specs.Clauses.{rowStands}
-use Rattle.records.specs.Encoding.{rowAt, rowsOf, accountsOf}
+-- `turn` meets its contract: a toll and a row of another kind are their turns', and a payment that stands is added.
+use Rattle.sound_walk.proofs.WalkLaws.{walks-bad, row-unfit, row-same, row-addable, row-walks}
+use Rattle.sound_walk.specs.Walks.{Turn}
+use Rattle.sound_passages.proofs.TreeLaws.{grown-skip}
+use Rattle.sound_fees.proofs.FeeLaws.{counted-skip}
+use Rattle.account_sums.proofs.ColumnLaws.{source-added}
+use Rattle.sound_header.specs.Clauses.{standsIn}
 use borrow.Author.Tests.{not-true, not-false}
-use borrow.Author.Count.{below-more}
+use lib.Dec.{eqb}
 use mathlib.Core.Bool.{true}
 use mathlib.Core.Path.{_≡_, sym, _∙_}
 use native.Mathlib.Omega.{arith}
-use Prim.Native.Nat.{ℕ, _+_, _<_}
+use Prim.Native.Nat.{_+_}
 use borrow.Author.Needs.{needs}
 use Rattle.sound_walk.proofs.turn.Statement.{statement}
 use Rattle.sound_walk.proofs.turn.Tie as tie
 
--- the rows up to this one stand
-stood : (e : tie.Else1) → (k : ℕ) → k < e .before .before .args .i + 1 → rowStands (accountsOf (e .before .before .args .accounts .now) (e .before .before .args .count)) (rowsOf (e .before .before .args .journal .now) (e .before .before .args .used)) (e .before .before .args .today) (e .before .before .args .stage) (k + 1) (rowAt (e .before .before .args .journal .now) k) ≡ true
-stood e = below-more _ _ (e .before .before .pre .2 .stood) (sym (e .before .row-stands .ensures) ∙ not-false _ (e .if1 .left))
+here : (p : tie.After-plain-row) → Turn (p .before .args .accounts .now) (p .before .args .journal .now) (p .before .args .f) (p .before .args .i) (p .plain-row .result)
+here p = record { bounds = p .before .pre .0; inside = p .before .pre .1; alike = p .plain-row .ensures }
 
-row-stands-requires : tie.Need-row-stands-requires
-row-stands-requires c κs = search needs
+-- a payment that stands
+stood : (e : tie.Else3) → (let p = e .before .before .before .before .before .before in standsIn (p .before .args .accounts .now) (p .before .args .journal .now) (p .before .args .f) (p .before .args .i + 1) (p .plain-row .result) ≡ true)
+stood e = sym (e .before .payment-stands .ensures _ _) ∙ not-false _ (e .if3 .left)
+
+plain-row-requires : tie.Need-plain-row-requires
+plain-row-requires c κs = search needs
+
+toll-turn-requires : tie.Need-toll-turn-requires
+toll-turn-requires c κs = search needs
 
 returns : tie.Need-returns
-returns c =
-    let s = c .before .before in
-    walks-bad (s .args .accounts .now) (s .args .journal .now) (s .args .count) (s .args .used) (s .args .today) (s .args .stage)
-    (unfit-row (s .args .accounts .now) (s .args .journal .now) (s .args .count) (s .args .used) (s .args .today) (s .args .stage) (s .args .i) (s .pre .1) (c .before .row-stands .result) (c .before .row-stands .ensures) (not-true _ (c .if1 .taken)))
+returns c = c .toll-turn .ensures _ (c .before .before .before .before .before .before .pre .2)
 
-plant-requires : tie.Need-plant-requires
-plant-requires c κs = search needs
+other-turn-requires : tie.Need-other-turn-requires
+other-turn-requires c κs = search needs
 
 returns-2 : tie.Need-returns-2
-returns-2 c =
-    let s = c .before .before .before .before .before in
-    walks-bad (s .args .accounts .now) (s .args .journal .now) (s .args .count) (s .args .used) (s .args .today) (s .args .stage)
-    (unfit-passage (s .args .accounts .now) (s .args .journal .now) (s .args .count) (s .args .used) (s .args .today) (s .args .stage) (c .before .plant .ensures .bad (not-true _ (c .if2 .taken)) (s .args .used) (s .pre .1)))
+returns-2 c = c .other-turn .ensures _ (c .before .before .before .before .before .before .before .before .pre .2)
 
-count-fee-requires : tie.Need-count-fee-requires
-count-fee-requires c κs = search needs
-
-add-row-requires : tie.Need-add-row-requires
-add-row-requires c κs =
-    let l = c .before .before .before .before .before .before .before .before .before .before .before in
-    let s = l .before .before in (
-      countable (s .args .accounts .now) (s .args .journal .now) (s .args .count) (s .args .used) (s .args .today) (s .args .stage) (s .pre .0) (s .args .i + 1) (omega (arith, s .pre .1)) (stood l),
-      s .pre .0 .room,
-      s .pre .2 .sources,
-      s .pre .2 .debits,
-    )
+payment-stands-requires : tie.Need-payment-stands-requires
+payment-stands-requires c κs = search needs
 
 returns-3 : tie.Need-returns-3
 returns-3 c =
-    let f = c .before .before .before .before .before .before .before in
-    let p = f .before .before .before in
-    let l = p .before .before in
-    let s = l .before .before in
-    walks-good (s .args .accounts .now) (s .args .journal .now) (s .args .count) (s .args .used) (s .args .today) (s .args .stage)
-    record {
-      stood = stood l;
-      grown = p .plant .ensures .good (not-false _ (f .before .before .if2 .left));
-      fees = f .count-fee .ensures;
-      sources = c .add-row .ensures .0;
-      debits = c .add-row .ensures .1;
-    }
+    let p = c .before .before .before .before .before .before in
+    let s = p .before in
+    walks-bad (s .args .accounts .now) (s .args .journal .now) (s .args .f) (row-unfit (s .args .accounts .now) (s .args .journal .now) (s .args .f) (s .args .i) (p .plain-row .result) (here p) (sym (c .before .payment-stands .ensures _ _) ∙ not-true _ (c .if3 .taken)))
+
+add-source-requires : tie.Need-add-source-requires
+add-source-requires c κs =
+    let e = c .before .before in
+    let p = e .before .before .before .before .before .before in
+    let s = p .before in
+    row-addable (s .args .accounts .now) (s .args .journal .now) (s .args .f) (s .args .i) (p .plain-row .result) (here p) (stood e) (s .pre .2 .tallies)
+
+returns-4 : tie.Need-returns-4
+returns-4 c =
+    let e = c .before .before .before in
+    let p = e .before .before .before .before .before .before in
+    let s = p .before in
+    let w = s .pre .2 in
+    let k = e .before .before .if2 .left in
+    let same = row-same (s .args .accounts .now) (s .args .journal .now) (s .args .f) (s .args .i) (p .plain-row .result) (here p) (stood e) in
+    let z = rw same at k in
+    let a = row-addable (s .args .accounts .now) (s .args .journal .now) (s .args .f) (s .args .i) (p .plain-row .result) (here p) (stood e) (w .tallies) in
+    let d = source-added (s .args .journal .now) (s .args .f .used) (s .args .sums .now) (s .args .i) (w .tallies) (p .plain-row .result) same a (eqb (p .plain-row .result .mark) 4) (rw k) (rw k) in
+    row-walks (s .args .accounts .now) (s .args .journal .now) (s .args .f) (s .args .i) (p .plain-row .result) (here p) (stood e) w (grown-skip (s .args .journal .now) (s .args .cells .now) (s .args .i) (w .grown) (λ y. omega arith)) (counted-skip (s .args .journal .now) (s .args .counts .now) (s .args .i) (w .fees) (λ y. omega arith)) (rw (c .add-source .ensures) d)
 
 pub turn-spec : {M : Type 1} → statement M
 turn-spec =
     tie.close
     (tie.spec
-    row-stands-requires
+    plain-row-requires
+    toll-turn-requires
     returns
-    plant-requires
+    other-turn-requires
     returns-2
-    count-fee-requires
-    add-row-requires
-    returns-3)
+    payment-stands-requires
+    returns-3
+    add-source-requires
+    returns-4)

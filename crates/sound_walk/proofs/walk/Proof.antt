@@ -10,25 +10,24 @@ use Rattle.sound_walk.proofs.walk.Statement.{statement}
 use Rattle.sound_walk.proofs.walk.Tie as tie
 
 abbrev Inv-loop : tie.InvT-loop
-Inv-loop accounts count journal used today stage cells₀ counts₀ returned₀ drawn₀ money₀ paid₀ debt₀ owed₀ i₀ cells counts returned drawn money paid debt owed i =
-    (i ≤ used) × Walked accounts journal count used today stage cells counts returned drawn money paid debt owed i
+Inv-loop accounts journal f cells₀ counts₀ sums₀ i₀ cells counts sums i = (i ≤ f .used) × Walked accounts journal f cells counts sums i
 
 abbrev μ-loop : tie.MeasureT-loop
-μ-loop accounts count journal used today stage cells₀ counts₀ returned₀ drawn₀ money₀ paid₀ debt₀ owed₀ i₀ cells counts returned drawn money paid debt owed i =
-    used - i
+μ-loop accounts journal f cells₀ counts₀ sums₀ i₀ cells counts sums i = f .used - i
 
 loop-holds : tie.Need-loop-holds Inv-loop μ-loop
 loop-holds c = (omega arith, c .pre .1)
 
 turn-requires : tie.Need-turn-requires Inv-loop μ-loop
 turn-requires c κs =
-    let t = c .before .before .before .before .before .before .before .before in
-    (t .before .before .pre .0, t .loop-test .taken, t .before .loop .inv .1)
+    let t = c .before .before .before in
+    let l = t .before .before in
+    (l .before .pre .0, omega arith, l .loop .inv .1)
 
 returns : tie.Need-returns Inv-loop μ-loop
 returns c =
-    let s = c .before .before .before .before .before .before .before .before .before .before .before .before in
-    walks-bad (s .args .accounts .now) (s .args .journal .now) (s .args .count) (s .args .used) (s .args .today) (s .args .stage) (c .before .turn .ensures .bad (not-true _ (c .if1 .taken)))
+    let s = c .before .before .before .before .before .before .before .before in
+    walks-bad (s .args .accounts .now) (s .args .journal .now) (s .args .f) (c .before .turn .ensures .bad (not-true _ (c .if2 .taken)))
 
 add-i : tie.Need-add-i Inv-loop μ-loop
 add-i c = search needs
@@ -37,13 +36,14 @@ loop-less : tie.Need-loop-less Inv-loop μ-loop
 loop-less c = search needs
 
 loop-again : tie.Need-loop-again Inv-loop μ-loop
-loop-again c = (omega arith, c .before .turn .ensures .good (not-false _ (c .if1 .left)))
+loop-again c = (omega arith, c .before .turn .ensures .good (not-false _ (c .if2 .left)))
 
 returns-2 : tie.Need-returns-2 Inv-loop μ-loop
 returns-2 c =
-    let s = c .before .before in
-    let e : c .before .loop .i ≡ s .args .used = omega arith in
-    walks-good (s .args .accounts .now) (s .args .journal .now) (s .args .count) (s .args .used) (s .args .today) (s .args .stage) (rw e at (c .before .loop .inv .1))
+    let l = c .before .before in
+    let s = l .before in
+    let e : l .loop .i ≡ s .args .f .used = omega arith in
+    walks-good (s .args .accounts .now) (s .args .journal .now) (s .args .f) (rw e at (l .loop .inv .1))
 
 pub walk-spec : {M : Type 1} → statement M
 walk-spec =

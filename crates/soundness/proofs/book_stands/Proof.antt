@@ -1,50 +1,30 @@
 -- `book_stands` meets its contract: the first test that fails decides; the walked rows are those of the definitions.
-use Rattle.soundness.proofs.SoundParts.{walked-none, unfit-stands, fees-unfit, sums-decide}
+use Rattle.soundness.proofs.SoundParts.{walked-none, unfit-stands, sums-decide}
 use borrow.Author.Tests.{not-true, not-false}
-use mathlib.Core.Path.{sym, _∙_}
+use mathlib.Core.Path.{_∙_}
 use borrow.Author.Needs.{needs}
 use Rattle.soundness.proofs.book_stands.Statement.{statement}
 use Rattle.soundness.proofs.book_stands.Tie as tie
 
 walk-requires : tie.Need-walk-requires
 walk-requires c κs =
-    let s = c .before .before .before .before .before .before .before .before in
-    (s .pre, walked-none (s .args .accounts .now) (s .args .journal .now) (s .args .count) (s .args .used) (s .args .today) (s .args .stage))
+    let s = c .before .before .before in
+    (s .pre, walked-none (s .args .accounts .now) (s .args .journal .now) (s .args .f))
 
 returns : tie.Need-returns
 returns c =
-    let s = c .before .before .before .before .before .before .before .before .before .before in
-    unfit-stands (s .args .accounts .now) (s .args .journal .now) (s .args .count) (s .args .used) (s .args .today) (s .args .stage) (c .before .walk .ensures .bad (not-true _ (c .if1 .taken)))
-
-fees-all-within-requires : tie.Need-fees-all-within-requires
-fees-all-within-requires c κs = search needs
-
-returns-2 : tie.Need-returns-2
-returns-2 c =
-    let l = c .before .before .before in
-    let w = l .before in
-    let s = w .before .before .before .before .before .before .before .before .before in
-    fees-unfit (s .args .accounts .now) (s .args .journal .now) (s .args .count) (s .args .used) (s .args .today) (s .args .stage) (s .pre) (w .walk .ensures .good (not-false _ (l .if1 .left))) (sym (c .before .fees-all-within .ensures) ∙ not-true _ (c .if2 .taken))
+    let s = c .before .before .before .before .before in
+    unfit-stands (s .args .accounts .now) (s .args .journal .now) (s .args .f) (c .before .walk .ensures .bad (not-true _ (c .if1 .taken)))
 
 all-agree-requires : tie.Need-all-agree-requires
 all-agree-requires c κs = search needs
 
-returns-3 : tie.Need-returns-3
-returns-3 c =
-    let m = c .before .before .before .before .before .before .before in
-    let l = m .before .before .before in
+returns-2 : tie.Need-returns-2
+returns-2 c =
+    let l = c .before .before in
     let w = l .before in
-    let s = w .before .before .before .before .before .before .before .before .before in
-    c .all-agree .ensures
-    ∙ sums-decide (s .args .accounts .now) (s .args .journal .now) (s .args .count) (s .args .used) (s .args .today) (s .args .stage) (s .pre) (w .walk .ensures .good (not-false _ (l .if1 .left))) (sym (m .before .fees-all-within .ensures) ∙ not-false _ (m .if2 .left))
+    let s = w .before .before .before .before in
+    c .all-agree .ensures ∙ sums-decide (s .args .accounts .now) (s .args .journal .now) (s .args .f) (s .pre) (w .walk .ensures .good (not-false _ (l .if1 .left)))
 
 pub book-stands-spec : {M : Type 1} → statement M
-book-stands-spec =
-    tie.close
-    (tie.spec
-    walk-requires
-    returns
-    fees-all-within-requires
-    returns-2
-    all-agree-requires
-    returns-3)
+book-stands-spec = tie.close (tie.spec walk-requires returns all-agree-requires returns-2)

@@ -13,61 +13,29 @@ use Rattle.sound_sums.proofs.accounts.all_agree.Statement.{statement}
 use Rattle.sound_sums.proofs.accounts.all_agree.Tie as tie
 
 abbrev Inv-loop : tie.InvT-loop
-Inv-loop accounts count today returned drawn money paid debt owed i₀ i = (i ≤ count) × ((k : ℕ) → k < i → accountStands today (sumsAt returned drawn money paid debt owed (k + 1)) (accountAt accounts k) ≡ true)
+Inv-loop accounts count today sums i₀ i = (i ≤ count) × ((k : ℕ) → k < i → accountStands today (sumsAt sums (k + 1)) (accountAt accounts k) ≡ true)
 
 abbrev μ-loop : tie.MeasureT-loop
-μ-loop accounts count today returned drawn money paid debt owed i₀ i = count - i
+μ-loop accounts count today sums i₀ i = count - i
 
 loop-holds : tie.Need-loop-holds Inv-loop μ-loop
 loop-holds c = (omega arith, λ k h. absurd (omega arith))
 
-add-n : tie.Need-add-n Inv-loop μ-loop
-add-n c = search needs
+add-sums-of : tie.Need-add-sums-of Inv-loop μ-loop
+add-sums-of c = search needs
 
-mul-t14 : tie.Need-mul-t14 Inv-loop μ-loop
-mul-t14 c = search needs
-
-element-copy-out-t17 : tie.Need-element-copy-out-t17 Inv-loop μ-loop
-element-copy-out-t17 c = search needs
-
-mul-t18 : tie.Need-mul-t18 Inv-loop μ-loop
-mul-t18 c = search needs
-
-element-copy-out-t21 : tie.Need-element-copy-out-t21 Inv-loop μ-loop
-element-copy-out-t21 c = search needs
-
-mul-t22 : tie.Need-mul-t22 Inv-loop μ-loop
-mul-t22 c = search needs
-
-element-copy-out-t25 : tie.Need-element-copy-out-t25 Inv-loop μ-loop
-element-copy-out-t25 c = search needs
-
-mul-t26 : tie.Need-mul-t26 Inv-loop μ-loop
-mul-t26 c = search needs
-
-element-copy-out-t29 : tie.Need-element-copy-out-t29 Inv-loop μ-loop
-element-copy-out-t29 c = search needs
-
-mul-t30 : tie.Need-mul-t30 Inv-loop μ-loop
-mul-t30 c = search needs
-
-element-copy-out-t33 : tie.Need-element-copy-out-t33 Inv-loop μ-loop
-element-copy-out-t33 c = search needs
-
-mul-t34 : tie.Need-mul-t34 Inv-loop μ-loop
-mul-t34 c = search needs
-
-element-copy-out-t37 : tie.Need-element-copy-out-t37 Inv-loop μ-loop
-element-copy-out-t37 c = search needs
+sums-of-requires : tie.Need-sums-of-requires Inv-loop μ-loop
+sums-of-requires c κs = search needs
 
 account-stands-requires : tie.Need-account-stands-requires Inv-loop μ-loop
 account-stands-requires c κs = search needs
 
 returns : tie.Need-returns Inv-loop μ-loop
-unfolding allAgree sumsAt
+unfolding allAgree
 returns c =
     let n = c .before in
-    sym (every-fails _ (accountAt _) _ _ (c .before .before .before .before .before .before .before .before .loop-test .taken) (sym (n .account-stands .ensures) ∙ not-true _ (c .if1 .taken)))
+    let m = n .before in
+    sym (every-fails _ (accountAt _) _ _ (m .before .loop-test .taken) (rw (← m .sums-of .ensures) (sym (n .account-stands .ensures) ∙ not-true _ (c .if1 .taken))))
 
 add-i : tie.Need-add-i Inv-loop μ-loop
 add-i c = search needs
@@ -76,10 +44,10 @@ loop-less : tie.Need-loop-less Inv-loop μ-loop
 loop-less c = search needs
 
 loop-again : tie.Need-loop-again Inv-loop μ-loop
-unfolding sumsAt
 loop-again c =
     let n = c .before in
-    (omega arith, below-more _ _ (c .before .before .before .before .before .before .before .before .before .loop .inv .1) (sym (n .account-stands .ensures) ∙ not-false _ (c .if1 .left)))
+    let m = n .before in
+    (omega arith, below-more _ _ (m .before .before .loop .inv .1) (rw (← m .sums-of .ensures) (sym (n .account-stands .ensures) ∙ not-false _ (c .if1 .left))))
 
 returns-2 : tie.Need-returns-2 Inv-loop μ-loop
 unfolding allAgree
@@ -94,19 +62,8 @@ all-agree-spec =
     Inv-loop
     μ-loop
     loop-holds
-    add-n
-    mul-t14
-    element-copy-out-t17
-    mul-t18
-    element-copy-out-t21
-    mul-t22
-    element-copy-out-t25
-    mul-t26
-    element-copy-out-t29
-    mul-t30
-    element-copy-out-t33
-    mul-t34
-    element-copy-out-t37
+    add-sums-of
+    sums-of-requires
     account-stands-requires
     returns
     add-i

@@ -1,12 +1,12 @@
--- `row_alone` meets its contract: the first test that fails decides.
+-- `other_alone` meets its contract: the first test that fails decides.
 use Rattle.sound_header.specs.Clauses.{rowAlone}
 use Rattle.lists.specs.Tests.{allOf}
 use borrow.Author.Tests.{not-true, not-false}
 use mathlib.Core.Bool.{true, false, and-true, and-false}
 use mathlib.Core.Path.{_≡_, sym, _∙_}
 use borrow.Author.Needs.{needs}
-use Rattle.sound_rows.proofs.row.row_alone.Statement.{statement}
-use Rattle.sound_rows.proofs.row.row_alone.Tie as tie
+use Rattle.sound_rows.proofs.row.other_alone.Statement.{statement}
+use Rattle.sound_rows.proofs.row.other_alone.Tie as tie
 
 kind-fits-requires : tie.Need-kind-fits-requires
 kind-fits-requires c κs = search needs
@@ -15,7 +15,7 @@ returns : tie.Need-returns
 unfolding rowAlone allOf
 returns c =
     let e = sym (c .before .kind-fits .ensures) ∙ not-true _ (c .if1 .taken) in
-    simp (e, and-false)
+    λ L. simp e
 
 amount-fits-requires : tie.Need-amount-fits-requires
 amount-fits-requires c κs = search needs
@@ -24,7 +24,7 @@ returns-2 : tie.Need-returns-2
 unfolding rowAlone allOf
 returns-2 c =
     let e = sym (c .before .amount-fits .ensures) ∙ not-true _ (c .if2 .taken) in
-    simp (e, and-false)
+    λ L. simp (e, and-false)
 
 settled-fits-requires : tie.Need-settled-fits-requires
 settled-fits-requires c κs = search needs
@@ -33,10 +33,10 @@ returns-3 : tie.Need-returns-3
 unfolding rowAlone allOf
 returns-3 c =
     let e = sym (c .before .settled-fits .ensures) ∙ not-true _ (c .if3 .taken) in
-    simp (e, and-false)
+    λ L. simp (e, and-false)
 
-own-words-requires : tie.Need-own-words-requires
-own-words-requires c κs = search needs
+other-fits-requires : tie.Need-other-fits-requires
+other-fits-requires c κs = search needs
 
 returns-4 : tie.Need-returns-4
 unfolding rowAlone allOf
@@ -47,10 +47,10 @@ returns-4 c =
     let t1 = sym (e1 .before .kind-fits .ensures) ∙ not-false _ (e1 .if1 .left) in
     let t2 = sym (e2 .before .amount-fits .ensures) ∙ not-false _ (e2 .if2 .left) in
     let t3 = sym (e3 .before .settled-fits .ensures) ∙ not-false _ (e3 .if3 .left) in
-    rw (t1, t2, t3, and-true) (c .own-words .ensures)
+    λ L. rw (t1, t2, t3, and-true) (c .other-fits .ensures L)
 
-pub row-alone-spec : {M : Type 1} → statement M
-row-alone-spec =
+pub other-alone-spec : {M : Type 1} → statement M
+other-alone-spec =
     tie.close
     (tie.spec
     kind-fits-requires
@@ -59,5 +59,5 @@ row-alone-spec =
     returns-2
     settled-fits-requires
     returns-3
-    own-words-requires
+    other-fits-requires
     returns-4)

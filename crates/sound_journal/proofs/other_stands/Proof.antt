@@ -1,20 +1,20 @@
--- `stands` meets its contract: the first test that fails decides.
+-- `other_stands` meets its contract: the first test that fails decides.
 use Rattle.sound_header.specs.Clauses.{rowStands}
 use Rattle.lists.specs.Tests.{allOf}
 use borrow.Author.Tests.{not-true, not-false}
 use mathlib.Core.Bool.{and-true, and-false}
 use mathlib.Core.Path.{_≡_, sym, _∙_}
 use borrow.Author.Needs.{needs}
-use Rattle.sound_journal.proofs.stands.Statement.{statement}
-use Rattle.sound_journal.proofs.stands.Tie as tie
+use Rattle.sound_journal.proofs.other_stands.Statement.{statement}
+use Rattle.sound_journal.proofs.other_stands.Tie as tie
 
-row-alone-requires : tie.Need-row-alone-requires
-row-alone-requires c κs = search needs
+other-alone-requires : tie.Need-other-alone-requires
+other-alone-requires c κs = search needs
 
 returns : tie.Need-returns
 unfolding rowStands allOf
 returns c =
-    let e = sym (c .before .row-alone .ensures) ∙ not-true _ (c .if1 .taken) in
+    let e = sym (c .before .other-alone .ensures (c .before .before .args .f .stage)) ∙ not-true _ (c .if1 .taken) in
     rw e
 
 account-used-requires : tie.Need-account-used-requires
@@ -34,15 +34,15 @@ unfolding rowStands allOf
 returns-3 c =
     let u = c .before in
     let a = u .before .before in
-    let t1 = sym (a .before .row-alone .ensures) ∙ not-false _ (a .if1 .left) in
+    let t1 = sym (a .before .other-alone .ensures (a .before .before .args .f .stage)) ∙ not-false _ (a .if1 .left) in
     let t2 = sym (u .before .account-used .ensures) ∙ not-false _ (u .if2 .left) in
     rw (t1, t2, and-true) (c .reference-fits .ensures)
 
-pub stands-spec : {M : Type 1} → statement M
-stands-spec =
+pub other-stands-spec : {M : Type 1} → statement M
+other-stands-spec =
     tie.close
     (tie.spec
-    row-alone-requires
+    other-alone-requires
     returns
     account-used-requires
     returns-2
