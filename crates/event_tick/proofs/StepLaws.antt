@@ -34,8 +34,8 @@ use Rattle.posting_laws.proofs.HeaderLaws.{schedule-same, word-put, word-others
 use Rattle.posting_laws.proofs.WrittenLaws.{Written}
 use Rattle.tick_base.specs.Midway.{Midway}
 use Rattle.tick_base.proofs.MidwayLaws.{written-written, sound-midway}
-use Rattle.tick_count.specs.declared.Plan.{Plan}
-use Rattle.tick_count.specs.Counts.{Planned}
+use Rattle.tick_plan.specs.declared.Plan.{Plan}
+use Rattle.tick_plan.specs.Plans.{Planned}
 use Rattle.tick_holds.specs.Holds.{DuskRows}
 use Rattle.tick_close.specs.Closing.{Closing}
 use Rattle.event_tick.proofs.TickLaws.{written-book, written-midway}

@@ -11,8 +11,8 @@ use Rattle.rules.specs.Book.{Instruction, Book}
 use Rattle.rules.specs.Refusals.{tickForm, answerNumber}
 use Rattle.rules.specs.Tables.{Tables, bookOf, soundTables}
 use Rattle.tick_rules.specs.Ticks.{feesAdded, refundsAdded}
-use Rattle.tick_count.specs.declared.Plan.{Plan}
-use Rattle.tick_count.specs.Counts.{Planned}
+use Rattle.tick_plan.specs.declared.Plan.{Plan}
+use Rattle.tick_plan.specs.Plans.{Planned}
 use Rattle.event_tick.specs.declared.Judged.{Judged}
 
 -- the refusals that concern event 9, out of the table of all, in checking order; 14 never applies

@@ -1,5 +1,5 @@
 // Event 9, the day tick: it refuses before it writes anything. Uses lists, records, rules, preservation, tick_rules, tables, account_sums,
-// settlement, posting, tick_base, tick_count, tick_holds, tick_raise and tick_close.
+// settlement, posting, tick_base, tick_plan, tick_holds, tick_raise and tick_close.
 use forms::tick_form;
 use posting::answers::posted;
 use posting::answers::refused;
@@ -12,9 +12,9 @@ use tables::limits::FINAL_DAY;
 use tables::words::get;
 use tables::words::put;
 use tick_close::close_accounts;
-use tick_count::Plan;
-use tick_count::plan_tick;
 use tick_holds::free_and_settle;
+use tick_plan::Plan;
+use tick_plan::plan_tick;
 use tick_raise::raise_tolls;
 ghost use mathlib.Core.Path.{_≡_};
 ghost use mathlib.Core.Bool.{true};
