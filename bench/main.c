@@ -23,6 +23,9 @@ static const struct mix filling = {.payments = 300, .returns = 15, .disputes = 6
                                    .topups = 30, .closes = 4};
 static const struct mix batched = {.payments = 330, .returns = 10, .disputes = 20, .decisions = 10,
                                    .topups = 15, .closes = 5, .ticks = 10};
+/* The same but for the events that read the journal by their rule: a tick, and a decision that upholds. */
+static const struct mix searching = {.payments = 330, .returns = 10, .disputes = 20, .topups = 15,
+                                     .closes = 5};
 
 static struct tables books[SIZES], lent;
 static struct tables *book = books; /* the one in hand */
@@ -281,20 +284,34 @@ static void measure_empty(void)
     print_pair("4,096 events, no row used before", TOLL_LEDGER_MOST_ROWS, p);
 }
 
-/* A part of a batch onto so many rows, by event. */
-static void measure_onto(size_t used)
+/* A part of a batch, of these events, onto so many rows. */
+static struct pair time_onto(size_t used, struct mix mix)
 {
     struct host host = {.state = 12 + used, .mix = filling};
     struct pair p;
-    char name[64];
     fill_book(&host, TOLL_LEDGER_MOST_ROWS, used);
-    host.mix = batched;
+    host.mix = mix;
     draw_batch(&host, 0, PART);
     measure(post_batch, 1, BATCH_RUNS, &p);
-    p.ours /= PART;
-    p.plain /= PART;
-    snprintf(name, sizeof name, "an event of %d onto %zu used", PART, used);
-    print_pair(name, TOLL_LEDGER_MOST_ROWS, p);
+    return p;
+}
+
+static void print_onto(const char *what, size_t used, struct pair p)
+{
+    char name[64];
+    snprintf(name, sizeof name, "%s of %d onto %zu", what, PART, used);
+    print_pair(name, TOLL_LEDGER_MOST_ROWS, (struct pair){.ours = p.ours / PART, .plain = p.plain / PART});
+}
+
+/* By event; and what an event without a pass by its rule adds to a batch of none. */
+static void measure_onto(size_t used)
+{
+    print_onto("an event", used, time_onto(used, batched));
+    const struct pair all = time_onto(used, searching);
+    struct pair none;
+    batch_events = 0;
+    measure(post_batch, 1, BATCH_RUNS, &none);
+    print_onto("added by one", used, (struct pair){.ours = all.ours - none.ours, .plain = all.plain - none.plain});
 }
 
 int main(void)
