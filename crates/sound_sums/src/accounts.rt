@@ -1,16 +1,18 @@
 // The accounts: each by itself, and against the sums of its rows.
 use account_sums::SUMS;
+use plain_rows::accounts::plain_account;
 use records::Account;
 use sound_accounts::account_alone;
 use sound_header::tests::implies;
-use table_accounts::read_account;
 use tables::codes::CLOSED;
 ghost use mathlib.Core.Path.{_≡_};
-ghost use Prim.Native.Nat.{_+_, _*_, _≤_, _<_};
+ghost use Prim.Native.Nat.{_*_, _^_, _≤_, _<_};
 ghost use lib.ListN.{length};
 ghost use Rattle.records.specs.Layout.{accountWidth};
 ghost use Rattle.records.specs.Encoding.{accountAt, accountsOf};
-ghost use Rattle.rules.specs.Limits.{mostAccounts};
+ghost use Rattle.rules.specs.Limits.{finalDay, mostAccounts, mostRows};
+ghost use Rattle.tables.specs.Changes.{AccountIn};
+ghost use Rattle.account_sums.specs.Columns.{Low};
 ghost use Rattle.sound_sums.specs.Accounts.{sumsAgree, sumsAt, accountStands, allAgree};
 
 // What an account's rows come to.
@@ -32,11 +34,12 @@ fn sums_agree(x: Account, s: Sums) -> bool
     (x.returned == s.returned) & (s.drawn == s.paid) & spent & clear
 }
 
+// Its words are compared with small numbers alone, so that they may be read as they are.
 fn account_stands(accounts: &[i64], i: usize, today: u64, s: Sums) -> bool
-    requires { ⌜ i * accountWidth + accountWidth ≤ length (now accounts) ⌝ }
+    requires { ⌜ AccountIn (now accounts) i × (today ≤ finalDay) × (s .returned < 2 ^ 63) ⌝ }
     ensures { λ b. ⌜ b ≡ accountStands today s (accountAt (now (accounts .entry)) i) ⌝ }
 {
-    let x = read_account(accounts, i);
+    let x = plain_account(accounts, i);
     if !account_alone(today, x) {
         return false;
     }
@@ -60,7 +63,7 @@ fn sums_of(sums: &[u64; SUMS], n: usize) -> Sums
 }
 
 pub fn all_agree(accounts: &[i64], count: usize, today: u64, sums: &[u64; SUMS]) -> bool
-    requires { ⌜ (count * accountWidth ≤ length (now accounts)) × (count ≤ mostAccounts) ⌝ }
+    requires { ⌜ (count * accountWidth ≤ length (now accounts)) × (count ≤ mostAccounts) × (today ≤ finalDay) × Low (now sums) mostRows ⌝ }
     ensures { λ b. ⌜ b ≡ allAgree today (sumsAt (now (sums .entry))) (accountsOf (now (accounts .entry)) count) ⌝ }
 {
     let mut i = 0;

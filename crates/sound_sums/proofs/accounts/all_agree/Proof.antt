@@ -8,7 +8,7 @@ use borrow.Author.Count.{below-more}
 use mathlib.Core.Bool.{true}
 use mathlib.Core.Path.{_≡_, sym, _∙_}
 use native.Mathlib.Omega.{arith}
-use Prim.Native.Nat.{ℕ, _+_, _-_, _≤_, _<_}
+use Prim.Native.Nat.{ℕ, _+_, _*_, _-_, _≤_, _<_}
 use Rattle.sound_sums.proofs.accounts.all_agree.Statement.{statement}
 use Rattle.sound_sums.proofs.accounts.all_agree.Tie as tie
 
@@ -28,7 +28,11 @@ sums-of-requires : tie.Need-sums-of-requires Inv-loop μ-loop
 sums-of-requires c κs = search needs
 
 account-stands-requires : tie.Need-account-stands-requires Inv-loop μ-loop
-account-stands-requires c κs = search needs
+unfolding sumsAt
+account-stands-requires c κs =
+    let l = c .before .before in
+    let s = l .before in
+    (omega arith, s .pre .2, rw (c .sums-of .ensures) (omega (arith, s .pre .3 ((l .loop .i + 1) * 6))))
 
 returns : tie.Need-returns Inv-loop μ-loop
 unfolding allAgree
