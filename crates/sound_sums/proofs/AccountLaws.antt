@@ -8,14 +8,14 @@ use lib.ListN.{getD}
 use Rattle.lists.specs.Lists.{count}
 use Rattle.lists.proofs.ListLaws.{every-ext-tabulate}
 use Rattle.records.specs.Encoding.{rowsOf, accountAt, accountsOf}
-use Rattle.rules.specs.Limits.{finalDay, highestTopUp, mostDeclines}
+use Rattle.rules.specs.Limits.{finalDay, mostRows, highestTopUp, mostDeclines}
 use Rattle.rules.specs.Settlement
 use Rattle.rules.specs.Book.{Account}
 use Rattle.rules.specs.Soundness.{stateFits, unusedZero, requestFits, topUpFits, declineFits}
 use Rattle.plain_rows.specs.Alike.{AlikeAccount}
 use Rattle.plain_rows.proofs.AlikeLaws.{alike-is, alike-most, alike-least}
 use Rattle.account_sums.specs.Tallies.{returnOf}
-use Rattle.account_sums.specs.Columns.{Tallies}
+use Rattle.account_sums.specs.Columns.{Low, Tallies}
 use Rattle.sound_accounts.specs.Alone.{accountAlone}
 use Rattle.sound_sums.specs.declared.accounts.Sums.{Sums}
 use Rattle.sound_sums.specs.Accounts.{sumsAgree, accountStands, sumsAt, sumsOf, allAgree, accountsStand}
@@ -45,6 +45,11 @@ stands-alike today s x y d r w =
       alike-is _ _ (w .declined) 0 (omega arith),
       alike-most _ _ (w .declined) today t,
     )
+
+-- a count of returned checks is small
+pub returned-small : (sums : List ℕ) (n : ℕ) → Low sums mostRows → sumsAt sums n .returned < 2 ^ 63
+unfolding sumsAt
+returned-small sums n low = omega (arith, low (n * 6))
 
 module _ (t : List ℤ) (n : ℕ) (sums : List ℕ) (w : Tallies t n sums n) where
   sums-are : (k : ℕ) → k < 257 → sumsAt sums k ≡ sumsOf (rowsOf t n) k
