@@ -1,4 +1,4 @@
--- Words read as they are, and rows of which each word is small.
+-- Words read as they are, what tests tell of them, and rows of which each word is small.
 use Prim.Native.Nat.{ℕ, suc, _-_, _^_, _<_}
 use native.Mathlib.Omega.{arith}
 use mathlib.Core.Path.{_≡_, refl, sym, ap, _∙_}
@@ -7,7 +7,8 @@ use lib.IntN.{ℤ, pos, negsuc, _-ℤ_}
 use lib.Signed.{ltZ}
 use mir.Syntax.{w64}
 use mir.Val.{SFits}
-use borrow.Author.Tests.{ltb-true, le-ltb}
+use lib.Dec.{eqb, leb}
+use borrow.Author.Tests.{ltb-true, le-ltb, eqb-true, leb-true, leb-false}
 use Rattle.records.specs.Encoding.{natOf, StorableRow}
 use Rattle.rules.specs.Rows.{Row}
 use Rattle.plain_rows.specs.Alike.{Alike, AlikeRow}
@@ -48,6 +49,31 @@ unfolding natOf
 not-below (pos n) h = le-ltb n 0 (omega arith)
 not-below (negsuc n) h = absurd (omega arith)
 
+-- a test that two pass only where they are one does not tell them apart
+same-test : {A : Type 0} (t : A → Bool) (a b : A) → (t a ≡ true → a ≡ b) → (t b ≡ true → a ≡ b) → t a ≡ t b
+same-test t a b f g = go (t a) (t b) refl refl
+  where
+    go : (x y : Bool) → t a ≡ x → t b ≡ y → x ≡ y
+    go true y p q = sym p ∙ ap t (f p) ∙ q
+    go false true p q = sym p ∙ ap t (g q) ∙ q
+    go false false p q = refl
+
+-- nor does a comparison of alike words with a small number
+module _ (a b : ℕ) (w : Alike a b) (n : ℕ) (h : n < 2 ^ 63) where
+  pub alike-is : eqb a n ≡ eqb b n
+  alike-is = same-test (λ m. eqb m n) a b (λ e. w .first (omega (arith, eqb-true a n e))) (λ e. w .second (omega (arith, eqb-true b n e)))
+
+  pub alike-most : leb a n ≡ leb b n
+  alike-most = same-test (λ m. leb m n) a b (λ e. w .first (omega (arith, leb-true a n e))) (λ e. w .second (omega (arith, leb-true b n e)))
+
+  pub alike-least : leb n a ≡ leb n b
+  alike-least = go (leb n a) (leb n b) refl refl
+    where
+      go : (x y : Bool) → leb n a ≡ x → leb n b ≡ y → x ≡ y
+      go true true p q = refl
+      go true false p q = sym p ∙ ap (leb n) (w .second (omega (arith, leb-false n b q))) ∙ q
+      go false y p q = sym p ∙ ap (leb n) (w .first (omega (arith, leb-false n a p))) ∙ q
+
 -- ---- rows
 
 module _ (a b : Row) (w : AlikeRow a b) where
@@ -61,9 +87,4 @@ module _ (a b : Row) (w : AlikeRow a b) where
 
 -- a test that only rows of small words pass does not tell alike rows apart
 pub alike-test : (t : Row → Bool) → ((r : Row) → t r ≡ true → StorableRow r) → (a b : Row) → AlikeRow a b → t a ≡ t b
-alike-test t small a b w = go (t a) (t b) refl refl
-  where
-    go : (x y : Bool) → t a ≡ x → t b ≡ y → x ≡ y
-    go true y p q = sym p ∙ ap t (alike-first a b w (small a p)) ∙ q
-    go false true p q = sym p ∙ ap t (alike-second a b w (small b q)) ∙ q
-    go false false p q = refl
+alike-test t small a b w = same-test t a b (λ p. alike-first a b w (small a p)) (λ q. alike-second a b w (small b q))

@@ -2,6 +2,7 @@
 use Prim.Native.Nat.{ℕ, _^_, _<_}
 use mathlib.Core.Path.{_≡_}
 use Rattle.rules.specs.Rows.{Row}
+use Rattle.rules.specs.Book.{Account}
 
 -- the same number, or both past every limit
 pub record Alike (a b : ℕ) : Type 0 where
@@ -20,3 +21,12 @@ pub record AlikeRow (a b : Row) : Type 0 where
   pub dispute : Alike (a .dispute) (b .dispute)
   pub hold : Alike (a .hold) (b .hold)
   pub reference : Alike (a .reference) (b .reference)
+
+pub record AlikeAccount (a b : Account) : Type 0 where
+  pub state : Alike (a .state) (b .state)
+  pub request : Alike (a .request) (b .request)
+  pub returned : Alike (a .returned) (b .returned)
+  pub threshold : Alike (a .threshold) (b .threshold)
+  pub topup : Alike (a .topup) (b .topup)
+  pub declines : Alike (a .declines) (b .declines)
+  pub declined : Alike (a .declined) (b .declined)

@@ -1,5 +1,5 @@
--- The arrays of sums are the sums of the definitions.
-use Prim.Native.Nat.{ℕ, _+_, _*_, _≤_, _<_}
+-- An account stands as it is read, and the arrays of sums are the sums of the definitions.
+use Prim.Native.Nat.{ℕ, _+_, _*_, _^_, _≤_, _<_}
 use native.Mathlib.Omega.{arith}
 use mathlib.Core.Path.{_≡_, ap, _∙_}
 use mathlib.Core.List.{List}
@@ -8,10 +8,48 @@ use lib.ListN.{getD}
 use Rattle.lists.specs.Lists.{count}
 use Rattle.lists.proofs.ListLaws.{every-ext-tabulate}
 use Rattle.records.specs.Encoding.{rowsOf, accountAt, accountsOf}
+use Rattle.rules.specs.Limits.{finalDay, mostRows, highestTopUp, mostDeclines}
 use Rattle.rules.specs.Settlement
+use Rattle.rules.specs.Book.{Account}
+use Rattle.rules.specs.Soundness.{stateFits, unusedZero, requestFits, topUpFits, declineFits}
+use Rattle.plain_rows.specs.Alike.{AlikeAccount}
+use Rattle.plain_rows.proofs.AlikeLaws.{alike-is, alike-most, alike-least}
 use Rattle.account_sums.specs.Tallies.{returnOf}
-use Rattle.account_sums.specs.Columns.{Tallies}
-use Rattle.sound_sums.specs.Accounts.{sumsAt, sumsOf, allAgree, accountsStand}
+use Rattle.account_sums.specs.Columns.{Low, Tallies}
+use Rattle.sound_accounts.specs.Alone.{accountAlone}
+use Rattle.sound_sums.specs.declared.accounts.Sums.{Sums}
+use Rattle.sound_sums.specs.Accounts.{sumsAgree, accountStands, sumsAt, sumsOf, allAgree, accountsStand}
+
+-- each clause compares a word with a small number, which does not tell alike words apart
+pub stands-alike : (today : ℕ) (s : Sums) (x y : Account) → today ≤ finalDay → s .returned < 2 ^ 63 → AlikeAccount x y → accountStands today s x ≡ accountStands today s y
+unfolding accountStands accountAlone sumsAgree stateFits unusedZero requestFits topUpFits declineFits
+stands-alike today s x y d r w =
+    let t : today < 2 ^ 63 = omega arith in
+    rw (
+      alike-is _ _ (w .state) 0 (omega arith),
+      alike-is _ _ (w .state) 1 (omega arith),
+      alike-is _ _ (w .state) 3 (omega arith),
+      alike-most _ _ (w .state) 3 (omega arith),
+      alike-least _ _ (w .state) 2 (omega arith),
+      alike-is _ _ (w .request) 0 (omega arith),
+      alike-least _ _ (w .request) 1 (omega arith),
+      alike-most _ _ (w .request) today t,
+      alike-is _ _ (w .returned) 0 (omega arith),
+      alike-is _ _ (w .returned) (s .returned) r,
+      alike-is _ _ (w .threshold) 0 (omega arith),
+      alike-most _ _ (w .threshold) highestTopUp (omega arith),
+      alike-is _ _ (w .topup) 0 (omega arith),
+      alike-most _ _ (w .topup) highestTopUp (omega arith),
+      alike-is _ _ (w .declines) 0 (omega arith),
+      alike-most _ _ (w .declines) mostDeclines (omega arith),
+      alike-is _ _ (w .declined) 0 (omega arith),
+      alike-most _ _ (w .declined) today t,
+    )
+
+-- a count of returned checks is small
+pub returned-small : (sums : List ℕ) (n : ℕ) → Low sums mostRows → sumsAt sums n .returned < 2 ^ 63
+unfolding sumsAt
+returned-small sums n low = omega (arith, low (n * 6))
 
 module _ (t : List ℤ) (n : ℕ) (sums : List ℕ) (w : Tallies t n sums n) where
   sums-are : (k : ℕ) → k < 257 → sumsAt sums k ≡ sumsOf (rowsOf t n) k

@@ -1,16 +1,18 @@
 // The accounts: each by itself, and against the sums of its rows.
 use account_sums::SUMS;
+use plain_rows::accounts::plain_account;
 use records::Account;
 use sound_accounts::account_alone;
 use sound_header::tests::implies;
-use table_accounts::read_account;
 use tables::codes::CLOSED;
 ghost use mathlib.Core.Path.{_≡_};
 ghost use Prim.Native.Nat.{_+_, _*_, _≤_, _<_};
 ghost use lib.ListN.{length};
 ghost use Rattle.records.specs.Layout.{accountWidth};
 ghost use Rattle.records.specs.Encoding.{accountAt, accountsOf};
-ghost use Rattle.rules.specs.Limits.{mostAccounts};
+ghost use Rattle.rules.specs.Limits.{finalDay, mostAccounts, mostRows};
+ghost use Rattle.tables.specs.Changes.{AccountIn};
+ghost use Rattle.account_sums.specs.Columns.{Low};
 ghost use Rattle.sound_sums.specs.Accounts.{sumsAgree, sumsAt, accountStands, allAgree};
 
 // What an account's rows come to.
@@ -32,17 +34,6 @@ fn sums_agree(x: Account, s: Sums) -> bool
     (x.returned == s.returned) & (s.drawn == s.paid) & spent & clear
 }
 
-fn account_stands(accounts: &[i64], i: usize, today: u64, s: Sums) -> bool
-    requires { ⌜ i * accountWidth + accountWidth ≤ length (now accounts) ⌝ }
-    ensures { λ b. ⌜ b ≡ accountStands today s (accountAt (now (accounts .entry)) i) ⌝ }
-{
-    let x = read_account(accounts, i);
-    if !account_alone(today, x) {
-        return false;
-    }
-    sums_agree(x, s)
-}
-
 // The sums of account number n.
 fn sums_of(sums: &[u64; SUMS], n: usize) -> Sums
     requires { ⌜ n < 257 ⌝ }
@@ -59,14 +50,26 @@ fn sums_of(sums: &[u64; SUMS], n: usize) -> Sums
     }
 }
 
+// Account i, counted from 0, whose number is i + 1. Its words are compared with small numbers alone, so that they may be read as they are;
+// its sums are read once it has passed by itself, which leaves fewer words to hold at a time.
+fn account_stands(accounts: &[i64], i: usize, today: u64, sums: &[u64; SUMS]) -> bool
+    requires { ⌜ AccountIn (now accounts) i × (i < mostAccounts) × (today ≤ finalDay) × Low (now sums) mostRows ⌝ }
+    ensures { λ b. ⌜ b ≡ accountStands today (sumsAt (now (sums .entry)) (i + 1)) (accountAt (now (accounts .entry)) i) ⌝ }
+{
+    let x = plain_account(accounts, i);
+    if !account_alone(today, x) {
+        return false;
+    }
+    sums_agree(x, sums_of(sums, i + 1))
+}
+
 pub fn all_agree(accounts: &[i64], count: usize, today: u64, sums: &[u64; SUMS]) -> bool
-    requires { ⌜ (count * accountWidth ≤ length (now accounts)) × (count ≤ mostAccounts) ⌝ }
+    requires { ⌜ (count * accountWidth ≤ length (now accounts)) × (count ≤ mostAccounts) × (today ≤ finalDay) × Low (now sums) mostRows ⌝ }
     ensures { λ b. ⌜ b ≡ allAgree today (sumsAt (now (sums .entry))) (accountsOf (now (accounts .entry)) count) ⌝ }
 {
     let mut i = 0;
     while i < count {
-        let s = sums_of(sums, i + 1);
-        if !account_stands(accounts, i, today, s) {
+        if !account_stands(accounts, i, today, sums) {
             return false;
         }
         i += 1;

@@ -2,7 +2,7 @@
 use Rattle.soundness.proofs.SoundParts.{walked-none, unfit-stands, sums-decide}
 use borrow.Author.Tests.{not-true, not-false}
 use mathlib.Core.Path.{_∙_}
-use borrow.Author.Needs.{needs}
+use native.Mathlib.Omega.{arith}
 use Rattle.soundness.proofs.book_stands.Statement.{statement}
 use Rattle.soundness.proofs.book_stands.Tie as tie
 
@@ -17,7 +17,11 @@ returns c =
     unfit-stands (s .args .accounts .now) (s .args .journal .now) (s .args .f) (c .before .walk .ensures .bad (not-true _ (c .if1 .taken)))
 
 all-agree-requires : tie.Need-all-agree-requires
-all-agree-requires c κs = search needs
+all-agree-requires c κs =
+    let l = c .before in
+    let w = l .before in
+    let b = w .before .before .before .before .pre in
+    (b .seats, b .fewer, b .day, λ p. omega (arith, b .few, w .walk .ensures .good (not-false _ (l .if1 .left)) .tallies .low p))
 
 returns-2 : tie.Need-returns-2
 returns-2 c =

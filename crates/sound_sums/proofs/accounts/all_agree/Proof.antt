@@ -21,21 +21,16 @@ abbrev μ-loop : tie.MeasureT-loop
 loop-holds : tie.Need-loop-holds Inv-loop μ-loop
 loop-holds c = (omega arith, λ k h. absurd (omega arith))
 
-add-sums-of : tie.Need-add-sums-of Inv-loop μ-loop
-add-sums-of c = search needs
-
-sums-of-requires : tie.Need-sums-of-requires Inv-loop μ-loop
-sums-of-requires c κs = search needs
-
 account-stands-requires : tie.Need-account-stands-requires Inv-loop μ-loop
-account-stands-requires c κs = search needs
+account-stands-requires c κs =
+    let s = c .before .before in
+    (omega arith, omega arith, s .pre .2, s .pre .3)
 
 returns : tie.Need-returns Inv-loop μ-loop
 unfolding allAgree
 returns c =
     let n = c .before in
-    let m = n .before in
-    sym (every-fails _ (accountAt _) _ _ (m .before .loop-test .taken) (rw (← m .sums-of .ensures) (sym (n .account-stands .ensures) ∙ not-true _ (c .if1 .taken))))
+    sym (every-fails _ (accountAt _) _ _ (n .before .loop-test .taken) (sym (n .account-stands .ensures) ∙ not-true _ (c .if1 .taken)))
 
 add-i : tie.Need-add-i Inv-loop μ-loop
 add-i c = search needs
@@ -46,8 +41,7 @@ loop-less c = search needs
 loop-again : tie.Need-loop-again Inv-loop μ-loop
 loop-again c =
     let n = c .before in
-    let m = n .before in
-    (omega arith, below-more _ _ (m .before .before .loop .inv .1) (rw (← m .sums-of .ensures) (sym (n .account-stands .ensures) ∙ not-false _ (c .if1 .left))))
+    (omega arith, below-more _ _ (n .before .before .loop .inv .1) (sym (n .account-stands .ensures) ∙ not-false _ (c .if1 .left)))
 
 returns-2 : tie.Need-returns-2 Inv-loop μ-loop
 unfolding allAgree
@@ -62,8 +56,6 @@ all-agree-spec =
     Inv-loop
     μ-loop
     loop-holds
-    add-sums-of
-    sums-of-requires
     account-stands-requires
     returns
     add-i
