@@ -56,13 +56,6 @@ pub fn account_at(journal: &[i64], i: usize) -> u64
     get(journal, i * ROW_WIDTH + ACCOUNT_PLACE)
 }
 
-pub fn mark_at(journal: &[i64], i: usize) -> u64
-    requires { ⌜ RowIn (now journal) i ⌝ }
-    ensures { λ r. ⌜ r ≡ rowAt (now (journal .entry)) i .mark ⌝ }
-{
-    get(journal, i * ROW_WIDTH + MARK_PLACE)
-}
-
 pub fn due_at(journal: &[i64], i: usize) -> u64
     requires { ⌜ RowIn (now journal) i ⌝ }
     ensures { λ r. ⌜ r ≡ rowAt (now (journal .entry)) i .due ⌝ }
