@@ -14,7 +14,7 @@ use Rattle.records.specs.Encoding.{word, rowAt, rowsOf, accountsOf}
 use Rattle.lists.specs.Lists.{sumBy, only, exists}
 use Rattle.lists.proofs.ListLaws.{every-all}
 use Rattle.lists.proofs.SumLaws.{sumBy-small}
-use Rattle.rules.specs.Limits.{highestRefund}
+use Rattle.rules.specs.Limits.{mostRows, highestRefund}
 use Rattle.rules.specs.Rows.{Toll, blank}
 use Rattle.rules.specs.Book.{Account, unused, Instruction, account, accountNo, sources, debits, lowBalance, topUpDue}
 use Rattle.rules.specs.Tables.{Tables, accountsIn, rowsUsed, bookOf, soundTables}
@@ -33,7 +33,7 @@ use Rattle.batch_index.proofs.SeatLaws.{seated-none}
 -- ---- the index is made
 
 pub index-none : (j : List ℤ) (cells seats : List ℕ) → Empty cells seats → IndexOf j 0 cells seats
-index-none j cells seats e = record { grown = rw (e .no-cell) (grown-none j 32768 refl); seated = rw (e .no-seat) (seated-none j 1028 refl) }
+index-none j cells seats e = record { grown = rw (e .no-cell) (grown-none mostRows j 32768 refl (omega arith) (omega arith)); seated = rw (e .no-seat) (seated-none j 1028 refl) }
 
 -- fewer rows
 pub countable-first : (j : List ℤ) (used n : ℕ) → Countable j used → n ≤ used → Countable j n
@@ -47,7 +47,7 @@ countable-first j used n c l = record {
 }
 
 -- in tables whose passage numbers differ a row is always planted
-pub planted-grown : (j : List ℤ) (cells : List ℕ) (n used : ℕ) (b : Bool) → n < used → passagesDiffer (rowsOf j used) ≡ true → Planted j cells n b → Grown j cells (n + 1)
+pub planted-grown : (j : List ℤ) (cells : List ℕ) (n used : ℕ) (b : Bool) → n < used → passagesDiffer (rowsOf j used) ≡ true → Planted mostRows j cells n b → Grown mostRows j cells (n + 1)
 planted-grown j cells n used true l d p = p .good refl
 planted-grown j cells n used false l d p = absurd (true≢false (sym d ∙ p .bad refl used l))
 
@@ -59,7 +59,7 @@ sound-indexable t s = record { rows = midway-countable (bookOf t .day) t (sound-
 
 -- ---- a passage number
 
-pub spot-stands : (t : Tables) → soundTables t ≡ true → (cells : List ℕ) (used x r : ℕ) → used ≡ rowsUsed t → Spot (t .journal) cells used x r
+pub spot-stands : (t : Tables) → soundTables t ≡ true → (cells : List ℕ) (used x r : ℕ) → used ≡ rowsUsed t → Spot mostRows (t .journal) cells used x r
     → leb 32768 r ≡ exists (tollOf x) (bookOf t .rows)
 spot-stands t s cells used x r u p = rw (sound-rows t s, ← u) (go (decLt r 32768))
   where

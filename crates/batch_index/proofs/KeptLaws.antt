@@ -10,6 +10,7 @@ use Rattle.records.specs.Encoding.{rowAt, rowsOf}
 use Rattle.lists.specs.Lists.{sumBy, only}
 use Rattle.lists.proofs.ListLaws.{length-tabulate, tabulate-at}
 use Rattle.lists.proofs.SumLaws.{sumBy-longer}
+use Rattle.rules.specs.Limits.{mostRows}
 use Rattle.rules.specs.Rows.{Row, blank, remaining}
 use Rattle.rules.specs.Book.{Instruction, Answer, Book}
 use Rattle.rules.specs.Soundness.{sound}
@@ -50,8 +51,10 @@ module _ (s a : ℕ) (x y : Row) (k : RowKept x y) where
 -- ---- the index of n rows, each kept
 
 module _ (j i : List ℤ) (n : ℕ) (kept : (k : ℕ) → k < n → RowKept (rowAt j k) (rowAt i k)) where
-  grown-kept : (cells : List ℕ) → Grown j cells n → Grown i cells n
+  grown-kept : (cells : List ℕ) → Grown mostRows j cells n → Grown mostRows i cells n
   grown-kept cells g = record {
+    some = g .some;
+    few = g .few;
     size = g .size;
     tolls = λ c k e. let p = g .tolls c k e in (p .0, kept k (p .0) .kind ∙ p .1, p .2);
     kept = λ k h e. rw (kept k h .reference) (g .kept k h (sym (kept k h .kind) ∙ e));

@@ -10,6 +10,7 @@ use lib.ListN.{length, getD, replicate}
 use Rattle.records.specs.Encoding.{rowAt, rowsOf}
 use Rattle.lists.specs.Tests.{_is_}
 use Rattle.lists.specs.Lists.{sumBy, only}
+use Rattle.rules.specs.Limits.{mostRows}
 use Rattle.rules.specs.Rows.{Row, Test, source, debit, remaining}
 use Rattle.rules.specs.Book.{Account, Open}
 use Rattle.rules.specs.Tables.{Tables, rowsUsed}
@@ -65,7 +66,7 @@ pub record NextOpen (p : Test) (j : List ℤ) (used i k : ℕ) : Type 0 where
 
 -- the index of the first n rows of a journal
 pub record IndexOf (j : List ℤ) (n : ℕ) (cells seats : List ℕ) : Type 0 where
-  pub grown : Grown j cells n
+  pub grown : Grown mostRows j cells n
   pub seated : Seated j n 0 seats
 
 -- the index of the first n rows of the tables

@@ -19,6 +19,7 @@ use tables::codes::OPEN;
 use tables::layout::ACCOUNT_WIDTH;
 use tables::layout::DAY_PLACE;
 use tables::layout::USED_PLACE;
+use tables::limits::MOST_ROWS;
 use tables::words::get;
 ghost use mathlib.Core.Path.{_≡_};
 ghost use mathlib.Core.Bool.{true};
@@ -195,7 +196,7 @@ fn index_rows(
 {
     let mut i = from;
     while i < used {
-        plant(journal, cells, i);
+        plant(journal, cells, MOST_ROWS, i);
         add_amount(journal, i, seats);
         i += 1;
     }
@@ -237,7 +238,14 @@ pub fn look_up_indexed(
         debit: seat_word(seats, e.account, DEBITS) as usize,
     };
     if e.kind == TOLL_EVENT {
-        found.stands = spot(journal, cells, get(header, USED_PLACE) as usize, e.a) >= CELLS;
+        found.stands = spot(
+            journal,
+            cells,
+            MOST_ROWS,
+            get(header, USED_PLACE) as usize,
+            e.a,
+        )
+            >= CELLS;
         return found;
     }
     if e.kind == RESULT_EVENT {

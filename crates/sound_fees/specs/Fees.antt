@@ -24,9 +24,9 @@ feeOf n r = cond (feeNaming n r) 1 0
 unfoldable pub feesWithin : ℕ → Row → Bool
 feesWithin c r = toll r implies leb c (r .mark - 1)
 
--- the fees among the first i rows, by the row that each names; none has too many
-pub record Counted (t : List ℤ) (counts : List ℕ) (i : ℕ) : Type 0 where
-  pub tallied : Tallied feeOf 8193 t counts i
+-- the fees among the first i rows, by the row that each names, of as many as there is space for; none has too many
+pub record Counted (space : ℕ) (t : List ℤ) (counts : List ℕ) (i : ℕ) : Type 0 where
+  pub tallied : Tallied feeOf (space + 1) t counts i
   pub within : (k : ℕ) → feesWithin (getD counts (k + 1) 0) (rowAt t k) ≡ true
 
 -- one more at n, and whether it is within what the row may have

@@ -3,15 +3,11 @@
 use records::Row;
 use sound_header::tests::implies;
 use tables::codes::TOLL;
-use tables::limits::MOST_ROWS;
 ghost use mathlib.Core.Path.{_≡_};
-ghost use Prim.Native.Nat.{_≤_, _<_};
-ghost use lib.ListN.{getD};
+ghost use Prim.Native.Nat.{_<_};
+ghost use lib.ListN.{length, getD};
 ghost use Rattle.rules.specs.Limits.{mostRows};
 ghost use Rattle.sound_fees.specs.Fees.{CountsOne};
-
-// A count for each row number, from 0 on: 16 KiB of a caller's stack.
-pub const COUNTS: usize = MOST_ROWS + 1;
 
 fn wide(x: u16) -> u64
     ensures { λ r. ⌜ r ≡ x ⌝ }
@@ -20,8 +16,8 @@ fn wide(x: u16) -> u64
 }
 
 // One more fee that names row number n, `named`: false where that is more than it may have.
-pub fn count_fee(counts: &mut [u16; COUNTS], n: usize, named: Row) -> bool
-    requires { ⌜ (n ≤ mostRows) × (getD (now counts) n 0 < mostRows) ⌝ }
+pub fn count_fee(counts: &mut [u16], n: usize, named: Row) -> bool
+    requires { ⌜ (n < length (now counts)) × (getD (now counts) n 0 < mostRows) ⌝ }
     ensures { λ b. ⌜ CountsOne (now (counts .entry)) (now (counts .exit)) n named b ⌝ }
 {
     let c = counts[n] + 1;

@@ -45,6 +45,7 @@ StandsAnywhere accounts f r b = (rows : List Row) (n : ℕ) → b ≡ rowStands 
 pub record Bounds (accounts journal : List ℤ) (f : Frame) : Type 0 where
   pub room : f .used * rowWidth ≤ length journal
   pub few : f .used ≤ mostRows
+  pub held : f .used ≤ f .space
   pub seats : f .count * accountWidth ≤ length accounts
   pub fewer : f .count ≤ mostAccounts
   pub day : f .today ≤ finalDay

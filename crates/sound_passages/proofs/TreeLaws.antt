@@ -1,7 +1,7 @@
 -- Laws of the trees: the way down to a passage number, and how they grow by a row.
-use Prim.Native.Nat.{ℕ, zero, suc, _+_, _*_, _-_, _/_, _%_, _≤_, _<_}
+use Prim.Native.Nat.{ℕ, zero, suc, _+_, _*_, _-_, _/_, _%_, _^_, _≤_, _<_}
 use native.Mathlib.Omega.{arith}
-use native.Mathlib.Nat.{mod-lt}
+use native.Mathlib.Nat.{mod-lt, div-lt-iff-lt-mul, mul-le-mul, mul-lt-mul-of-pos-right}
 use native.Mathlib.Decide.{ℕ-discrete}
 use mathlib.Core.Path.{_≡_, refl, sym, ap, _∙_}
 use mathlib.Core.Bool.{Bool, true, false}
@@ -11,40 +11,48 @@ use lib.ListN.{length, getD, set, replicate, length-set, length-replicate}
 use lib.Seq.{getD-set-same, getD-set-other}
 use Rattle.lists.proofs.ListLaws.{zeros}
 use Rattle.records.specs.Encoding.{rowAt, rowsOf}
+use Rattle.rules.specs.Limits.{mostRows}
 use Rattle.sound_passages.specs.Trees.{passagesDiffer}
-use Rattle.sound_passages.specs.Trees.{mixOf, IsToll, HasPassage, Leads, here, next, Kept, Grown, Spot, Planted}
+use Rattle.sound_passages.specs.Trees.{mixOf, rootOf, IsToll, HasPassage, Leads, here, next, Kept, Grown, Spot, Planted}
 use Rattle.sound_passages.proofs.PassageLaws.{clash-same}
 
-leads-zero : {cells : List ℕ} {j y c : ℕ} → Leads cells j y c → getD cells c 0 ≡ 0 → ⊥
+leads-zero : {space : ℕ} {cells : List ℕ} {j y c : ℕ} → Leads space cells j y c → getD cells c 0 ≡ 0 → ⊥
 leads-zero (here e) z = omega arith
 leads-zero (next r e l) z = omega arith
 
-leads-step : {cells : List ℕ} {j y c : ℕ} (r : ℕ) → Leads cells j y c → getD cells c 0 ≡ r + 1 → (j ≡ r → ⊥) → Leads cells j (y / 2) (16384 + 2 * r + y % 2)
+leads-step : {space : ℕ} {cells : List ℕ} {j y c : ℕ} (r : ℕ) → Leads space cells j y c → getD cells c 0 ≡ r + 1 → (j ≡ r → ⊥) → Leads space cells j (y / 2) (2 * space + 2 * r + y % 2)
 leads-step r (here e) f q = absurd (q (omega arith))
 leads-step r (next s e l) f q = let w : s ≡ r = omega arith in rw w at l
 
-leads-keep : {cells u : List ℕ} {j y c : ℕ} → ((k v : ℕ) → getD cells k 0 ≡ v + 1 → getD u k 0 ≡ v + 1) → Leads cells j y c → Leads u j y c
+leads-keep : {space : ℕ} {cells u : List ℕ} {j y c : ℕ} → ((k v : ℕ) → getD cells k 0 ≡ v + 1 → getD u k 0 ≡ v + 1) → Leads space cells j y c → Leads space u j y c
 leads-keep h (here e) = here (h _ _ e)
 leads-keep h (next r e l) = next r (h _ _ e) (leads-keep h l)
 
 -- ---- the way down
 
 -- a toll of passage x lies below here, and what is put below here is on the way of x
-pub record Way (t : List ℤ) (cells : List ℕ) (n x y c s : ℕ) : Type 0 where
+pub record Way (space : ℕ) (t : List ℤ) (cells : List ℕ) (n x y c s : ℕ) : Type 0 where
   pub is : s ≡ getD cells c 0
-  pub low : c < 16384 + 2 * n
-  pub rest : (j : ℕ) → j < n → IsToll t j → HasPassage t j x → Leads cells j y c
-  pub up : (u : List ℕ) → ((k v : ℕ) → getD cells k 0 ≡ v + 1 → getD u k 0 ≡ v + 1) → Leads u n y c → Kept u n x
+  pub low : c < 2 * space + 2 * n
+  pub rest : (j : ℕ) → j < n → IsToll t j → HasPassage t j x → Leads space cells j y c
+  pub up : (u : List ℕ) → ((k v : ℕ) → getD cells k 0 ≡ v + 1 → getD u k 0 ≡ v + 1) → Leads space u n y c → Kept space u n x
 
-pub way-start : (t : List ℤ) (cells : List ℕ) (n x : ℕ) → Grown t cells n → mixOf x < 4_294_967_296 → Way t cells n x (mixOf x) (mixOf x / 262_144) (getD cells (mixOf x / 262_144) 0)
-way-start t cells n x g b =
-    record { is = refl; low = omega arith; rest = λ j q k e. rw e at (g .kept j q k); up = λ u h l. l }
+-- a root's product fits a word, and is a cell of the first half
+pub root-fits : (space y : ℕ) → y < 4_294_967_296 → space ≤ mostRows → y * space < 2 ^ 64
+root-fits space y b h = omega (arith, mul-le-mul {n₁ = y} {m₁ = space} {n₂ = 4_294_967_296} {m₂ = 8192} (omega arith) (omega arith))
 
-module _ (t : List ℤ) (cells : List ℕ) (n x y c s r : ℕ) (g : Grown t cells n) (w : Way t cells n x y c s) (e : s ≡ r + 1) where
-  pub way-row : (r < n) × IsToll t r × (c < 16384 + 2 * r)
+pub root-low : (space y : ℕ) → y < 4_294_967_296 → 0 < space → rootOf space y < 2 * space
+root-low space y b h = div-lt-iff-lt-mul {k = 2_147_483_648} {x = y * space} {y = 2 * space} (omega arith) .1 (omega (arith, mul-lt-mul-of-pos-right {m = y} {n = 4_294_967_296} {k = space} b h))
+
+pub way-start : (space : ℕ) (t : List ℤ) (cells : List ℕ) (n x : ℕ) → Grown space t cells n → mixOf x < 4_294_967_296 → Way space t cells n x (mixOf x) (rootOf space (mixOf x)) (getD cells (rootOf space (mixOf x)) 0)
+way-start space t cells n x g b =
+    record { is = refl; low = omega (arith, root-low space (mixOf x) b (g .some)); rest = λ j q k e. rw e at (g .kept j q k); up = λ u h l. l }
+
+module _ (space : ℕ) (t : List ℤ) (cells : List ℕ) (n x y c s r : ℕ) (g : Grown space t cells n) (w : Way space t cells n x y c s) (e : s ≡ r + 1) where
+  pub way-row : (r < n) × IsToll t r × (c < 2 * space + 2 * r)
   way-row = g .tolls c r (sym (w .is) ∙ e)
 
-  pub way-next : (HasPassage t r x → ⊥) → Way t cells n x (y / 2) (16384 + 2 * r + y % 2) (getD cells (16384 + 2 * r + y % 2) 0)
+  pub way-next : (HasPassage t r x → ⊥) → Way space t cells n x (y / 2) (2 * space + 2 * r + y % 2) (getD cells (2 * space + 2 * r + y % 2) 0)
   way-next q =
       record {
         is = refl;
@@ -53,7 +61,7 @@ module _ (t : List ℤ) (cells : List ℕ) (n x y c s r : ℕ) (g : Grown t cell
         up = λ u h l. w .up u h (next r (h c r (sym (w .is) ∙ e)) l);
       }
 
-  pub way-taken : HasPassage t r x → Spot t cells n x (32767 + s)
+  pub way-taken : HasPassage t r x → Spot space t cells n x (32767 + s)
   way-taken q =
       record {
         taken = λ j f. let v : j ≡ r = omega arith in rw v (way-row .0, way-row .1, q);
@@ -63,10 +71,10 @@ module _ (t : List ℤ) (cells : List ℕ) (n x y c s r : ℕ) (g : Grown t cell
         way = λ b. absurd (omega arith);
       }
 
-pub way-free : (t : List ℤ) (cells : List ℕ) (n x y c s : ℕ) → n ≤ 8192 → Way t cells n x y c s → s ≡ 0 → Spot t cells n x c
-way-free t cells n x y c s b w z =
+pub way-free : (space : ℕ) (t : List ℤ) (cells : List ℕ) (n x y c s : ℕ) → n ≤ space → Grown space t cells n → Way space t cells n x y c s → s ≡ 0 → Spot space t cells n x c
+way-free space t cells n x y c s b g w z =
     record {
-      taken = λ j f. absurd (omega (arith, w .low));
+      taken = λ j f. absurd (omega (arith, w .low, g .few));
       low = λ _. w .low;
       free = λ _. sym (w .is) ∙ z;
       none = λ _ j q k e. leads-zero (w .rest j q k e) (sym (w .is) ∙ z);
@@ -75,9 +83,11 @@ way-free t cells n x y c s b w z =
 
 -- ---- growth
 
-pub grown-none : (t : List ℤ) (a : ℕ) → a ≡ 32768 → Grown t (replicate a 0) 0
-grown-none t a e =
+pub grown-none : (space : ℕ) (t : List ℤ) (a : ℕ) → a ≡ 4 * space → 0 < space → space ≤ mostRows → Grown space t (replicate a 0) 0
+grown-none space t a e b f =
     record {
+      some = b;
+      few = f;
       size = length-replicate a 0 ∙ e;
       tolls = λ c j f. absurd (omega (arith, zeros a c));
       kept = λ j b. absurd (omega arith);
@@ -94,9 +104,11 @@ clean-more t n c d j k q b x y e =
       | no v ↦ c j k q (omega arith) x y e
     ]
 
-pub grown-skip : (t : List ℤ) (cells : List ℕ) (n : ℕ) → Grown t cells n → (IsToll t n → ⊥) → Grown t cells (n + 1)
-grown-skip t cells n g q =
+pub grown-skip : (space : ℕ) (t : List ℤ) (cells : List ℕ) (n : ℕ) → Grown space t cells n → (IsToll t n → ⊥) → Grown space t cells (n + 1)
+grown-skip space t cells n g q =
     record {
+      some = g .some;
+      few = g .few;
       size = g .size;
       tolls = λ c j e. let a = g .tolls c j e in (omega (arith, a .0), a .1, a .2);
       kept = λ j b k.
@@ -110,11 +122,13 @@ grown-skip t cells n g q =
 kept-on : (cells : List ℕ) (n r : ℕ) → getD cells r 0 ≡ 0 → (k v : ℕ) → getD cells k 0 ≡ v + 1 → getD (set cells r (n + 1)) k 0 ≡ v + 1
 kept-on cells n r z k v e = rw (getD-set-other cells r k (n + 1) 0 (λ w. let z' = rw (← w) at z in omega arith)) e
 
-pub grown-add : (t : List ℤ) (cells : List ℕ) (n r : ℕ) → Grown t cells n → IsToll t n → r < 32768 → Spot t cells n (rowAt t n .reference) r → Grown t (set cells r (n + 1)) (n + 1)
-grown-add t cells n r g q b s =
-    let d : r < length cells = omega (arith, g .size) in
+pub grown-add : (space : ℕ) (t : List ℤ) (cells : List ℕ) (n r : ℕ) → Grown space t cells n → n < space → IsToll t n → r < 32768 → Spot space t cells n (rowAt t n .reference) r → Grown space t (set cells r (n + 1)) (n + 1)
+grown-add space t cells n r g h q b s =
+    let d : r < length cells = omega (arith, g .size, s .low b) in
     let same : getD (set cells r (n + 1)) r 0 ≡ n + 1 = getD-set-same cells r (n + 1) 0 d in
     record {
+      some = g .some;
+      few = g .few;
       size = length-set cells r (n + 1) ∙ g .size;
       tolls = λ c j e.
           elim (ℕ-discrete c r) [
@@ -129,5 +143,5 @@ grown-add t cells n r g q b s =
       clean = clean-more t n (g .clean) (λ j f x y z. s .none b j f x z);
     }
 
-pub taken-same : (t : List ℤ) (cells : List ℕ) (n r : ℕ) → IsToll t n → 32768 ≤ r → Spot t cells n (rowAt t n .reference) r → (m : ℕ) → n < m → passagesDiffer (rowsOf t m) ≡ false
-taken-same t cells n r q b s m f = let a = s .taken (r - 32768) (omega arith) in clash-same t m (r - 32768) n (a .0) f (a .1) q (a .2)
+pub taken-same : (space : ℕ) (t : List ℤ) (cells : List ℕ) (n r : ℕ) → IsToll t n → 32768 ≤ r → Spot space t cells n (rowAt t n .reference) r → (m : ℕ) → n < m → passagesDiffer (rowsOf t m) ≡ false
+taken-same space t cells n r q b s m f = let a = s .taken (r - 32768) (omega arith) in clash-same t m (r - 32768) n (a .0) f (a .1) q (a .2)

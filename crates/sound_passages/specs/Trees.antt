@@ -1,6 +1,6 @@
--- Digital search trees of tolls in one array of cells: a cell below 16,384 is a root, and cells 16384 + 2 r and the next are the two
--- branches of row r, counted from 0. A cell holds a row's number, counted from 1, and 0 for none.
-use Prim.Native.Nat.{ℕ, _+_, _*_, _/_, _%_, _<_}
+-- Digital search trees of tolls in one array, of four cells for each row that it has space for: the first half of the cells are roots, and
+-- cells 2 space + 2 r and the next are the two branches of row r, counted from 0. A cell holds a row's number, counted from 1, and 0 for none.
+use Prim.Native.Nat.{ℕ, _+_, _*_, _/_, _%_, _≤_, _<_}
 use mathlib.Core.Path.{_≡_}
 use mathlib.Core.Bool.{Bool, true, false}
 use mathlib.Core.List.{List}
@@ -8,6 +8,7 @@ use lib.IntN.{ℤ}
 use lib.ListN.{length, getD}
 use Rattle.lists.specs.Lists.{every}
 use Rattle.records.specs.Encoding.{rowAt, rowsOf}
+use Rattle.rules.specs.Limits.{mostRows}
 use Rattle.rules.specs.Rows.{Row, Toll}
 use Rattle.rules.specs.Soundness.{passageOnce}
 
@@ -15,7 +16,7 @@ use Rattle.rules.specs.Soundness.{passageOnce}
 unfoldable pub passagesDiffer : List Row → Bool
 passagesDiffer rows = every (λ n r. passageOnce rows r) rows
 
--- a passage number's 32 mixed bits: the first 14 are the root, the others the way down, the lowest first
+-- a passage number's 32 mixed bits: the first are the root, the others the way down, the lowest first
 unfoldable pub mixOf : ℕ → ℕ
 mixOf p = p % 1_073_741_824 * 2_654_435_769 % 4_294_967_296
 
@@ -27,28 +28,34 @@ abbrev pub HasPassage : List ℤ → ℕ → ℕ → Type 0
 HasPassage t j x = rowAt t j .reference ≡ x
 
 -- from cell c, by the bits of y, down to row j
-pub data Leads (cells : List ℕ) (j : ℕ) : ℕ → ℕ → Type 0 where
-  here : {y c : ℕ} → getD cells c 0 ≡ j + 1 → Leads cells j y c
-  next : {y c : ℕ} (r : ℕ) → getD cells c 0 ≡ r + 1 → Leads cells j (y / 2) (16384 + 2 * r + y % 2) → Leads cells j y c
+pub data Leads (space : ℕ) (cells : List ℕ) (j : ℕ) : ℕ → ℕ → Type 0 where
+  here : {y c : ℕ} → getD cells c 0 ≡ j + 1 → Leads space cells j y c
+  next : {y c : ℕ} (r : ℕ) → getD cells c 0 ≡ r + 1 → Leads space cells j (y / 2) (2 * space + 2 * r + y % 2) → Leads space cells j y c
 
-abbrev pub Kept : List ℕ → ℕ → ℕ → Type 0
-Kept cells j x = Leads cells j (mixOf x) (mixOf x / 262_144)
+-- the root, of 2 space, where the way of mixed bits y starts
+abbrev pub rootOf : ℕ → ℕ → ℕ
+rootOf space y = y * space / 2_147_483_648
+
+abbrev pub Kept : ℕ → List ℕ → ℕ → ℕ → Type 0
+Kept space cells j x = Leads space cells j (mixOf x) (rootOf space (mixOf x))
 
 -- what holds after the first n rows
-pub record Grown (t : List ℤ) (cells : List ℕ) (n : ℕ) : Type 0 where
-  pub size : length cells ≡ 32768
-  pub tolls : (c j : ℕ) → getD cells c 0 ≡ j + 1 → (j < n) × IsToll t j × (c < 16384 + 2 * j)
-  pub kept : (j : ℕ) → j < n → IsToll t j → Kept cells j (rowAt t j .reference)
+pub record Grown (space : ℕ) (t : List ℤ) (cells : List ℕ) (n : ℕ) : Type 0 where
+  pub some : 0 < space
+  pub few : space ≤ mostRows
+  pub size : length cells ≡ 4 * space
+  pub tolls : (c j : ℕ) → getD cells c 0 ≡ j + 1 → (j < n) × IsToll t j × (c < 2 * space + 2 * j)
+  pub kept : (j : ℕ) → j < n → IsToll t j → Kept space cells j (rowAt t j .reference)
   pub clean : (j k : ℕ) → j < k → k < n → IsToll t j → IsToll t k → HasPassage t j (rowAt t k .reference) → ⊥
 
 -- where passage x goes: r is a free cell on its way, or 32768 + j for a toll j of passage x
-pub record Spot (t : List ℤ) (cells : List ℕ) (n x r : ℕ) : Type 0 where
+pub record Spot (space : ℕ) (t : List ℤ) (cells : List ℕ) (n x r : ℕ) : Type 0 where
   pub taken : (j : ℕ) → r ≡ 32768 + j → (j < n) × IsToll t j × HasPassage t j x
-  pub low : r < 32768 → r < 16384 + 2 * n
+  pub low : r < 32768 → r < 2 * space + 2 * n
   pub free : r < 32768 → getD cells r 0 ≡ 0
   pub none : r < 32768 → (j : ℕ) → j < n → IsToll t j → HasPassage t j x → ⊥
-  pub way : r < 32768 → (u : List ℕ) → ((c v : ℕ) → getD cells c 0 ≡ v + 1 → getD u c 0 ≡ v + 1) → getD u r 0 ≡ n + 1 → Kept u n x
+  pub way : r < 32768 → (u : List ℕ) → ((c v : ℕ) → getD cells c 0 ≡ v + 1 → getD u c 0 ≡ v + 1) → getD u r 0 ≡ n + 1 → Kept space u n x
 
-pub record Planted (t : List ℤ) (cells : List ℕ) (n : ℕ) (r : Bool) : Type 0 where
-  pub good : r ≡ true → Grown t cells (n + 1)
+pub record Planted (space : ℕ) (t : List ℤ) (cells : List ℕ) (n : ℕ) (r : Bool) : Type 0 where
+  pub good : r ≡ true → Grown space t cells (n + 1)
   pub bad : r ≡ false → (m : ℕ) → n < m → passagesDiffer (rowsOf t m) ≡ false

@@ -3,21 +3,21 @@
 use table_rows::kind_at;
 use table_rows::reference_at;
 use tables::codes::TOLL;
+use tables::limits::MOST_ROWS;
 ghost use mathlib.Core.Path.{_≡_};
 ghost use Prim.Native.Nat.{_+_, _*_, _≤_, _<_};
 ghost use lib.ListN.{length};
 ghost use Rattle.records.specs.Layout.{rowWidth};
-ghost use Rattle.rules.specs.Limits.{mostRows};
 ghost use Rattle.tables.specs.Changes.{RowIn};
 ghost use Rattle.sound_passages.specs.Trees.{mixOf, IsToll, HasPassage, Grown, Spot, Planted};
 
-// A cell holds a row's number, 0 for none. The first ROOTS cells are the trees' roots; then each row has two cells, its branches.
-const ROOTS: usize = 16384;
+// A cell holds a row's number, 0 for none. The first half of the cells are the trees' roots; then each row has two cells, its branches.
+pub const ROW_CELLS: usize = 4;
 
-// 64 KiB of a caller's stack.
-pub const CELLS: usize = 32768;
+// For the most rows of a journal: 64 KiB of a caller's stack.
+pub const CELLS: usize = MOST_ROWS * ROW_CELLS;
 
-// A passage number's bits spread by an odd multiplier: the first 14 of 32 choose the tree, the others the way down.
+// A passage number's bits spread by an odd multiplier: the first of 32 choose the tree, the others the way down.
 fn mix(passage: u64) -> usize
     ensures { λ r. ⌜ (r ≡ mixOf passage) × (r < 4294967296) ⌝ }
 {
@@ -30,19 +30,20 @@ fn wide(x: u16) -> usize
     x as usize
 }
 
-// Where passage x goes among the first n rows: a free cell, or CELLS and more where a toll has it.
-pub fn spot(journal: &[i64], cells: &[u16; CELLS], n: usize, x: u64) -> usize
-    requires { ⌜ (n * rowWidth ≤ length (now journal)) × (n ≤ mostRows) × Grown (now journal) (now cells) n ⌝ }
-    ensures { λ r. ⌜ Spot (now (journal .entry)) (now (cells .entry)) n x r ⌝ }
+// Where passage x goes among the first n rows, in cells with space for as many or more: a free cell, or CELLS and more where a toll has it.
+pub fn spot(journal: &[i64], cells: &[u16], space: usize, n: usize, x: u64) -> usize
+    requires { ⌜ (n * rowWidth ≤ length (now journal)) × (n ≤ space) × Grown space (now journal) (now cells) n ⌝ }
+    ensures { λ r. ⌜ Spot space (now (journal .entry)) (now (cells .entry)) n x r ⌝ }
 {
     let mut y = mix(x);
-    let mut c = y / 262144;
+    // A product chooses the root: a division by a number that is no constant would be slow.
+    let mut c = y * space / 2147483648;
     let mut s = wide(cells[c]);
     while s != 0 {
         if reference_at(journal, s - 1) == x {
             return CELLS - 1 + s;
         }
-        c = ROOTS + 2 * (s - 1) + y % 2;
+        c = 2 * space + 2 * (s - 1) + y % 2;
         y = y / 2;
         s = wide(cells[c]);
     }
@@ -50,11 +51,11 @@ pub fn spot(journal: &[i64], cells: &[u16; CELLS], n: usize, x: u64) -> usize
 }
 
 // Row n, a toll of passage x, goes to its cell: false where an earlier toll has its passage number.
-pub fn plant_toll(journal: &[i64], cells: &mut [u16; CELLS], n: usize, x: u64) -> bool
-    requires { ⌜ RowIn (now journal) n × (n < mostRows) × Grown (now journal) (now cells) n × IsToll (now journal) n × HasPassage (now journal) n x ⌝ }
-    ensures { λ r. ⌜ Planted (now (journal .entry)) (now (cells .exit)) n r ⌝ }
+pub fn plant_toll(journal: &[i64], cells: &mut [u16], space: usize, n: usize, x: u64) -> bool
+    requires { ⌜ RowIn (now journal) n × (n < space) × Grown space (now journal) (now cells) n × IsToll (now journal) n × HasPassage (now journal) n x ⌝ }
+    ensures { λ r. ⌜ Planted space (now (journal .entry)) (now (cells .exit)) n r ⌝ }
 {
-    let c = spot(journal, cells, n, x);
+    let c = spot(journal, cells, space, n, x);
     if c >= CELLS {
         return false;
     }
@@ -63,13 +64,13 @@ pub fn plant_toll(journal: &[i64], cells: &mut [u16; CELLS], n: usize, x: u64) -
 }
 
 // The same for a row of any kind: one that is no toll leaves the trees.
-pub fn plant(journal: &[i64], cells: &mut [u16; CELLS], n: usize) -> bool
-    requires { ⌜ RowIn (now journal) n × (n < mostRows) × Grown (now journal) (now cells) n ⌝ }
-    ensures { λ r. ⌜ Planted (now (journal .entry)) (now (cells .exit)) n r ⌝ }
+pub fn plant(journal: &[i64], cells: &mut [u16], space: usize, n: usize) -> bool
+    requires { ⌜ RowIn (now journal) n × (n < space) × Grown space (now journal) (now cells) n ⌝ }
+    ensures { λ r. ⌜ Planted space (now (journal .entry)) (now (cells .exit)) n r ⌝ }
 {
     if kind_at(journal, n) != TOLL {
         return true;
     }
     let x = reference_at(journal, n);
-    plant_toll(journal, cells, n, x)
+    plant_toll(journal, cells, space, n, x)
 }

@@ -110,6 +110,6 @@ module _ (accounts journal : List ℤ) (f : Frame) where
 
       -- and is entered everywhere
       pub row-walks : {cells counts sums cells₁ counts₁ sums₁ : List ℕ} → Walked accounts journal f cells counts sums i
-          → Grown journal cells₁ (i + 1) → Counted journal counts₁ (i + 1) → Tallies journal (f .used) sums₁ (i + 1) → Walks accounts journal f cells₁ counts₁ sums₁ (i + 1) true
+          → Grown (f .space) journal cells₁ (i + 1) → Counted (f .space) journal counts₁ (i + 1) → Tallies journal (f .used) sums₁ (i + 1) → Walks accounts journal f cells₁ counts₁ sums₁ (i + 1) true
       row-walks w g c s =
           walks-good record { stood = below-more _ _ (w .stood) (sym (stands-alike accounts journal f (t .bounds) i (t .inside) r (t .alike)) ∙ e); grown = g; fees = c; tallies = s }

@@ -19,8 +19,8 @@ use Rattle.account_sums.specs.Columns.{Tallies}
 -- each stands, their passage numbers differ, and the arrays hold their trees, fees and sums
 pub record Walked (accounts journal : List ℤ) (f : Frame) (cells counts sums : List ℕ) (i : ℕ) : Type 0 where
   pub stood : (k : ℕ) → k < i → standsIn accounts journal f (k + 1) (rowAt journal k) ≡ true
-  pub grown : Grown journal cells i
-  pub fees : Counted journal counts i
+  pub grown : Grown (f .space) journal cells i
+  pub fees : Counted (f .space) journal counts i
   pub tallies : Tallies journal (f .used) sums i
 
 -- a row does not stand, or has the passage number of another, or too many fees
@@ -49,12 +49,13 @@ Turns accounts journal f i cells counts sums cells₁ counts₁ sums₁ b =
 pub record FeeTurn (journal : List ℤ) (f : Frame) (i : ℕ) (r : Row) : Type 0 where
   pub room : f .used * rowWidth ≤ length journal
   pub few : f .used ≤ mostRows
+  pub held : f .used ≤ f .space
   pub inside : i < f .used
   pub same : r ≡ rowAt journal i
   pub fee : r .kind ≡ Fee
   pub earlier : r .reference < i + 1
 
 pub record FeeTurns (journal : List ℤ) (f : Frame) (i : ℕ) (counts sums : List ℕ) (b : Bool) : Type 0 where
-  pub counted : b ≡ true → Counted journal counts (i + 1)
+  pub counted : b ≡ true → Counted (f .space) journal counts (i + 1)
   pub added : b ≡ true → Tallies journal (f .used) sums (i + 1)
   pub over : b ≡ false → feesFew (rowsOf journal (f .used)) ≡ false

@@ -7,13 +7,11 @@ use account_sums::add_source;
 use plain_rows::plain_row;
 use records::Row;
 use row_tests::held_toll;
-use sound_fees::COUNTS;
 use sound_fees::count_fee;
 use sound_header::frame::Frame;
 use sound_journal::other_stands;
 use sound_journal::payment_stands;
 use sound_journal::toll_stands;
-use sound_passages::passages::CELLS;
 use sound_passages::passages::plant_toll;
 use table_rows::row_numbered;
 use tables::codes::CHECK_RETURNED;
@@ -40,16 +38,16 @@ fn toll_turn(
     f: Frame,
     i: usize,
     r: Row,
-    cells: &mut [u16; CELLS],
+    cells: &mut [u16],
     sums: &mut [u64; SUMS],
 ) -> bool
-    requires { ⌜ Turn (now accounts) (now journal) f i r × (r .kind ≡ Toll) × Grown (now journal) (now cells) i × Tallies (now journal) (f .used) (now sums) i ⌝ }
+    requires { ⌜ Turn (now accounts) (now journal) f i r × (r .kind ≡ Toll) × Grown (f .space) (now journal) (now cells) i × Tallies (now journal) (f .used) (now sums) i ⌝ }
     ensures { λ b. ⌜ ((counts : List ℕ) → Turns (now (accounts .entry)) (now (journal .entry)) f i (now (cells .entry)) counts (now (sums .entry)) (now (cells .exit)) counts (now (sums .exit)) b) ⌝ }
 {
     if !toll_stands(accounts, f, r) {
         return false;
     }
-    if !plant_toll(journal, cells, i, r.reference) {
+    if !plant_toll(journal, cells, f.space, i, r.reference) {
         return false;
     }
     add_debit(sums, r, r.dispute == HELD);
@@ -62,10 +60,10 @@ fn fee_turn(
     f: Frame,
     i: usize,
     r: Row,
-    counts: &mut [u16; COUNTS],
+    counts: &mut [u16],
     sums: &mut [u64; SUMS],
 ) -> bool
-    requires { ⌜ FeeTurn (now journal) f i r × Counted (now journal) (now counts) i × Tallies (now journal) (f .used) (now sums) i × Addable (now sums) r ⌝ }
+    requires { ⌜ FeeTurn (now journal) f i r × Counted (f .space) (now journal) (now counts) i × Tallies (now journal) (f .used) (now sums) i × Addable (now sums) r ⌝ }
     ensures { λ b. ⌜ FeeTurns (now (journal .entry)) f i (now (counts .exit)) (now (sums .exit)) b ⌝ }
 {
     let named = row_numbered(journal, f.used, r.reference);
@@ -83,10 +81,10 @@ fn other_turn(
     f: Frame,
     i: usize,
     r: Row,
-    counts: &mut [u16; COUNTS],
+    counts: &mut [u16],
     sums: &mut [u64; SUMS],
 ) -> bool
-    requires { ⌜ Turn (now accounts) (now journal) f i r × (r .kind ≡ Toll → ⊥) × (r .kind ≡ Payment → ⊥) × Counted (now journal) (now counts) i × Tallies (now journal) (f .used) (now sums) i ⌝ }
+    requires { ⌜ Turn (now accounts) (now journal) f i r × (r .kind ≡ Toll → ⊥) × (r .kind ≡ Payment → ⊥) × Counted (f .space) (now journal) (now counts) i × Tallies (now journal) (f .used) (now sums) i ⌝ }
     ensures { λ b. ⌜ ((cells : List ℕ) → Turns (now (accounts .entry)) (now (journal .entry)) f i cells (now (counts .entry)) (now (sums .entry)) cells (now (counts .exit)) (now (sums .exit)) b) ⌝ }
 {
     if !other_stands(accounts, journal, f, (i + 1) as u64, r) {
@@ -109,8 +107,8 @@ fn turn(
     journal: &[i64],
     f: Frame,
     i: usize,
-    cells: &mut [u16; CELLS],
-    counts: &mut [u16; COUNTS],
+    cells: &mut [u16],
+    counts: &mut [u16],
     sums: &mut [u64; SUMS],
 ) -> bool
     requires { ⌜ Bounds (now accounts) (now journal) f × (i < f .used) × Walked (now accounts) (now journal) f (now cells) (now counts) (now sums) i ⌝ }
@@ -135,8 +133,8 @@ pub fn walk(
     accounts: &[i64],
     journal: &[i64],
     f: Frame,
-    cells: &mut [u16; CELLS],
-    counts: &mut [u16; COUNTS],
+    cells: &mut [u16],
+    counts: &mut [u16],
     sums: &mut [u64; SUMS],
 ) -> bool
     requires { ⌜ Bounds (now accounts) (now journal) f × Walked (now accounts) (now journal) f (now cells) (now counts) (now sums) 0 ⌝ }

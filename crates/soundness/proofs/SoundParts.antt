@@ -15,7 +15,7 @@ use Rattle.lists.proofs.TestLaws.{and-right}
 use Rattle.lists.proofs.ListLaws.{every-ext, every-and, every-tabulate, length-tabulate}
 use Rattle.records.specs.Layout.{dayPlace, usedPlace, headerSchedule, stagePlace, accountWidth, rowWidth}
 use Rattle.records.specs.Encoding.{word, rowAt, rowsOf, accountsOf}
-use Rattle.rules.specs.Limits.{finalDay}
+use Rattle.rules.specs.Limits.{mostRows, finalDay}
 use Rattle.rules.specs.Schedule.{scheduleFits}
 use Rattle.rules.specs.Book.{Book}
 use Rattle.rules.specs.Opening.{dayFits, sizesFit}
@@ -25,11 +25,10 @@ use Rattle.rules.proofs.StorableLaws.{between-le, schedule-storable}
 use Rattle.sound_header.specs.declared.frame.Frame.{Frame}
 use Rattle.sound_header.specs.Clauses.{ownWords, rowAlone, rowStands, rowsStand, restZero, tablesAt, Bounds}
 use Rattle.sound_header.proofs.LengthLaws.{lengths-known}
-use Rattle.sound_passages.specs.Trees.{passagesDiffer}
+use Rattle.sound_passages.specs.Trees.{passagesDiffer, Grown}
 use Rattle.sound_passages.proofs.PassageLaws.{clean-differ}
-use Rattle.sound_passages.proofs.TreeLaws.{grown-none}
-use Rattle.sound_fees.specs.Fees.{feesFew}
-use Rattle.sound_fees.proofs.FeeLaws.{counted-none, fees-few}
+use Rattle.sound_fees.specs.Fees.{feesFew, Counted}
+use Rattle.sound_fees.proofs.FeeLaws.{fees-few}
 use Rattle.soundness.specs.Book.{bookStands}
 use Rattle.sound_sums.specs.Accounts.{sumsAgree, accountStands, sumsAt, sumsOf, allAgree, accountsStand}
 use Rattle.sound_sums.proofs.AccountLaws.{all-stand}
@@ -131,7 +130,7 @@ module _ (h a j : List ℤ) (used today stage : ℕ) (f : Fit h a j used today s
       schedule-fits : scheduleFits (bookOf tables .schedule) ≡ true
       schedule-fits = unfold bookOf in (f .schedule)
 
-  pub fit-bounds : Bounds a j (record { count = length a / accountWidth; used = used; today = today; stage = stage })
+  pub fit-bounds : Bounds a j (record { count = length a / accountWidth; used = used; space = mostRows; today = today; stage = stage })
   unfolding dayFits scheduleFrom
   fit-bounds =
       let l = lengths-known h a j (f .lengths) in
@@ -139,6 +138,7 @@ module _ (h a j : List ℤ) (used today stage : ℕ) (f : Fit h a j used today s
       record {
         room = omega arith;
         few = omega arith;
+        held = omega arith;
         seats = omega arith;
         fewer = omega arith;
         day = between-le 1 finalDay today (f .day);
@@ -147,12 +147,16 @@ module _ (h a j : List ℤ) (used today stage : ℕ) (f : Fit h a j used today s
 
 -- ---- the rows once they are walked
 
--- no fees, sums or passage numbers before the first row
-pub walked-none : (accounts journal : List ℤ) (f : Frame) → Walked accounts journal f (replicate 32768 0) (replicate 8193 0) (replicate 1542 0) 0
-walked-none accounts journal f = record {
+-- arrays with space for fewer rows, but for the used ones
+pub bounds-space : (accounts journal : List ℤ) (f : Frame) → Bounds accounts journal f → (n : ℕ) → f .used ≤ n → Bounds accounts journal (record { count = f .count; used = f .used; space = n; today = f .today; stage = f .stage })
+bounds-space accounts journal f b n h = record { room = b .room; few = b .few; held = h; seats = b .seats; fewer = b .fewer; day = b .day; length = b .length }
+
+-- no sums before the first row
+pub walked-none : (accounts journal : List ℤ) (f : Frame) {cells counts : List ℕ} → Grown (f .space) journal cells 0 → Counted (f .space) journal counts 0 → Walked accounts journal f cells counts (replicate 1542 0) 0
+walked-none accounts journal f g c = record {
   stood = below-none _;
-  grown = grown-none journal 32768 refl;
-  fees = counted-none journal;
+  grown = g;
+  fees = c;
   tallies = tallies-none journal (f .used);
 }
 
@@ -183,4 +187,4 @@ module _ (accounts journal : List ℤ) (f : Frame) where
     unfolding bookStands allOf
     sums-decide =
         all-stand journal (f .used) sums (w .tallies) (f .today) accounts (f .count) (b .fewer)
-        ∙ rw (rows-stand, passages-differ, fees-few journal counts (f .used) (b .few) (w .fees), and-true)
+        ∙ rw (rows-stand, passages-differ, fees-few (f .space) journal counts (f .used) (b .held) (w .fees), and-true)

@@ -1,13 +1,13 @@
 // The check of a whole book: whether three lent tables of any lengths and contents are sound, in time that grows with the rows and
 // accounts. Uses lists, records, rules, tables and the crates of its clauses.
 use account_sums::SUMS;
-use sound_fees::COUNTS;
 use sound_header::frame::Frame;
 use sound_header::header::day_fits;
 use sound_header::header::lengths_fit;
 use sound_header::header::schedule_fits;
 use sound_journal::later_rows_zero;
 use sound_passages::passages::CELLS;
+use sound_passages::passages::ROW_CELLS;
 use sound_sums::accounts::all_agree;
 use sound_walk::walk;
 use tables::layout::ACCOUNT_WIDTH;
@@ -16,29 +16,78 @@ use tables::layout::HEADER_SCHEDULE;
 use tables::layout::ROW_WIDTH;
 use tables::layout::STAGE_PLACE;
 use tables::layout::USED_PLACE;
+use tables::limits::MOST_ROWS;
 use tables::words::get;
 ghost use mathlib.Core.Path.{_≡_};
-ghost use Rattle.records.specs.Encoding.{rowsOf, accountsOf};
+ghost use Prim.Native.Nat.{_≤_};
+ghost use Rattle.rules.specs.Limits.{mostRows};
 ghost use Rattle.rules.specs.Tables.{soundTables};
 ghost use Rattle.sound_header.specs.Clauses.{tablesAt, Bounds};
-ghost use Rattle.soundness.specs.Book.{bookStands};
+ghost use Rattle.sound_passages.specs.Trees.{Grown};
+ghost use Rattle.sound_fees.specs.Fees.{Counted};
+ghost use Rattle.soundness.specs.Book.{Stands};
 
-// The used rows and the accounts, once the lengths and the header are found fit: one pass over the rows, then the
-// sums of accounts that it leaves.
-fn book_stands(accounts: &[i64], journal: &[i64], f: Frame) -> bool
-    requires { ⌜ Bounds (now accounts) (now journal) f ⌝ }
-    ensures { λ b. ⌜ b ≡ bookStands (accountsOf (now (accounts .entry)) (f .count)) (rowsOf (now (journal .entry)) (f .used)) (f .today) (f .stage) ⌝ }
+// Up to as many rows are checked with small arrays: to clear those for the most rows would take longer than to check so few.
+const FEW_ROWS: usize = 1024;
+
+// The used rows and the accounts, with these arrays: one pass over the rows, then the sums of accounts that it leaves.
+fn stands_with(
+    accounts: &[i64],
+    journal: &[i64],
+    f: Frame,
+    cells: &mut [u16],
+    counts: &mut [u16],
+) -> bool
+    requires { ⌜ Bounds (now accounts) (now journal) f × Grown (f .space) (now journal) (now cells) 0 × Counted (f .space) (now journal) (now counts) 0 ⌝ }
+    ensures { λ b. ⌜ Stands (now (accounts .entry)) (now (journal .entry)) f b ⌝ }
 {
-    let mut cells = [0u16; CELLS];
-    let mut counts = [0u16; COUNTS];
     let mut sums = [0u64; SUMS];
-    if !walk(accounts, journal, f, &mut cells, &mut counts, &mut sums) {
+    if !walk(accounts, journal, f, cells, counts, &mut sums) {
         return false;
     }
     all_agree(accounts, f.count, f.today, &sums)
 }
 
-// Whether the tables are sound. It takes 92 KiB of the stack: 64 for passage numbers, 16 for fees, 12 for sums.
+// Few rows: 10 KiB of arrays.
+fn few_stand(accounts: &[i64], journal: &[i64], f: Frame) -> bool
+    requires { ⌜ Bounds (now accounts) (now journal) f × (f .used ≤ 1024) ⌝ }
+    ensures { λ b. ⌜ Stands (now (accounts .entry)) (now (journal .entry)) f b ⌝ }
+{
+    let mut cells = [0u16; FEW_ROWS * ROW_CELLS];
+    let mut counts = [0u16; FEW_ROWS + 1];
+    let few = Frame {
+        count: f.count,
+        used: f.used,
+        space: FEW_ROWS,
+        today: f.today,
+        stage: f.stage,
+    };
+    stands_with(accounts, journal, few, &mut cells, &mut counts)
+}
+
+// Any number of rows: 80 KiB.
+fn many_stand(accounts: &[i64], journal: &[i64], f: Frame) -> bool
+    requires { ⌜ Bounds (now accounts) (now journal) f × (f .space ≡ mostRows) ⌝ }
+    ensures { λ b. ⌜ Stands (now (accounts .entry)) (now (journal .entry)) f b ⌝ }
+{
+    let mut cells = [0u16; CELLS];
+    let mut counts = [0u16; MOST_ROWS + 1];
+    stands_with(accounts, journal, f, &mut cells, &mut counts)
+}
+
+// The used rows and the accounts, once the lengths and the header are found fit.
+fn book_stands(accounts: &[i64], journal: &[i64], f: Frame) -> bool
+    requires { ⌜ Bounds (now accounts) (now journal) f × (f .space ≡ mostRows) ⌝ }
+    ensures { λ b. ⌜ Stands (now (accounts .entry)) (now (journal .entry)) f b ⌝ }
+{
+    if f.used <= FEW_ROWS {
+        return few_stand(accounts, journal, f);
+    }
+    many_stand(accounts, journal, f)
+}
+
+// Whether the tables are sound. It takes 92 KiB of the stack, 64 for passage numbers, 16 for fees and 12 for sums; of at most FEW_ROWS rows
+// only 22 are cleared.
 pub fn sound(header: &[i64], accounts: &[i64], journal: &[i64]) -> bool
     ensures { λ b. ⌜ b ≡ soundTables (tablesAt (now (header .entry)) (now (accounts .entry)) (now (journal .entry))) ⌝ }
 {
@@ -63,6 +112,7 @@ pub fn sound(header: &[i64], accounts: &[i64], journal: &[i64]) -> bool
     let f = Frame {
         count: accounts.len() / ACCOUNT_WIDTH,
         used: used as usize,
+        space: MOST_ROWS,
         today,
         stage: get(header, HEADER_SCHEDULE + STAGE_PLACE),
     };

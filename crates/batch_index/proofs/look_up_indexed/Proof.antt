@@ -15,19 +15,19 @@ seat-word-requires-2 : tie.Need-seat-word-requires-2
 seat-word-requires-2 c κs = search needs
 
 get-requires : tie.Need-get-requires
-get-requires c κs = omega (arith, header-length _ (c .before .before .before .before .pre .0))
+get-requires c κs = omega (arith, header-length _ (c .before .before .before .before .before .pre .0))
 
 spot-requires : tie.Need-spot-requires
 spot-requires c κs =
-    let s = c .before .before .before .before .before in
+    let s = c .before .before .before .before .before .before in
     rw (c .get .ensures) (used-room _ (s .pre .0), used-small _ (s .pre .0), s .pre .1 .grown)
 
 returns : tie.Need-returns
 returns c =
-    let f = c .before .before .before .before in
+    let f = c .before .before .before .before .before in
     let s = f .before .before in
     looks-up-by _ _ _ (s .pre .1) _ _ _ _ _ (f .before .seat-word .ensures) (f .seat-word2 .ensures)
-    (λ k. spot-stands _ (s .pre .0) _ _ _ _ (c .before .get .ensures) (c .spot .ensures)) (λ k. absurd (omega (arith, c .before .before .if1 .taken)))
+    (λ k. spot-stands _ (s .pre .0) _ _ _ _ (c .before .get .ensures) (c .spot .ensures)) (λ k. absurd (omega (arith, c .before .before .before .if1 .taken)))
 
 account-numbered-requires : tie.Need-account-numbered-requires
 account-numbered-requires c κs = search needs

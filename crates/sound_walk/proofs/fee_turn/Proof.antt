@@ -16,19 +16,22 @@ row-numbered-requires c κs = search needs
 
 count-fee-requires : tie.Need-count-fee-requires
 count-fee-requires c κs =
-    let s = c .before .before in
+    let s = c .before .before .before in
     let t = s .pre .0 in
-    (omega (arith, t .earlier, t .inside, t .few), counts-fit (s .args .journal .now) (s .args .counts .now) (s .args .i) (s .pre .1) (s .args .r .reference) (omega (arith, t .earlier, t .inside, t .few)) (omega (arith, t .inside, t .few)))
+    (omega (arith, t .earlier, t .inside, t .held, s .pre .1 .tallied .sized), counts-fit (s .args .f .space) (s .args .journal .now) (s .args .counts .now) (s .args .i) (s .pre .1) (s .args .r .reference) (omega (arith, t .earlier, t .inside, t .held)) (omega (arith, t .inside, t .few)))
+
+same-length : tie.Need-same-length
+same-length c = search needs
 
 returns : tie.Need-returns
 returns c =
-    let n = c .before .before .before in
-    let s = n .before in
+    let n = c .before .before .before .before .before in
+    let s = n .before .before in
     let t = s .pre .0 in
     record {
       counted = λ e. absurd (false≢true e);
       added = λ e. absurd (false≢true e);
-      over = λ e. counted-over (s .args .journal .now) (s .args .counts .now) (s .args .i) (s .pre .1) (s .args .f .used) (s .args .r .reference) (rw (t .same) at (t .fee)) (rw (t .same)) (omega (arith, t .earlier, t .inside)) (t .few) (t .inside) (rw (n .row-numbered .ensures) at (sym (c .before .count-fee .ensures .few) ∙ not-true _ (c .if1 .taken)));
+      over = λ e. counted-over (s .args .f .space) (s .args .journal .now) (s .args .counts .now) (s .args .i) (s .pre .1) (s .args .f .used) (s .args .r .reference) (rw (t .same) at (t .fee)) (rw (t .same)) (omega (arith, t .earlier, t .inside)) (t .held) (t .inside) (rw (n .row-numbered .ensures) at (sym (c .before .before .before .count-fee .ensures .few) ∙ not-true _ (c .if1 .taken)));
     }
 
 held-toll-requires : tie.Need-held-toll-requires
@@ -37,15 +40,18 @@ held-toll-requires c κs = search needs
 add-debit-requires : tie.Need-add-debit-requires
 add-debit-requires c κs = search needs
 
+same-length-2 : tie.Need-same-length-2
+same-length-2 c = search needs
+
 returns-2 : tie.Need-returns-2
 returns-2 c =
     let l = c .before .before .before in
-    let n = l .before .before .before in
-    let s = n .before in
+    let n = l .before .before .before .before .before in
+    let s = n .before .before in
     let t = s .pre .0 in
     let k = t .fee in
     record {
-      counted = λ e. rw (l .before .count-fee .ensures .counted) (counted-fee (s .args .journal .now) (s .args .counts .now) (s .args .i) (s .pre .1) (s .args .f .used) (s .args .r .reference) (rw (t .same) at (t .fee)) (rw (t .same)) (omega (arith, t .earlier, t .inside)) (t .few) (rw (n .row-numbered .ensures) at (sym (l .before .count-fee .ensures .few) ∙ not-false _ (l .if1 .left))));
+      counted = λ e. rw (l .before .before .before .count-fee .ensures .counted) (counted-fee (s .args .f .space) (s .args .journal .now) (s .args .counts .now) (s .args .i) (s .pre .1) (s .args .f .used) (s .args .r .reference) (rw (t .same) at (t .fee)) (rw (t .same)) (omega (arith, t .earlier, t .inside)) (t .held) (rw (n .row-numbered .ensures) at (sym (l .before .before .before .count-fee .ensures .few) ∙ not-false _ (l .if1 .left))));
       added = λ e. rw (c .add-debit .ensures) (debit-added (s .args .journal .now) (s .args .f .used) (s .args .sums .now) (s .args .i) (s .pre .2) (s .args .r) (t .same) (s .pre .3) (c .before .held-toll .result)
           (c .before .held-toll .ensures ∙ rw (n .row-numbered .ensures) (fee-held (rowsOf (s .args .journal .now) (s .args .f .used)) (s .args .r) k)) (rw k) (rw k));
       over = λ e. absurd (true≢false e);
@@ -57,7 +63,9 @@ fee-turn-spec =
     (tie.spec
     row-numbered-requires
     count-fee-requires
+    same-length
     returns
     held-toll-requires
     add-debit-requires
+    same-length-2
     returns-2)

@@ -15,11 +15,11 @@ use Rattle.sound_walk.proofs.other_turn.Statement.{statement}
 use Rattle.sound_walk.proofs.other_turn.Tie as tie
 
 -- it stands, and is the table's row
-stood : (e : tie.Else1) → standsIn (e .before .before .args .accounts .now) (e .before .before .args .journal .now) (e .before .before .args .f) (e .before .before .args .i + 1) (e .before .before .args .r) ≡ true
+stood : (e : tie.Else1) → standsIn (e .before .before .before .args .accounts .now) (e .before .before .before .args .journal .now) (e .before .before .before .args .f) (e .before .before .before .args .i + 1) (e .before .before .before .args .r) ≡ true
 stood e = sym (e .before .other-stands .ensures) ∙ not-false _ (e .if1 .left)
 
-same : (e : tie.Else1) → e .before .before .args .r ≡ rowAt (e .before .before .args .journal .now) (e .before .before .args .i)
-same e = let s = e .before .before in row-same (s .args .accounts .now) (s .args .journal .now) (s .args .f) (s .args .i) (s .args .r) (s .pre .0) (stood e)
+same : (e : tie.Else1) → e .before .before .before .args .r ≡ rowAt (e .before .before .before .args .journal .now) (e .before .before .before .args .i)
+same e = let s = e .before .before .before in row-same (s .args .accounts .now) (s .args .journal .now) (s .args .f) (s .args .i) (s .args .r) (s .pre .0) (stood e)
 
 add-other-stands : tie.Need-add-other-stands
 add-other-stands c = search needs
@@ -29,32 +29,35 @@ other-stands-requires c κs = search needs
 
 returns : tie.Need-returns
 returns c =
-    let s = c .before .before in
+    let s = c .before .before .before in
     λ cells w. walks-bad (s .args .accounts .now) (s .args .journal .now) (s .args .f) (row-unfit (s .args .accounts .now) (s .args .journal .now) (s .args .f) (s .args .i) (s .args .r) (s .pre .0) (sym (c .before .other-stands .ensures) ∙ not-true _ (c .if1 .taken)))
 
 fee-turn-requires : tie.Need-fee-turn-requires
 fee-turn-requires c κs =
     let k = c .before .before .if2 .taken in
     let e = c .before .before .before .before in
-    let s = e .before .before in
+    let s = e .before .before .before in
     let t = s .pre .0 in
-    (record { room = t .bounds .room; few = t .bounds .few; inside = t .inside; same = same e; fee = k; earlier = row-earlier (s .args .accounts .now) (s .args .journal .now) (s .args .f) (s .args .i) (s .args .r) (s .pre .0) (stood e) k }, s .pre .3, s .pre .4, row-addable (s .args .accounts .now) (s .args .journal .now) (s .args .f) (s .args .i) (s .args .r) (s .pre .0) (stood e) (s .pre .4))
+    (record { room = t .bounds .room; few = t .bounds .few; held = t .bounds .held; inside = t .inside; same = same e; fee = k; earlier = row-earlier (s .args .accounts .now) (s .args .journal .now) (s .args .f) (s .args .i) (s .args .r) (s .pre .0) (stood e) k }, s .pre .3, s .pre .4, row-addable (s .args .accounts .now) (s .args .journal .now) (s .args .f) (s .args .i) (s .args .r) (s .pre .0) (stood e) (s .pre .4))
+
+same-length : tie.Need-same-length
+same-length c = search needs
 
 returns-2 : tie.Need-returns-2
 returns-2 c =
-    let f = c .fee-turn .ensures in
-    let e = c .before .before .before .before .before in
-    let s = e .before .before in
+    let f = c .before .before .fee-turn .ensures in
+    let e = c .before .before .before .before .before .before .before in
+    let s = e .before .before .before in
     λ cells w.
     record {
-      good = λ q. row-walks (s .args .accounts .now) (s .args .journal .now) (s .args .f) (s .args .i) (s .args .r) (s .pre .0) (stood e) w (grown-skip (s .args .journal .now) cells (s .args .i) (w .grown) (rw (same e) at (s .pre .1))) (f .counted q) (f .added q) .good refl;
+      good = λ q. row-walks (s .args .accounts .now) (s .args .journal .now) (s .args .f) (s .args .i) (s .args .r) (s .pre .0) (stood e) w (grown-skip (s .args .f .space) (s .args .journal .now) cells (s .args .i) (w .grown) (rw (same e) at (s .pre .1))) (f .counted q) (f .added q) .good refl;
       bad = λ q. unfit-fees (s .args .accounts .now) (s .args .journal .now) (s .args .f) (f .over q);
     }
 
 add-source-requires : tie.Need-add-source-requires
 add-source-requires c κs =
     let e = c .before .before .before .before .before in
-    let s = e .before .before in
+    let s = e .before .before .before in
     row-addable (s .args .accounts .now) (s .args .journal .now) (s .args .f) (s .args .i) (s .args .r) (s .pre .0) (stood e) (s .pre .4)
 
 returns-3 : tie.Need-returns-3
@@ -62,28 +65,28 @@ returns-3 c =
     let k = c .before .before .if3 .taken in
     let q = c .before .before .before .before .if2 .left in
     let e = c .before .before .before .before .before .before in
-    let s = e .before .before in
+    let s = e .before .before .before in
     let a = row-addable (s .args .accounts .now) (s .args .journal .now) (s .args .f) (s .args .i) (s .args .r) (s .pre .0) (stood e) (s .pre .4) in
     let d = source-added (s .args .journal .now) (s .args .f .used) (s .args .sums .now) (s .args .i) (s .pre .4) (s .args .r) (same e) a false (rw k) (rw k) in
     λ cells w.
-    row-walks (s .args .accounts .now) (s .args .journal .now) (s .args .f) (s .args .i) (s .args .r) (s .pre .0) (stood e) w (grown-skip (s .args .journal .now) cells (s .args .i) (w .grown) (rw (same e) at (s .pre .1))) (counted-skip (s .args .journal .now) (s .args .counts .now) (s .args .i) (w .fees) (rw (same e) at q)) (rw (c .add-source .ensures) d)
+    row-walks (s .args .accounts .now) (s .args .journal .now) (s .args .f) (s .args .i) (s .args .r) (s .pre .0) (stood e) w (grown-skip (s .args .f .space) (s .args .journal .now) cells (s .args .i) (w .grown) (rw (same e) at (s .pre .1))) (counted-skip (s .args .f .space) (s .args .journal .now) (s .args .counts .now) (s .args .i) (w .fees) (rw (same e) at q)) (rw (c .add-source .ensures) d)
 
 add-debit-requires : tie.Need-add-debit-requires
 add-debit-requires c κs =
     let e = c .before .before .before .before .before in
-    let s = e .before .before in
+    let s = e .before .before .before in
     row-addable (s .args .accounts .now) (s .args .journal .now) (s .args .f) (s .args .i) (s .args .r) (s .pre .0) (stood e) (s .pre .4)
 
 returns-4 : tie.Need-returns-4
 returns-4 c =
     let q = c .before .before .before .before .if2 .left in
     let e = c .before .before .before .before .before .before in
-    let s = e .before .before in
+    let s = e .before .before .before in
     let a = row-addable (s .args .accounts .now) (s .args .journal .now) (s .args .f) (s .args .i) (s .args .r) (s .pre .0) (stood e) (s .pre .4) in
     let n = no-source (s .args .r) (s .pre .2) (c .before .before .if3 .left) in
     let d = debit-added (s .args .journal .now) (s .args .f .used) (s .args .sums .now) (s .args .i) (s .pre .4) (s .args .r) (same e) a false (none-held (rowsOf (s .args .journal .now) (s .args .f .used)) (s .args .r) (s .pre .1) q) n (row-debit (s .args .accounts .now) (s .args .journal .now) (s .args .f) (s .args .i) (s .args .r) (s .pre .0) (stood e) n) in
     λ cells w.
-    row-walks (s .args .accounts .now) (s .args .journal .now) (s .args .f) (s .args .i) (s .args .r) (s .pre .0) (stood e) w (grown-skip (s .args .journal .now) cells (s .args .i) (w .grown) (rw (same e) at (s .pre .1))) (counted-skip (s .args .journal .now) (s .args .counts .now) (s .args .i) (w .fees) (rw (same e) at q)) (rw (c .add-debit .ensures) d)
+    row-walks (s .args .accounts .now) (s .args .journal .now) (s .args .f) (s .args .i) (s .args .r) (s .pre .0) (stood e) w (grown-skip (s .args .f .space) (s .args .journal .now) cells (s .args .i) (w .grown) (rw (same e) at (s .pre .1))) (counted-skip (s .args .f .space) (s .args .journal .now) (s .args .counts .now) (s .args .i) (w .fees) (rw (same e) at q)) (rw (c .add-debit .ensures) d)
 
 pub other-turn-spec : {M : Type 1} → statement M
 other-turn-spec =
@@ -93,6 +96,7 @@ other-turn-spec =
     other-stands-requires
     returns
     fee-turn-requires
+    same-length
     returns-2
     add-source-requires
     returns-3

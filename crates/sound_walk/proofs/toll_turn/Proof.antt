@@ -14,50 +14,56 @@ use Rattle.sound_walk.proofs.toll_turn.Statement.{statement}
 use Rattle.sound_walk.proofs.toll_turn.Tie as tie
 
 -- it stands, and is the table's row
-stood : (e : tie.Else1) → standsIn (e .before .before .args .accounts .now) (e .before .before .args .journal .now) (e .before .before .args .f) (e .before .before .args .i + 1) (e .before .before .args .r) ≡ true
+stood : (e : tie.Else1) → standsIn (e .before .before .before .args .accounts .now) (e .before .before .before .args .journal .now) (e .before .before .before .args .f) (e .before .before .before .args .i + 1) (e .before .before .before .args .r) ≡ true
 stood e = sym (e .before .toll-stands .ensures _ _) ∙ not-false _ (e .if1 .left)
 
-same : (e : tie.Else1) → e .before .before .args .r ≡ rowAt (e .before .before .args .journal .now) (e .before .before .args .i)
-same e = let s = e .before .before in row-same (s .args .accounts .now) (s .args .journal .now) (s .args .f) (s .args .i) (s .args .r) (s .pre .0) (stood e)
+same : (e : tie.Else1) → e .before .before .before .args .r ≡ rowAt (e .before .before .before .args .journal .now) (e .before .before .before .args .i)
+same e = let s = e .before .before .before in row-same (s .args .accounts .now) (s .args .journal .now) (s .args .f) (s .args .i) (s .args .r) (s .pre .0) (stood e)
 
 toll-stands-requires : tie.Need-toll-stands-requires
 toll-stands-requires c κs = search needs
 
 returns : tie.Need-returns
 returns c =
-    let s = c .before .before in
+    let s = c .before .before .before in
     λ counts w. walks-bad (s .args .accounts .now) (s .args .journal .now) (s .args .f) (row-unfit (s .args .accounts .now) (s .args .journal .now) (s .args .f) (s .args .i) (s .args .r) (s .pre .0) (sym (c .before .toll-stands .ensures _ _) ∙ not-true _ (c .if1 .taken)))
 
 plant-toll-requires : tie.Need-plant-toll-requires
 plant-toll-requires c κs =
     let e = c .before in
-    let s = e .before .before in
+    let s = e .before .before .before in
     let b = s .pre .0 .bounds in
     let h = s .pre .0 .inside in
-    (omega (arith, b .room), omega (arith, b .few), s .pre .2, rw (same e) at (s .pre .1), rw (same e))
+    (omega (arith, b .room), omega (arith, b .held), s .pre .2, rw (same e) at (s .pre .1), rw (same e))
+
+same-length : tie.Need-same-length
+same-length c = search needs
 
 returns-2 : tie.Need-returns-2
 returns-2 c =
-    let s = c .before .before .before .before .before in
-    λ counts w. walks-bad (s .args .accounts .now) (s .args .journal .now) (s .args .f) (unfit-passage (s .args .accounts .now) (s .args .journal .now) (s .args .f) (c .before .plant-toll .ensures .bad (not-true _ (c .if2 .taken)) (s .args .f .used) (s .pre .0 .inside)))
+    let s = c .before .before .before .before .before .before .before .before in
+    λ counts w. walks-bad (s .args .accounts .now) (s .args .journal .now) (s .args .f) (unfit-passage (s .args .accounts .now) (s .args .journal .now) (s .args .f) (c .before .before .before .plant-toll .ensures .bad (not-true _ (c .if2 .taken)) (s .args .f .used) (s .pre .0 .inside)))
 
 add-debit-requires : tie.Need-add-debit-requires
 add-debit-requires c κs =
-    let e = c .before .before .before .before .before in
-    let s = e .before .before in
+    let e = c .before .before .before .before .before .before .before in
+    let s = e .before .before .before in
     row-addable (s .args .accounts .now) (s .args .journal .now) (s .args .f) (s .args .i) (s .args .r) (s .pre .0) (stood e) (s .pre .3)
+
+same-length-2 : tie.Need-same-length-2
+same-length-2 c = search needs
 
 returns-3 : tie.Need-returns-3
 returns-3 c =
     let l = c .before .before .before in
-    let e = l .before .before .before in
-    let s = e .before .before in
+    let e = l .before .before .before .before .before in
+    let s = e .before .before .before in
     let k = s .pre .1 in
     let a = row-addable (s .args .accounts .now) (s .args .journal .now) (s .args .f) (s .args .i) (s .args .r) (s .pre .0) (stood e) (s .pre .3) in
     let d = debit-added (s .args .journal .now) (s .args .f .used) (s .args .sums .now) (s .args .i) (s .pre .3) (s .args .r) (same e) a _ (toll-held (rowsOf (s .args .journal .now) (s .args .f .used)) (s .args .r) k) (rw k) (rw k) in
     λ counts w.
-    row-walks (s .args .accounts .now) (s .args .journal .now) (s .args .f) (s .args .i) (s .args .r) (s .pre .0) (stood e) w (l .before .plant-toll .ensures .good (not-false _ (l .if2 .left)))
-    (counted-skip (s .args .journal .now) counts (s .args .i) (w .fees) (λ z. omega (arith, rw (same e) at k))) (rw (c .add-debit .ensures) d)
+    row-walks (s .args .accounts .now) (s .args .journal .now) (s .args .f) (s .args .i) (s .args .r) (s .pre .0) (stood e) w (l .before .before .before .plant-toll .ensures .good (not-false _ (l .if2 .left)))
+    (counted-skip (s .args .f .space) (s .args .journal .now) counts (s .args .i) (w .fees) (λ z. omega (arith, rw (same e) at k))) (rw (c .add-debit .ensures) d)
 
 pub toll-turn-spec : {M : Type 1} → statement M
 toll-turn-spec =
@@ -66,6 +72,8 @@ toll-turn-spec =
     toll-stands-requires
     returns
     plant-toll-requires
+    same-length
     returns-2
     add-debit-requires
+    same-length-2
     returns-3)

@@ -15,11 +15,11 @@ use borrow.Author.Needs.{needs}
 use Rattle.sound_walk.proofs.turn.Statement.{statement}
 use Rattle.sound_walk.proofs.turn.Tie as tie
 
-here : (p : tie.After-plain-row) → Turn (p .before .args .accounts .now) (p .before .args .journal .now) (p .before .args .f) (p .before .args .i) (p .plain-row .result)
-here p = record { bounds = p .before .pre .0; inside = p .before .pre .1; alike = p .plain-row .ensures }
+here : (p : tie.After-plain-row) → Turn (p .before .before .before .args .accounts .now) (p .before .before .before .args .journal .now) (p .before .before .before .args .f) (p .before .before .before .args .i) (p .plain-row .result)
+here p = record { bounds = p .before .before .before .pre .0; inside = p .before .before .before .pre .1; alike = p .plain-row .ensures }
 
 -- a payment that stands
-stood : (e : tie.Else3) → (let p = e .before .before .before .before .before .before in standsIn (p .before .args .accounts .now) (p .before .args .journal .now) (p .before .args .f) (p .before .args .i + 1) (p .plain-row .result) ≡ true)
+stood : (e : tie.Else3) → (let p = e .before .before .before .before .before .before in standsIn (p .before .before .before .args .accounts .now) (p .before .before .before .args .journal .now) (p .before .before .before .args .f) (p .before .before .before .args .i + 1) (p .plain-row .result) ≡ true)
 stood e = sym (e .before .payment-stands .ensures _ _) ∙ not-false _ (e .if3 .left)
 
 plain-row-requires : tie.Need-plain-row-requires
@@ -28,14 +28,20 @@ plain-row-requires c κs = search needs
 toll-turn-requires : tie.Need-toll-turn-requires
 toll-turn-requires c κs = search needs
 
+same-length : tie.Need-same-length
+same-length c = search needs
+
 returns : tie.Need-returns
-returns c = c .toll-turn .ensures _ (c .before .before .before .before .before .before .pre .2)
+returns c = c .before .before .toll-turn .ensures _ (c .before .before .before .before .before .before .before .before .before .before .pre .2)
 
 other-turn-requires : tie.Need-other-turn-requires
 other-turn-requires c κs = search needs
 
+same-length-2 : tie.Need-same-length-2
+same-length-2 c = search needs
+
 returns-2 : tie.Need-returns-2
-returns-2 c = c .other-turn .ensures _ (c .before .before .before .before .before .before .before .before .pre .2)
+returns-2 c = c .before .before .other-turn .ensures _ (c .before .before .before .before .before .before .before .before .before .before .before .before .pre .2)
 
 payment-stands-requires : tie.Need-payment-stands-requires
 payment-stands-requires c κs = search needs
@@ -43,28 +49,28 @@ payment-stands-requires c κs = search needs
 returns-3 : tie.Need-returns-3
 returns-3 c =
     let p = c .before .before .before .before .before .before in
-    let s = p .before in
+    let s = p .before .before .before in
     walks-bad (s .args .accounts .now) (s .args .journal .now) (s .args .f) (row-unfit (s .args .accounts .now) (s .args .journal .now) (s .args .f) (s .args .i) (p .plain-row .result) (here p) (sym (c .before .payment-stands .ensures _ _) ∙ not-true _ (c .if3 .taken)))
 
 add-source-requires : tie.Need-add-source-requires
 add-source-requires c κs =
     let e = c .before .before in
     let p = e .before .before .before .before .before .before in
-    let s = p .before in
+    let s = p .before .before .before in
     row-addable (s .args .accounts .now) (s .args .journal .now) (s .args .f) (s .args .i) (p .plain-row .result) (here p) (stood e) (s .pre .2 .tallies)
 
 returns-4 : tie.Need-returns-4
 returns-4 c =
     let e = c .before .before .before in
     let p = e .before .before .before .before .before .before in
-    let s = p .before in
+    let s = p .before .before .before in
     let w = s .pre .2 in
     let k = e .before .before .if2 .left in
     let same = row-same (s .args .accounts .now) (s .args .journal .now) (s .args .f) (s .args .i) (p .plain-row .result) (here p) (stood e) in
     let z = rw same at k in
     let a = row-addable (s .args .accounts .now) (s .args .journal .now) (s .args .f) (s .args .i) (p .plain-row .result) (here p) (stood e) (w .tallies) in
     let d = source-added (s .args .journal .now) (s .args .f .used) (s .args .sums .now) (s .args .i) (w .tallies) (p .plain-row .result) same a (eqb (p .plain-row .result .mark) 4) (rw k) (rw k) in
-    row-walks (s .args .accounts .now) (s .args .journal .now) (s .args .f) (s .args .i) (p .plain-row .result) (here p) (stood e) w (grown-skip (s .args .journal .now) (s .args .cells .now) (s .args .i) (w .grown) (λ y. omega arith)) (counted-skip (s .args .journal .now) (s .args .counts .now) (s .args .i) (w .fees) (λ y. omega arith)) (rw (c .add-source .ensures) d)
+    row-walks (s .args .accounts .now) (s .args .journal .now) (s .args .f) (s .args .i) (p .plain-row .result) (here p) (stood e) w (grown-skip (s .args .f .space) (s .args .journal .now) (s .args .cells .now) (s .args .i) (w .grown) (λ y. omega arith)) (counted-skip (s .args .f .space) (s .args .journal .now) (s .args .counts .now) (s .args .i) (w .fees) (λ y. omega arith)) (rw (c .add-source .ensures) d)
 
 pub turn-spec : {M : Type 1} → statement M
 turn-spec =
@@ -72,8 +78,10 @@ turn-spec =
     (tie.spec
     plain-row-requires
     toll-turn-requires
+    same-length
     returns
     other-turn-requires
+    same-length-2
     returns-2
     payment-stands-requires
     returns-3

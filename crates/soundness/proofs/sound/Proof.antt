@@ -7,7 +7,7 @@ use Rattle.rules.specs.Opening.{dayFits}
 use Rattle.records.specs.Encoding.{word}
 use borrow.Author.Tests.{not-true, not-false, lt-leb}
 use mathlib.Core.Bool.{true, false}
-use mathlib.Core.Path.{_≡_, sym, ap, _∙_}
+use mathlib.Core.Path.{_≡_, refl, sym, ap, _∙_}
 use native.Mathlib.Omega.{arith}
 use Prim.Native.Nat.{_≤_, _<_}
 use borrow.Author.Needs.{needs}
@@ -96,7 +96,7 @@ get-requires-3 c κs = omega (arith, lengths (c .before .before .before .before 
 book-stands-requires : tie.Need-book-stands-requires
 book-stands-requires c κs =
     let s = c .before .before .before .before .before .before .before .before .before .before .before .before in
-    fit-bounds (s .args .header .now) (s .args .accounts .now) (s .args .journal .now) _ _ _ (fit c)
+    (fit-bounds (s .args .header .now) (s .args .accounts .now) (s .args .journal .now) _ _ _ (fit c), refl)
 
 returns-6 : tie.Need-returns-6
 returns-6 c =

@@ -9,7 +9,9 @@ kind-at-requires : tie.Need-kind-at-requires
 kind-at-requires c κs = search needs
 
 returns : tie.Need-returns
-returns c = record { good = λ e. grown-skip _ _ _ (c .before .before .pre .2) (rw (c .before .kind-at .ensures) at (c .if1 .taken)); bad = λ e. absurd (true≢false e) }
+returns c =
+    let s = c .before .before .before in
+    record { good = λ e. grown-skip _ _ _ _ (s .pre .2) (rw (c .before .kind-at .ensures) at (c .if1 .taken)); bad = λ e. absurd (true≢false e) }
 
 reference-at-requires : tie.Need-reference-at-requires
 reference-at-requires c κs = search needs
@@ -17,10 +19,19 @@ reference-at-requires c κs = search needs
 plant-toll-requires : tie.Need-plant-toll-requires
 plant-toll-requires c κs = search needs
 
+same-length : tie.Need-same-length
+same-length c = search needs
+
 returns-2 : tie.Need-returns-2
 returns-2 c = search needs
 
 pub plant-spec : {M : Type 1} → statement M
 plant-spec =
     tie.close
-    (tie.spec kind-at-requires returns reference-at-requires plant-toll-requires returns-2)
+    (tie.spec
+    kind-at-requires
+    returns
+    reference-at-requires
+    plant-toll-requires
+    same-length
+    returns-2)

@@ -1,5 +1,6 @@
 -- `plant_toll` meets its contract: the toll grows the trees by its cell, or clashes.
 use Rattle.sound_passages.proofs.TreeLaws.{grown-add, taken-same}
+use native.Mathlib.Omega.{arith}
 use mathlib.Core.Bool.{true≢false, false≢true}
 use borrow.Author.Needs.{needs}
 use Rattle.sound_passages.proofs.passages.plant_toll.Statement.{statement}
@@ -8,13 +9,16 @@ use Rattle.sound_passages.proofs.passages.plant_toll.Tie as tie
 spot-requires : tie.Need-spot-requires
 spot-requires c κs = search needs
 
+same-length : tie.Need-same-length
+same-length c = search needs
+
 returns : tie.Need-returns
 returns c =
     let p = c .before in
-    let s = p .before .before in
+    let s = p .before .before .before in
     record {
       good = λ e. absurd (false≢true e);
-      bad = λ e. taken-same (s .args .journal .now) (s .args .cells .now) (s .args .n) (p .spot .result) (s .pre .3) (c .if1 .taken) (rw (← s .pre .4) at (p .spot .ensures));
+      bad = λ e. taken-same (s .args .space) (s .args .journal .now) (s .args .cells .now) (s .args .n) (p .spot .result) (s .pre .3) (c .if1 .taken) (rw (← s .pre .4) at (p .spot .ensures));
     }
 
 add-cells : tie.Need-add-cells
@@ -26,19 +30,34 @@ cast-cells c = search needs
 mul-cells : tie.Need-mul-cells
 mul-cells c = search needs
 
-element-write-cells : tie.Need-element-write-cells
-element-write-cells c = search needs
+slice-write-cells : tie.Need-slice-write-cells
+slice-write-cells c =
+    let p = c .before in
+    let s = p .before .before .before in
+    omega (arith, s .pre .2 .size, p .spot .ensures .low (c .if1 .left))
+
+same-length-2 : tie.Need-same-length-2
+same-length-2 c = search needs
 
 returns-2 : tie.Need-returns-2
 returns-2 c =
     let p = c .before in
-    let s = p .before .before in
+    let s = p .before .before .before in
     record {
-      good = λ e. grown-add (s .args .journal .now) (s .args .cells .now) (s .args .n) (p .spot .result) (s .pre .2) (s .pre .3) (c .if1 .left) (rw (← s .pre .4) at (p .spot .ensures));
+      good = λ e. grown-add (s .args .space) (s .args .journal .now) (s .args .cells .now) (s .args .n) (p .spot .result) (s .pre .2) (s .pre .1) (s .pre .3) (c .if1 .left) (rw (← s .pre .4) at (p .spot .ensures));
       bad = λ e. absurd (true≢false e);
     }
 
 pub plant-toll-spec : {M : Type 1} → statement M
 plant-toll-spec =
     tie.close
-    (tie.spec spot-requires returns add-cells cast-cells mul-cells element-write-cells returns-2)
+    (tie.spec
+    spot-requires
+    same-length
+    returns
+    add-cells
+    cast-cells
+    mul-cells
+    slice-write-cells
+    same-length-2
+    returns-2)

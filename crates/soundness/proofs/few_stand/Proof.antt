@@ -1,0 +1,32 @@
+-- `few_stand` meets its contract: the arrays have space for FEW_ROWS rows, and no more are used.
+use Rattle.soundness.proofs.SoundParts.{bounds-space}
+use Rattle.sound_passages.proofs.TreeLaws.{grown-none}
+use Rattle.sound_fees.proofs.FeeLaws.{counted-none}
+use mathlib.Core.Path.{refl}
+use native.Mathlib.Omega.{arith}
+use borrow.Author.Needs.{needs}
+use Rattle.soundness.proofs.few_stand.Statement.{statement}
+use Rattle.soundness.proofs.few_stand.Tie as tie
+
+slice-aggregate-stands-with : tie.Need-slice-aggregate-stands-with
+slice-aggregate-stands-with c = search needs
+
+slice-aggregate-stands-with-2 : tie.Need-slice-aggregate-stands-with-2
+slice-aggregate-stands-with-2 c = search needs
+
+stands-with-requires : tie.Need-stands-with-requires
+stands-with-requires c κs =
+    let s = c .before .before in
+    (bounds-space (s .args .accounts .now) (s .args .journal .now) (s .args .f) (s .pre .0) 1024 (s .pre .1), grown-none 1024 _ 4096 refl (omega arith) (omega arith), counted-none 1024 _ 1025 refl)
+
+returns : tie.Need-returns
+returns c = search needs
+
+pub few-stand-spec : {M : Type 1} → statement M
+few-stand-spec =
+    tie.close
+    (tie.spec
+    slice-aggregate-stands-with
+    slice-aggregate-stands-with-2
+    stands-with-requires
+    returns)

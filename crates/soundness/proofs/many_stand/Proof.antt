@@ -1,0 +1,31 @@
+-- `many_stand` meets its contract: the arrays have space for the most rows.
+use Rattle.sound_passages.proofs.TreeLaws.{grown-none}
+use Rattle.sound_fees.proofs.FeeLaws.{counted-none}
+use mathlib.Core.Path.{refl}
+use native.Mathlib.Omega.{arith}
+use borrow.Author.Needs.{needs}
+use Rattle.soundness.proofs.many_stand.Statement.{statement}
+use Rattle.soundness.proofs.many_stand.Tie as tie
+
+slice-aggregate-stands-with : tie.Need-slice-aggregate-stands-with
+slice-aggregate-stands-with c = search needs
+
+slice-aggregate-stands-with-2 : tie.Need-slice-aggregate-stands-with-2
+slice-aggregate-stands-with-2 c = search needs
+
+stands-with-requires : tie.Need-stands-with-requires
+stands-with-requires c κs =
+    let s = c .before .before in
+    (s .pre .0, rw (s .pre .1) (grown-none 8192 _ 32768 refl (omega arith) (omega arith)), rw (s .pre .1) (counted-none 8192 _ 8193 refl))
+
+returns : tie.Need-returns
+returns c = search needs
+
+pub many-stand-spec : {M : Type 1} → statement M
+many-stand-spec =
+    tie.close
+    (tie.spec
+    slice-aggregate-stands-with
+    slice-aggregate-stands-with-2
+    stands-with-requires
+    returns)
