@@ -4,7 +4,7 @@ use native.Mathlib.Omega.{arith}
 use native.Mathlib.Decide.{ℕ-discrete}
 use mathlib.Core.Path.{_≡_, refl, sym, _∙_}
 use mathlib.Core.Logic.{_≢_}
-use mathlib.Core.Bool.{Bool, true, false, cond, not, _&&_, _||_, and-assoc, and-false, true≢false, false≢true}
+use mathlib.Core.Bool.{Bool, true, false, cond, not, _&&_, and-assoc, and-false, false≢true}
 use mathlib.Core.List.{List}
 use lib.Dec.{eqb, leb}
 use borrow.Author.Tests.{eq-eqb, ne-eqb, eqb-false, leb-true}
@@ -12,7 +12,7 @@ use lib.IntN.{ℤ}
 use lib.ListN.{getD, set}
 use Rattle.lists.specs.Tests.{_is_}
 use Rattle.lists.specs.Lists.{only}
-use Rattle.lists.proofs.TestLaws.{and-left, and-right}
+use Rattle.lists.proofs.TestLaws.{and-left, and-right, or-left, or-right}
 use Rattle.records.specs.Encoding.{rowAt}
 use Rattle.rules.specs.Limits.{highestRefund}
 use Rattle.rules.specs.Rows.{Row, Test, Payment, remaining, source, debit, held, sourceOf, debitOf, payable}
@@ -110,14 +110,6 @@ source-no-debit r e =
         | no w ↦ absurd (false≢true (simp (ne-eqb (r .kind) 4 v, ne-eqb (r .kind) 5 w) at e))
       ]
     ]
-
-or-left : (a b : Bool) → a || b ≡ false → a ≡ false
-or-left true b e = e
-or-left false b e = refl
-
-or-right : (a b : Bool) → a || b ≡ false → b ≡ false
-or-right true b e = absurd (true≢false e)
-or-right false b e = e
 
 pub no-source-debit : (r : Row) → kindFits r ≡ true → source r ≡ false → debit r ≡ true
 unfolding kindFits

@@ -1,17 +1,17 @@
 -- Laws of arrays of sums over the first rows.
-use Prim.Native.Nat.{ℕ, zero, suc, _+_, _*_, _≤_, _<_}
+use Prim.Native.Nat.{ℕ, _+_, _*_, _≤_, _<_}
 use native.Mathlib.Omega.{arith}
 use native.Mathlib.Decide.{ℕ-discrete}
-use mathlib.Core.Path.{_≡_, refl, sym, ap, _∙_}
+use mathlib.Core.Path.{_≡_, _∙_}
 use mathlib.Core.Logic.{_≢_}
-use mathlib.Core.List.{List, [], _∷_, _++_}
+use mathlib.Core.List.{List}
 use lib.IntN.{ℤ}
 use lib.ListN.{length, getD, set, replicate, length-set, length-replicate}
 use lib.Seq.{getD-set-same, getD-set-other}
 use Rattle.lists.specs.Lists.{sumBy, tabulate}
 use Rattle.lists.proofs.ListLaws.{zeros}
 use Rattle.lists.proofs.SumLaws.{sumBy-more, sumBy-small}
-use Rattle.records.specs.Encoding.{rowAt, rowsOf}
+use Rattle.records.specs.Encoding.{rowAt}
 use Rattle.rules.specs.Rows.{Row}
 use Rattle.account_sums.specs.Tallies.{Tallied}
 

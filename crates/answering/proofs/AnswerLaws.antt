@@ -1,7 +1,7 @@
 -- The answer of any event on a sound book is small, so that a signed word can hold each of its words.
 use mathlib.Core.Path.{_≡_, refl, _∙_}
 use mathlib.Core.Bool.{Bool, true, false}
-use Prim.Native.Nat.{ℕ, _+_, _-_, _≤_}
+use Prim.Native.Nat.{ℕ, _+_, _≤_}
 use native.Mathlib.Omega.{arith}
 use mathlib.Core.List.{[], _∷_, map}
 use lib.ListN.{length, length-map}

@@ -9,7 +9,7 @@ use lib.Dec.{eqb}
 use borrow.Author.Tests.{eq-eqb, ne-eqb}
 use Rattle.records.specs.Encoding.{rowAt, rowsOf}
 use Rattle.lists.specs.Lists.{sumBy, only, tabulate}
-use Rattle.lists.proofs.SumLaws.{sumBy-more, sumBy-small}
+use Rattle.lists.proofs.SumLaws.{sumBy-more, sumBy-small, only-le}
 use Rattle.rules.specs.Limits.{highestRefund}
 use Rattle.rules.specs.Rows.{Row, Test, source, debit, sourceOf, debitOf}
 use Rattle.rules.specs.Book.{sources, debits}
@@ -49,17 +49,9 @@ module _ (t : List ℤ) (a i : ℕ) (s : Sums) (e : Summed t a i s) (n : ℕ) (k
 
 -- ---- the sums fit
 
-amountIf-le : (t : Test) (r : Row) → amountIf t r ≤ r .amount
-unfolding only
-amountIf-le t r = go (t r)
-  where
-    go : (b : Bool) → cond b (r .amount) 0 ≤ r .amount
-    go true = omega arith
-    go false = omega arith
-
 module _ (j : List ℤ) (used : ℕ) (m : Amounts j used) where
   sum-small : (t : Test) (n : ℕ) → n ≤ used → sumBy (amountIf t) (rowsOf j n) ≤ n * highestRefund
-  sum-small t n h = sumBy-small (amountIf t) (rowAt j) highestRefund n (λ k l. omega (arith, amountIf-le t (rowAt j k), m .small k (omega arith)))
+  sum-small t n h = sumBy-small (amountIf t) (rowAt j) highestRefund n (λ k l. omega (arith, only-le t (λ x. x .amount) (rowAt j k), m .small k (omega arith)))
 
   -- what row i adds to either sum fits
   module _ (a i : ℕ) (h : i < used) (s : Sums) (e : Summed j a i s) (r : Row) (x : r ≡ rowAt j i) (v : Bool) where

@@ -1,30 +1,24 @@
 -- Whether a top-up is due, from what is read of sound tables.
 use mathlib.Core.Path.{_≡_, sym, _∙_}
-use mathlib.Core.Bool.{Bool, true, false, not, _&&_}
+use mathlib.Core.Bool.{Bool, true, false, _&&_}
 use Prim.Native.Nat.{ℕ, _+_, _^_, _<_}
 use native.Mathlib.Omega.{arith}
-use lib.Dec.{leb, ltb}
 use Rattle.records.specs.Layout.{dayPlace}
 use Rattle.records.specs.Encoding.{word, accountsOf}
-use Rattle.lists.specs.Tests.{_is_}
-use Rattle.rules.specs.Book.{Account, Open, account, accountNo, lowBalance, topUpDue}
+use Rattle.rules.specs.Book.{Account, account, accountNo, lowBalance, topUpDue}
 use Rattle.rules.specs.Tables.{Tables, accountsIn, rowsUsed, bookOf, soundTables}
 use Rattle.rules.proofs.TableLaws.{sound-rows}
 use Rattle.balances.specs.declared.Sums.{Sums}
-use Rattle.balances.specs.Summed.{Summed}
+use Rattle.balances.specs.Summed.{Summed, mayTopUp, isLow}
 use Rattle.balances.proofs.AmountLaws.{sums-fit}
 use Rattle.posting.proofs.BookLaws.{account-read, day-read, account-holds, journal-summable}
-
--- all but the balance
-abbrev mayTopUp : Account → ℕ → Bool
-mayTopUp x today = x .state is Open && ltb 0 (x .topup) && not (x .declined is today)
 
 module _ (t : Tables) (s : soundTables t ≡ true) (n : ℕ) (x : Account) (e : x ≡ accountNo (accountsOf (t .accounts) (accountsIn t)) n) where
   read : x ≡ account (bookOf t) n
   read = e ∙ account-read t s n
 
   due-at : (today : ℕ) → today ≡ word (t .header) dayPlace → (b : Bool) → mayTopUp x today ≡ b → topUpDue (bookOf t) n ≡ b && lowBalance (bookOf t) n
-  unfolding topUpDue
+  unfolding topUpDue mayTopUp
   due-at today d b m = rw (← read, ← day-read t s, ← d, m)
 
   pub not-due : (today : ℕ) → today ≡ word (t .header) dayPlace → mayTopUp x today ≡ false → false ≡ topUpDue (bookOf t) n
@@ -36,6 +30,6 @@ module _ (t : Tables) (s : soundTables t ≡ true) (n : ℕ) (x : Account) (e : 
         let h : x .threshold < 2 ^ 63 = rw read (account-holds t s n .threshold) in
         omega (arith, sums-fit (t .journal) used (rw u (journal-summable t s)) n q g .1)
 
-    pub due-by-balance : (today : ℕ) → today ≡ word (t .header) dayPlace → mayTopUp x today ≡ true → leb (q .sources) (q .debits + x .threshold) ≡ topUpDue (bookOf t) n
-    unfolding lowBalance
+    pub due-by-balance : (today : ℕ) → today ≡ word (t .header) dayPlace → mayTopUp x today ≡ true → isLow x q ≡ topUpDue (bookOf t) n
+    unfolding lowBalance isLow
     due-by-balance today d m = sym (due-at today d true m ∙ rw (sound-rows t s, ← u, ← g .sources, ← g .debits, ← read))

@@ -1,9 +1,13 @@
--- An account's sums over the first rows of a journal, as the code has them.
+-- An account's sums over the first rows of a journal, as the code has them, and the two parts of "top-up due".
 use mathlib.Core.Path.{_≡_}
-use Prim.Native.Nat.{ℕ}
+use Prim.Native.Nat.{ℕ, _+_}
 use mathlib.Core.List.{List}
+use mathlib.Core.Bool.{Bool, not, _&&_}
 use lib.IntN.{ℤ}
+use lib.Dec.{leb, ltb}
 use Rattle.records.specs.Encoding.{rowsOf}
+use Rattle.lists.specs.Tests.{_is_}
+use Rattle.rules.specs.Book.{Account, Open}
 use Rattle.rules.specs.Book as book
 use Rattle.balances.specs.declared.Sums.{Sums}
 
@@ -11,3 +15,11 @@ use Rattle.balances.specs.declared.Sums.{Sums}
 pub record Summed (t : List ℤ) (a i : ℕ) (s : Sums) : Type 0 where
   pub sources : s .sources ≡ book.sources (rowsOf t i) a
   pub debits : s .debits ≡ book.debits (rowsOf t i) a
+
+-- "Due when open, amount above 0, last decline not today": all but the balance
+unfoldable pub mayTopUp : Account → ℕ → Bool
+mayTopUp x today = x .state is Open && ltb 0 (x .topup) && not (x .declined is today)
+
+-- "balance at most the threshold", the balance by its two sums
+unfoldable pub isLow : Account → Sums → Bool
+isLow x s = leb (s .sources) (s .debits + x .threshold)

@@ -1,6 +1,7 @@
 // The sums of an account's sources and of its debits, and whether its top-up is due. Uses lists, records, rules, tables, row_tests,
 // settlement, account_sums and posting.
 use account_sums::part;
+use records::Account;
 use row_tests::is_debit;
 use row_tests::is_source;
 use table_accounts::account_numbered;
@@ -13,11 +14,11 @@ use tables::layout::USED_PLACE;
 use tables::words::get;
 ghost use mathlib.Core.Path.{_≡_};
 ghost use mathlib.Core.Bool.{true};
-ghost use Prim.Native.Nat.{_+_, _<_};
+ghost use Prim.Native.Nat.{_+_, _^_, _<_};
 ghost use Rattle.rules.specs.Book.{topUpDue};
 ghost use Rattle.rules.specs.Tables.{bookOf, soundTables};
 ghost use Rattle.posting.specs.Posts.{tablesAt, Amounts};
-ghost use Rattle.balances.specs.Summed.{Summed};
+ghost use Rattle.balances.specs.Summed.{Summed, mayTopUp, isLow};
 
 // An account's sums: of its sources, and of its debits, held ones included.
 pub struct Sums {
@@ -57,19 +58,31 @@ pub fn sums_of(journal: &[i64], used: usize, account: u64) -> Sums
     s
 }
 
-// Open, amount above 0, last decline not today, balance at most the threshold.
+// Open, amount above 0, last decline not today.
+pub fn may_top_up(x: Account, today: u64) -> bool
+    ensures { λ b. ⌜ b ≡ mayTopUp x today ⌝ }
+{
+    (x.state == OPEN) & (0 < x.topup) & (x.declined != today)
+}
+
+// Balance at most the threshold.
+pub fn is_low(x: Account, s: Sums) -> bool
+    requires { ⌜ s .debits + x .threshold < 2 ^ 64 ⌝ }
+    ensures { λ b. ⌜ b ≡ isLow x s ⌝ }
+{
+    let limit = s.debits + x.threshold;
+    s.sources <= limit
+}
+
+// Whether the account's top-up is due. The sums are taken only where they decide.
 pub fn top_up_due(header: &[i64], accounts: &[i64], journal: &[i64], n: u64) -> bool
     requires { ⌜ soundTables (tablesAt (now header) (now accounts) (now journal)) ≡ true ⌝ }
     ensures { λ b. ⌜ b ≡ topUpDue (bookOf (tablesAt (now (header .entry)) (now (accounts .entry)) (now (journal .entry)))) n ⌝ }
 {
     let x = account_numbered(accounts, accounts.len() / ACCOUNT_WIDTH, n);
-    let today = get(header, DAY_PLACE);
-    let may = (x.state == OPEN) & (0 < x.topup) & (x.declined != today);
-    if !may {
+    if !may_top_up(x, get(header, DAY_PLACE)) {
         return false;
     }
     let used = get(header, USED_PLACE) as usize;
-    let s = sums_of(journal, used, n);
-    let limit = s.debits + x.threshold;
-    s.sources <= limit
+    is_low(x, sums_of(journal, used, n))
 }

@@ -16,8 +16,8 @@ use Rattle.rules.specs.Book.{Book}
 use Rattle.rules.specs.Soundness.{sound}
 use Rattle.rules.specs.Posting.{post, bookAfter, answersTo}
 use Rattle.rules.specs.Tables.{Tables, bookOf, tablesOf, soundTables}
-use Rattle.rules.specs.Calls.{Event, eventRefusals, answered, eventCall, batchRefusals, batchCall, written}
-use Rattle.rules.proofs.PostingLaws.{length-answersTo}
+use Rattle.rules.specs.Calls.{Event, eventRefusals, answered, eventCall, batchCall, written}
+use Rattle.rules.proofs.PostingLaws.{length-answersTo, batchCall-runs}
 use Rattle.rules.proofs.SoundnessLaws.{facts-sound}
 use Rattle.rules.proofs.TableLaws.{sound-book, tablesOf-bookOf, soundTables-tablesOf}
 use Rattle.preservation.proofs.SoundKept.{post-keeps-sound}
@@ -80,10 +80,6 @@ module _ (w : List ℤ) (five : length w ≡ answerWidth) where
     sound-read : sound (bookOf t) ≡ true
     sound-read = facts-sound (bookOf t) (sound-book t s)
 
-    batch-runs : first (batchRefusals t es answers) ≡ 0
-    unfolding batchRefusals first
-    batch-runs = rw (s, le-ltb mostEvents (length es) few, le-ltb (length answers) (length es * answerWidth) room)
-
     -- the tables and the answers are those of the events sent singly, each with an answer table of five words
     pub batch-singly : batchCall t es answers ≡ record { number = 0; tables = tablesSingly t w es; answers = answersSingly t w es ++ drop (length es * answerWidth) answers }
     unfolding batchCall written
@@ -91,4 +87,4 @@ module _ (w : List ℤ) (five : length w ≡ answerWidth) where
         let k : tablesSingly t w es ≡ tablesOf (bookAfter (bookOf t) (map instructionOf es)) = rw (tablesOf-bookOf t s) at (tables-in-turn es (bookOf t) sound-read) in
         let a : answersSingly t w es ≡ writeAll answerWords (answersTo (bookOf t) (map instructionOf es)) = rw (tablesOf-bookOf t s) at (answers-in-turn es (bookOf t) sound-read) in
         let n : length (answersTo (bookOf t) (map instructionOf es)) ≡ length es = length-answersTo (bookOf t) (map instructionOf es) ∙ length-map es instructionOf in
-        rw (batch-runs, k, a, n)
+        rw (batchCall-runs t es answers s few room, k, a, n)

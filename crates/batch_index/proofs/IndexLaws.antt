@@ -1,6 +1,6 @@
 -- The index of sound tables: it can be made, and what it has for an event is what the tables have.
 use mathlib.Core.Path.{_≡_, refl, sym, _∙_}
-use mathlib.Core.Bool.{Bool, true, false, true≢false}
+use mathlib.Core.Bool.{Bool, true, false, true≢false, _&&_}
 use Prim.Native.Nat.{ℕ, _+_, _*_, _-_, _^_, _≤_, _<_}
 use native.Mathlib.Omega.{arith}
 use native.Mathlib.Decide.{ℕ-discrete, decLt}
@@ -13,7 +13,7 @@ use Rattle.records.specs.Layout.{dayPlace}
 use Rattle.records.specs.Encoding.{word, rowAt, rowsOf, accountsOf}
 use Rattle.lists.specs.Lists.{sumBy, only, exists}
 use Rattle.lists.proofs.ListLaws.{every-all}
-use Rattle.lists.proofs.SumLaws.{sumBy-small}
+use Rattle.lists.proofs.SumLaws.{sumBy-small, only-le}
 use Rattle.rules.specs.Limits.{mostRows, highestRefund}
 use Rattle.rules.specs.Rows.{Toll, blank}
 use Rattle.rules.specs.Book.{Account, unused, Instruction, account, accountNo, sources, debits, lowBalance, topUpDue}
@@ -23,11 +23,12 @@ use Rattle.posting.proofs.BookLaws.{account-read, day-read, count-small, count-
 use Rattle.sound_passages.specs.Trees.{passagesDiffer, Grown, Spot, Planted}
 use Rattle.sound_passages.proofs.TreeLaws.{grown-none}
 use Rattle.account_sums.specs.Tallies.{Countable}
+use Rattle.balances.specs.Summed.{mayTopUp, isLow}
 use Rattle.tick_base.proofs.MidwayLaws.{sound-midway, midway-countable}
 use Rattle.lookups.specs.Lookups.{NothingLeft, LooksUp}
 use Rattle.lookups.proofs.PassageLaws.{tollOf, other-kind, other-passage, passage-found, passage-absent}
-use Rattle.batch_index.specs.Index.{ofSide, firstAt, sumAt, seatWord, Seated, IndexOf, Indexed, Empty, Indexable, dueBy}
-use Rattle.batch_index.proofs.SideLaws.{side-sources, side-debits, only-le}
+use Rattle.batch_index.specs.Index.{ofSide, firstAt, sumAt, seatWord, Seated, IndexOf, Indexed, Empty, Indexable}
+use Rattle.batch_index.proofs.SideLaws.{side-sources, side-debits}
 use Rattle.batch_index.proofs.SeatLaws.{seated-none}
 
 -- ---- the index is made
@@ -137,11 +138,11 @@ module _ (t : Tables) (s : soundTables t ≡ true) (cells seats : List ℕ) (w :
           omega (arith, sumBy-small (only (ofSide 1 n) (λ y. y .amount)) (rowAt (t .journal)) highestRefund (rowsUsed t) (λ k l. omega (arith, only-le (ofSide 1 n) (λ y. y .amount) (rowAt (t .journal) k), r .amount k l)))
       go (no b) = let q : charged ≡ 0 = unfold seatWord in (rw (le-ltb n 257 (omega arith)) at c) in omega arith
 
-  pub due-by-seat : (gained today : ℕ) → gained ≡ seatWord seats n 2 → today ≡ word (t .header) dayPlace → dueBy x today gained charged ≡ topUpDue (bookOf t) n
-  unfolding dueBy topUpDue lowBalance
+  pub due-by-seat : (gained today : ℕ) → gained ≡ seatWord seats n 2 → today ≡ word (t .header) dayPlace → (mayTopUp x today && isLow x (record { sources = gained; debits = charged })) ≡ topUpDue (bookOf t) n
+  unfolding mayTopUp isLow topUpDue lowBalance
   due-by-seat gained today g d = go (decLt n 257)
     where
-      go : Dec (n < 257) → dueBy x today gained charged ≡ topUpDue (bookOf t) n
+      go : Dec (n < 257) → (mayTopUp x today && isLow x (record { sources = gained; debits = charged })) ≡ topUpDue (bookOf t) n
       go (yes b) =
           let p : gained ≡ sources (bookOf t .rows) n = unfold sources in (rw (side-sources n) at (sum-word 0 gained (omega arith) g b)) in
           let q : charged ≡ debits (bookOf t .rows) n = unfold debits in (rw (side-debits n) at (sum-word 1 charged (omega arith) c b)) in

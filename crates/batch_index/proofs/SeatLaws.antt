@@ -12,13 +12,13 @@ use lib.Seq.{getD-set-same, getD-set-other}
 use borrow.Author.Tests.{ltb-false}
 use Rattle.lists.specs.Lists.{sumBy, only, tabulate}
 use Rattle.lists.proofs.ListLaws.{zeros}
-use Rattle.lists.proofs.SumLaws.{sumBy-more, sumBy-small}
+use Rattle.lists.proofs.SumLaws.{sumBy-more, sumBy-small, only-le}
 use Rattle.records.specs.Encoding.{rowAt, rowsOf}
 use Rattle.rules.specs.Limits.{highestRefund}
 use Rattle.rules.specs.Rows.{Row, Test, remaining}
 use Rattle.account_sums.specs.Tallies.{Countable}
 use Rattle.batch_index.specs.Index.{ofSide, sideOf, firstAt, sumAt, Seated, Reset, NextOpen}
-use Rattle.batch_index.proofs.SideLaws.{side-low, side-own, side-other, only-le}
+use Rattle.batch_index.proofs.SideLaws.{side-low, side-own, side-other}
 
 -- ---- no row yet
 

@@ -1,15 +1,14 @@
 -- The two sides of an account: a row that has a kind is of one side of one account, and adds to that one alone.
 use mathlib.Core.Path.{_≡_, refl, sym, _∙_}
 use mathlib.Core.Logic.{_≢_}
-use mathlib.Core.Bool.{Bool, true, false, cond}
-use Prim.Native.Nat.{ℕ, zero, suc, _≤_, _<_}
+use mathlib.Core.Bool.{Bool, true, false, cond, and-false}
+use Prim.Native.Nat.{ℕ, zero, suc, _<_}
 use native.Mathlib.Omega.{arith}
 use native.Mathlib.Decide.{ℕ-discrete}
 use lib.Dec.{eqb, ltb}
 use borrow.Author.Tests.{eq-eqb, ne-eqb}
 use Rattle.lists.specs.Lists.{only}
-use Rattle.lists.proofs.TestLaws.{and-false}
-use Rattle.rules.specs.Rows.{Row, Test, source, debit, remaining, sourceOf, debitOf}
+use Rattle.rules.specs.Rows.{Row, source, debit, remaining, sourceOf, debitOf}
 use Rattle.rules.specs.Soundness.{kindFits}
 use Rattle.account_sums.proofs.SumsLaws.{source-no-debit, no-source-debit}
 use Rattle.batch_index.specs.Index.{onSide, ofSide, sideOf}
@@ -70,14 +69,6 @@ module _ (f : Row → ℕ) (s a : ℕ) (r : Row) where
       | yes e ↦ side-other-side (n e)
       | no e ↦ side-other-account e
     ]
-
-pub only-le : (p : Test) (f : Row → ℕ) (r : Row) → only p f r ≤ f r
-unfolding only
-only-le p f r = go (p r)
-  where
-    go : (b : Bool) → cond b (f r) 0 ≤ f r
-    go true = omega arith
-    go false = omega arith
 
 -- ---- whether something of it is left
 

@@ -2,9 +2,9 @@
 -- words, from which row on a source and a debit of it can have something left, and the sums of its sources and of its debits.
 use Prim.Native.Nat.{ℕ, zero, suc, _+_, _*_, _≤_, _<_}
 use mathlib.Core.Path.{_≡_}
-use mathlib.Core.Bool.{Bool, true, not, cond, _&&_}
+use mathlib.Core.Bool.{true, cond, _&&_}
 use mathlib.Core.List.{List}
-use lib.Dec.{leb, ltb}
+use lib.Dec.{ltb}
 use lib.IntN.{ℤ}
 use lib.ListN.{length, getD, replicate}
 use Rattle.records.specs.Encoding.{rowAt, rowsOf}
@@ -12,7 +12,6 @@ use Rattle.lists.specs.Tests.{_is_}
 use Rattle.lists.specs.Lists.{sumBy, only}
 use Rattle.rules.specs.Limits.{mostRows}
 use Rattle.rules.specs.Rows.{Row, Test, source, debit, remaining}
-use Rattle.rules.specs.Book.{Account, Open}
 use Rattle.rules.specs.Tables.{Tables, rowsUsed}
 use Rattle.sound_passages.specs.Trees.{passagesDiffer, Grown}
 use Rattle.account_sums.specs.Tallies.{Countable}
@@ -86,9 +85,3 @@ pub record Empty (cells seats : List ℕ) : Type 0 where
 pub record Indexable (j : List ℤ) (used : ℕ) : Type 0 where
   pub rows : Countable j used
   pub differ : passagesDiffer (rowsOf j used) ≡ true
-
--- ---- top-up due
-
--- "Due when open, amount above 0, last decline not today, balance at most the threshold", the balance by its two sums
-unfoldable pub dueBy : Account → ℕ → ℕ → ℕ → Bool
-dueBy x today gained charged = x .state is Open && ltb 0 (x .topup) && not (x .declined is today) && leb gained (charged + x .threshold)

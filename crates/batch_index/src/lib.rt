@@ -1,10 +1,12 @@
 // The index that a batch keeps of the journal in two arrays of its own, so that no event searches all rows: the trees of passage numbers
 // and, for each account, from which row on something of its sources and of its debits can be left, and the sums of both. Uses lists,
-// records, rules, tables, row_tests, sound_passages, account_sums, posting and lookups, and laws of preservation and tick_base.
+// records, rules, tables, row_tests, sound_passages, account_sums, posting, balances and lookups, and laws of preservation and tick_base.
+use balances::Sums;
+use balances::is_low;
+use balances::may_top_up;
 use lookups::Lookup;
 use lookups::RESULT_EVENT;
 use lookups::TOLL_EVENT;
-use records::Account;
 use records::Instruction;
 use records::Row;
 use row_tests::is_source;
@@ -15,7 +17,6 @@ use sound_passages::passages::spot;
 use table_accounts::account_numbered;
 use table_rows::account_at;
 use table_rows::read_row;
-use tables::codes::OPEN;
 use tables::layout::ACCOUNT_WIDTH;
 use tables::layout::DAY_PLACE;
 use tables::layout::USED_PLACE;
@@ -23,7 +24,7 @@ use tables::limits::MOST_ROWS;
 use tables::words::get;
 ghost use mathlib.Core.Path.{_≡_};
 ghost use mathlib.Core.Bool.{true};
-ghost use Prim.Native.Nat.{_+_, _^_, _≤_, _<_};
+ghost use Prim.Native.Nat.{_+_, _≤_, _<_};
 ghost use lib.Dec.{ltb};
 ghost use lib.ListN.{length, set};
 ghost use Rattle.records.specs.Encoding.{rowAt};
@@ -34,7 +35,7 @@ ghost use Rattle.rules.specs.Tables.{tablesAt, rowsUsed, soundTables};
 ghost use Rattle.tables.specs.Changes.{RowIn};
 ghost use Rattle.account_sums.specs.Tallies.{Countable};
 ghost use Rattle.lookups.specs.Lookups.{LooksUp};
-ghost use Rattle.batch_index.specs.Index.{ofSide, sideOf, firstAt, seatWord, Seated, Reset, NextOpen, IndexOf, IndexedTo, Indexed, Empty, Indexable, dueBy};
+ghost use Rattle.batch_index.specs.Index.{ofSide, sideOf, firstAt, seatWord, Seated, Reset, NextOpen, IndexOf, IndexedTo, Indexed, Empty, Indexable};
 
 // Account numbers 0 to 256 have a seat of four words: the first row of each side, and then the sum of each side.
 const SEATS: usize = 257;
@@ -173,14 +174,6 @@ fn seat_word(seats: &[u64; SEAT_WORDS], account: u64, word: usize) -> u64
     0
 }
 
-// Open, amount above 0, last decline not today, balance at most the threshold.
-fn due_by(x: Account, today: u64, gained: u64, charged: u64) -> bool
-    requires { ⌜ charged + x .threshold < 2 ^ 64 ⌝ }
-    ensures { λ b. ⌜ b ≡ dueBy x today gained charged ⌝ }
-{
-    (x.state == OPEN) & (0 < x.topup) & (x.declined != today) & (gained <= charged + x.threshold)
-}
-
 // ---- the index
 
 // Rows from..used go into the index of the rows before them.
@@ -250,9 +243,11 @@ pub fn look_up_indexed(
     }
     if e.kind == RESULT_EVENT {
         let x = account_numbered(accounts, accounts.len() / ACCOUNT_WIDTH, e.account);
-        let gained = seat_word(seats, e.account, SUMS + SOURCES);
-        let charged = seat_word(seats, e.account, SUMS + DEBITS);
-        found.due = due_by(x, get(header, DAY_PLACE), gained, charged);
+        let s = Sums {
+            sources: seat_word(seats, e.account, SUMS + SOURCES),
+            debits: seat_word(seats, e.account, SUMS + DEBITS),
+        };
+        found.due = may_top_up(x, get(header, DAY_PLACE)) & is_low(x, s);
     }
     found
 }

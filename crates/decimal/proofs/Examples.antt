@@ -1,8 +1,8 @@
 -- The definitions at work: the lowest number, leap day, and lines that are numbers or not.
 use mathlib.Core.Path.{_≡_, refl}
 use mathlib.Core.Bool.{true, false}
-use mathlib.Core.List.{List, [], _∷_}
-use lib.IntN.{ℤ, pos, negsuc}
+use mathlib.Core.List.{[], _∷_}
+use lib.IntN.{pos, negsuc}
 use Rattle.dates.specs.Gregorian.{leap, monthDays, daysOfMonth, dateIn, dateFrom, dateOf}
 use Rattle.decimal.specs.Decimal.{digitsWithin, digitsOf, textOf, twoDigits, textOfDate, dateText, digitValue, allDigits, valueAfter, magnitude, number, none, plain, minus, negated, numberOf, inFirst, fieldsOf, allNumbers, isNumbers, numbersIn, numbersOf}
 

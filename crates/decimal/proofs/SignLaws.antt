@@ -3,11 +3,10 @@ use Prim.Native.Nat.{ℕ, zero, suc, _+_, _-_, _^_, _≤_}
 use native.Mathlib.Omega.{arith}
 use mathlib.Core.Path.{_≡_, refl, ap, _∙_}
 use mathlib.Core.Bool.{Bool, true, false, cond, true≢false}
-use lib.Dec.{T}
 use lib.IntN.{ℤ, pos, negsuc, natAbs, _-ℤ_}
-use lib.Signed.{ltZ, nonNeg}
+use lib.Signed.{ltZ}
 use mir.Syntax.{w64}
-use mir.Val.{Fits, SFits}
+use mir.Val.{SFits}
 use borrow.Author.Tests.{ltb-true, le-ltb}
 use Rattle.decimal.specs.Decimal.{sizeOf, negated}
 
@@ -26,10 +25,6 @@ size-below (pos n) f h = absurd (omega (arith, ltb-true n 0 h))
 size-below (negsuc n) f h = (omega arith, omega arith)
 
 -- ---- from 0 on
-
-pub cast-fits : (z : ℤ) → SFits w64 z → ltZ z (pos 0) ≡ false → T (nonNeg z) × Fits w64 (natAbs z)
-cast-fits (pos n) f h = (tt, omega arith)
-cast-fits (negsuc n) f h = absurd (true≢false h)
 
 pub size-above : (z : ℤ) → SFits w64 z → ltZ z (pos 0) ≡ false → (natAbs z ≡ sizeOf z) × (natAbs z ≤ 2 ^ 63)
 unfolding sizeOf

@@ -15,7 +15,7 @@ use Rattle.lists.proofs.TestLaws.{or-left, or-right, first-none}
 use Rattle.rules.specs.Book.{Answer}
 use Rattle.rules.specs.Posting.{refusalBy, post}
 use Rattle.rules.specs.Tables.{Tables, bookOf, tablesOf, soundTables}
-use Rattle.rules.specs.Calls.{eventRefusals, answered, eventCall, written}
+use Rattle.rules.specs.Calls.{eventRefusals, answered, eventCall}
 use Rattle.rules.proofs.TableLaws.{tablesOf-bookOf}
 use Rattle.preservation.proofs.CallsKept.{eventCall-keeps-sound, bookOf-eventCall}
 use Rattle.tables.specs.Changes.{putAll}

@@ -1,25 +1,25 @@
 -- Event 3: which refusals concern it, and the book that it makes.
 use mathlib.Core.Path.{_≡_, refl, sym, ap, _∙_}
 use mathlib.Core.Logic.{_≢_}
-use mathlib.Core.Bool.{Bool, true, false, not, cond, _&&_, _||_}
-use Prim.Native.Nat.{ℕ, _+_, _≤_, _<_}
+use mathlib.Core.Bool.{Bool, true, false, not, _&&_}
+use Prim.Native.Nat.{_+_, _≤_, _<_}
 use native.Mathlib.Omega.{arith}
 use mathlib.Core.List.{List, [], _∷_, _++_}
 use lib.ListN.{length}
 use lib.IntN.{ℤ}
 use lib.Dec.{leb, ltb}
-use borrow.Author.Tests.{leb-true, ltb-false, not-false}
+use borrow.Author.Tests.{ltb-false, not-false}
 use Rattle.records.specs.Codes.{Check}
 use Rattle.records.specs.Encoding.{accountsOf, StorableRow}
 use Rattle.lists.specs.Tests.{_is_, _from_to_, first}
 use Rattle.lists.specs.Lists.{sumBy, count}
-use Rattle.lists.proofs.TestLaws.{and-left, and-right, or-left}
+use Rattle.lists.proofs.TestLaws.{and-left, and-right}
 use Rattle.rules.specs.Limits.{barringReturns, highestPayment}
 use Rattle.rules.specs.Rows.{Row, Payment, newRow, withMark}
 use Rattle.rules.specs.Settlement.{settle}
 use Rattle.rules.specs.Book.{Instruction, Unused, Closed, Book, account, addRow, withRows}
 use Rattle.rules.specs.Events.{postPayment}
-use Rattle.rules.specs.Refusals.{changeOf, after, zeroFrom-c, paymentForm, formOf, wellFormed, unknown, taken, onClosed, unclassed, misdated, duplicate, barred, noRow, untimely, lastDay, full, ceiling, refusals, answerNumber}
+use Rattle.rules.specs.Refusals.{changeOf, after, zeroFrom-c, paymentForm, formOf, wellFormed, unknown, taken, onClosed, unclassed, misdated, duplicate, barred, noRow, untimely, lastDay, full, refusals, answerNumber}
 use Rattle.rules.specs.Posting.{removesTopUp}
 use Rattle.rules.specs.Tables.{Tables, accountsIn, roomIn, rowsUsed, bookOf, soundTables}
 use Rattle.rules.proofs.StorableLaws.{between-le, day-le, accounts-le}
@@ -31,6 +31,7 @@ use Rattle.posting.specs.Posts.{tablesAt, acceptanceOf, RowAdded, Posts}
 use Rattle.posting.proofs.BookLaws.{used-read, room-read}
 use Rattle.posting_laws.proofs.RefusalLaws.{ofKind, at-kind, unknown-unused, length-after, no-ceiling}
 use Rattle.posting_laws.proofs.AddedLaws.{acceptance-plain, posts-accepted, row-written}
+use Rattle.posting_laws.proofs.EventLaws.{known-inside}
 use Rattle.event_payment.specs.Payment.{paymentRefusals}
 
 -- the row that event 3 adds
@@ -73,15 +74,8 @@ module _ (t : Tables) (s : soundTables t ≡ true) (e : Instruction) (k : e .kin
   acc : Accepted b e
   acc = accepted b e (sym q)
 
-  -- the account that it names is one of the table's
   pub payment-inside : (1 ≤ e .account) × (e .account ≤ length (b .accounts))
-  unfolding unknown
-  payment-inside =
-      let z : not (e .account from 1 to length (b .accounts)) || account b (e .account) .state is 0 ≡ false = at-kind (λ x. unknown b x ≡ false → not (x .account from 1 to length (b .accounts)) || account b (x .account) .state is 0 ≡ false) e 3 k (λ w. w) (acc .known) in
-      let i : e .account from 1 to length (b .accounts) ≡ true = not-false _ (or-left _ (account b (e .account) .state is 0) z) in (
-        leb-true 1 (e .account) (and-left (leb 1 (e .account)) (leb (e .account) (length (b .accounts))) i),
-        leb-true (e .account) (length (b .accounts)) (and-right (leb 1 (e .account)) (leb (e .account) (length (b .accounts))) i),
-      )
+  payment-inside = known-inside b e (rw k) (acc .known)
 
   changed : changeOf (e .kind) b e ≡ addRow (paymentRow b e) b
   unfolding changeOf postPayment

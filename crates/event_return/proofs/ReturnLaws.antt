@@ -44,6 +44,7 @@ use Rattle.posting_laws.proofs.EventLaws.{known-inside}
 use Rattle.posting_laws.proofs.RefusalLaws.{ofKind, at-kind, unknown-unused, length-after, no-ceiling}
 use Rattle.posting_laws.proofs.AddedLaws.{acceptance-plain, posts-accepted}
 use Rattle.posting_laws.proofs.UsedRowsLaws.{UsedRows, used-rows-before, used-rows-put, used-rows-add, used-rows-settle, used-rows-written, used-rows-room, used-rows-day, used-rows-settles, SmallAmounts, small-before, small-put, small-add}
+use Rattle.posting_laws.proofs.PutRowLaws.{row-read-by}
 use Rattle.event_return.specs.Return.{returnRefusals, Counts, Counted, Marks, Marked}
 
 -- ---- what event 4 writes: the payment marked, its reversal and the fee, and the account
@@ -103,10 +104,6 @@ pub answer-by : (b : Book) (e : Instruction) → e .kind ≡ 4 → (f u n m r : 
     → first ((2, not f) ∷ (3, u) ∷ (10, n) ∷ (11, m) ∷ (13, r) ∷ []) ≡ answerNumber b e
 unfolding returnRefusals
 answer-by b e k f u n m r p q v w z = rw (answer-return b e k, p, q, neither (row b (e .a) .kind is Payment) (row b (e .a) .account is e .account), v, w, z)
-
--- the row that it names, read among as many rows as the header says
-pub row-read-by : (t : Tables) → soundTables t ≡ true → (used n : ℕ) (r : Row) → used ≡ rowsUsed t → r ≡ rowNo (rowsOf (t .journal) used) n → r ≡ row (bookOf t) n
-row-read-by t s used n r u e = (rw u at e) ∙ row-read t s n
 
 -- ---- the steps
 

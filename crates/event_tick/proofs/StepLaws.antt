@@ -19,10 +19,11 @@ use Rattle.rules.specs.Refusals.{after, lastDay, full, answerNumber}
 use Rattle.rules.specs.Posting.{newRows, removesTopUp, acceptance}
 use Rattle.rules.specs.Tables.{Tables, roomIn, rowsUsed, bookOf, soundTables}
 use Rattle.rules.proofs.TableLaws.{sound-book, header-length}
+use Rattle.tables.proofs.ChangeLaws.{word-same, word-other}
 use Rattle.preservation.proofs.Accepted.{Accepted, accepted}
 use Rattle.preservation.proofs.HoldsEnded.{beforeRaising-near}
 use Rattle.tick_rules.specs.Ticks.{feesAdded, refundsAdded}
-use Rattle.tick_rules.proofs.RisingLaws.{dusk-length}
+use Rattle.preservation.proofs.TickSteps.{unraised-length}
 use Rattle.tick_rules.proofs.LateLaws.{late}
 use Rattle.tick_rules.proofs.RefundLaws.{none-closing}
 use Rattle.tick_rules.proofs.QuietLaws.{near-late, after-tick}
@@ -30,13 +31,13 @@ use Rattle.tick_rules.proofs.CountLaws.{rows-after, late-fits}
 use Rattle.posting.specs.Posts.{tablesAt, acceptanceOf, Posts}
 use Rattle.posting.proofs.BookLaws.{day-read, used-read, room-read, schedule-read}
 use Rattle.posting_laws.proofs.AddedLaws.{posts-accepted}
-use Rattle.posting_laws.proofs.HeaderLaws.{schedule-same, word-put, word-others}
+use Rattle.posting_laws.proofs.HeaderLaws.{schedule-same}
 use Rattle.posting_laws.proofs.WrittenLaws.{Written}
 use Rattle.tick_base.specs.Midway.{Midway}
 use Rattle.tick_base.proofs.MidwayLaws.{written-written, sound-midway}
 use Rattle.tick_plan.specs.declared.Plan.{Plan}
 use Rattle.tick_plan.specs.Plans.{Planned}
-use Rattle.tick_holds.specs.Holds.{DuskRows}
+use Rattle.tick_holds.specs.Holds.{UnraisedRows}
 use Rattle.tick_close.specs.Closing.{Closing}
 use Rattle.event_tick.proofs.TickLaws.{written-book, written-midway}
 
@@ -67,53 +68,53 @@ module _ (t : Tables) (s : soundTables t ≡ true) (e : Instruction) (k : e .kin
 
   -- ---- holds have ended, the day has risen
 
-  module _ (j : List ℤ) (d : DuskRows t j) where
+  module _ (j : List ℤ) (d : UnraisedRows t j) where
     abbrev pub header₁ : List ℤ
     header₁ = set (t .header) dayPlace (pos (word (t .header) dayPlace + 1))
 
-    abbrev pub dusk-tables : Tables
-    dusk-tables = tablesAt header₁ (t .accounts) j
+    abbrev pub unraised-tables : Tables
+    unraised-tables = tablesAt header₁ (t .accounts) j
 
-    dusk-rows-length : length (beforeRaising b .rows) ≡ rowsUsed t
-    dusk-rows-length = dusk-length b (sound-book t s) ∙ sym (used-read t s)
+    unraised-rows-length : length (beforeRaising b .rows) ≡ rowsUsed t
+    unraised-rows-length = unraised-length b ∙ sym (used-read t s)
 
-    pub dusk-written : Written t dusk-tables (beforeRaising b)
+    pub unraised-written : Written t unraised-tables (beforeRaising b)
     unfolding beforeRaising settled endHolds nextDay
-    dusk-written = record {
+    unraised-written = record {
       header-size = length-set (t .header) dayPlace _;
       accounts-size = refl;
       journal-size = d .size;
-      day = word-put (t .header) dayPlace _ (omega (arith, header-length t s)) ∙ rw (day-read t s);
-      used = word-others (t .header) dayPlace _ usedPlace (λ z. omega arith) ∙ sym dusk-rows-length;
-      schedule = schedule-same (t .header) header₁ (λ i l. word-others (t .header) dayPlace _ i (λ z. omega arith)) ∙ schedule-read t s;
+      day = word-same (t .header) dayPlace _ (omega (arith, header-length t s)) ∙ rw (day-read t s);
+      used = word-other (t .header) dayPlace _ usedPlace (λ z. omega arith) ∙ sym unraised-rows-length;
+      schedule = schedule-same (t .header) header₁ (λ i l. word-other (t .header) dayPlace _ i (λ z. omega arith)) ∙ schedule-read t s;
       accounts = unfold bookOf in refl;
-      rows = rw dusk-rows-length (d .rows);
+      rows = rw unraised-rows-length (d .rows);
       room = sym (room-read t s);
-      longer = omega (arith, dusk-rows-length);
-      rest = λ i h. d .rest i (rw dusk-rows-length at h);
+      longer = omega (arith, unraised-rows-length);
+      rest = λ i h. d .rest i (rw unraised-rows-length at h);
     }
 
-    fits-dusk : length (beforeRaising b .rows) ≤ roomIn t
-    fits-dusk = omega (arith, dusk-rows-length, room-read t s, rows-fit, used-read t s)
+    fits-unraised : length (beforeRaising b .rows) ≤ roomIn t
+    fits-unraised = omega (arith, unraised-rows-length, room-read t s, rows-fit, used-read t s)
 
-    pub dusk-book : bookOf dusk-tables ≡ beforeRaising b
-    dusk-book = written-book t dusk-tables (beforeRaising b) dusk-written fits-dusk
+    pub unraised-book : bookOf unraised-tables ≡ beforeRaising b
+    unraised-book = written-book t unraised-tables (beforeRaising b) unraised-written fits-unraised
 
     yesterday : word header₁ dayPlace - 1 ≡ b .day
-    yesterday = let w = word-put (t .header) dayPlace (word (t .header) dayPlace + 1) (omega (arith, header-length t s)) in omega (arith, day-read t s)
+    yesterday = let w = word-same (t .header) dayPlace (word (t .header) dayPlace + 1) (omega (arith, header-length t s)) in omega (arith, day-read t s)
 
-    pub dusk-midway : Midway (word header₁ dayPlace - 1) dusk-tables
-    dusk-midway =
-        rw yesterday (written-midway t dusk-tables (beforeRaising b) (b .day) (sound-midway t s .lengths) dusk-written fits-dusk (beforeRaising-near b (sound-book t s .near) not-last))
+    pub unraised-midway : Midway (word header₁ dayPlace - 1) unraised-tables
+    unraised-midway =
+        rw yesterday (written-midway t unraised-tables (beforeRaising b) (b .day) (sound-midway t s .lengths) unraised-written fits-unraised (beforeRaising-near b (sound-book t s .near) not-last))
 
-    pub dusk-room : length (raiseTolls (bookOf dusk-tables) .rows) ≤ length j / rowWidth
-    dusk-room = rw (dusk-book, d .size) (omega (arith, fits-late, room-read t s))
+    pub unraised-room : length (raiseTolls (bookOf unraised-tables) .rows) ≤ length j / rowWidth
+    unraised-room = rw (unraised-book, d .size) (omega (arith, fits-late, room-read t s))
 
     -- ---- tolls have risen
 
-    module _ (u : Tables) (w : Written dusk-tables u (raiseTolls (bookOf dusk-tables))) where
+    module _ (u : Tables) (w : Written unraised-tables u (raiseTolls (bookOf unraised-tables))) where
       late-written : Written t u (raiseTolls (beforeRaising b))
-      late-written = written-written t dusk-tables u (beforeRaising b) (raiseTolls (beforeRaising b)) dusk-written (rw dusk-book at w)
+      late-written = written-written t unraised-tables u (beforeRaising b) (raiseTolls (beforeRaising b)) unraised-written (rw unraised-book at w)
 
       late-room : length (raiseTolls (beforeRaising b) .rows) ≤ roomIn t
       late-room = omega (arith, fits-late, room-read t s)
@@ -159,11 +160,11 @@ module _ (t : Tables) (s : soundTables t ≡ true) (e : Instruction) (k : e .kin
         pub end-longer : rowsUsed t ≤ word (v .header) usedPlace
         end-longer = omega (arith, end-used, end-written .longer)
 
-        answer-is : (n : ℕ) → n ≡ count (rises (word header₁ dayPlace)) (bookOf dusk-tables .rows)
+        answer-is : (n : ℕ) → n ≡ count (rises (word header₁ dayPlace)) (bookOf unraised-tables .rows)
             → acceptanceOf (rowsUsed t) (word (v .header) usedPlace - rowsUsed t) n 0 ≡ acceptance b e
         unfolding acceptance newRows raisedBy removesTopUp
-        answer-is n c = rw (end-used, used-read t s, k, c, dusk-book, dusk-written .day)
+        answer-is n c = rw (end-used, used-read t s, k, c, unraised-book, unraised-written .day)
 
-        pub tick-posts : (n : ℕ) → n ≡ count (rises (word header₁ dayPlace)) (bookOf dusk-tables .rows)
+        pub tick-posts : (n : ℕ) → n ≡ count (rises (word header₁ dayPlace)) (bookOf unraised-tables .rows)
             → Posts t v e (acceptanceOf (rowsUsed t) (word (v .header) usedPlace - rowsUsed t) n 0)
         tick-posts n c = posts-accepted t v s e _ q (answer-is n c) end-written

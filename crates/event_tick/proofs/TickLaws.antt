@@ -2,13 +2,13 @@
 use mathlib.Core.Path.{_≡_, refl, _∙_}
 use mathlib.Core.Logic.{_≢_}
 use mathlib.Core.Bool.{Bool, true, false, not}
-use Prim.Native.Nat.{ℕ, _+_, _-_, _≤_, _<_, min}
+use Prim.Native.Nat.{ℕ, _+_, _≤_, _<_, min}
 use native.Mathlib.Omega.{arith}
 use mathlib.Core.List.{[], _∷_}
 use lib.ListN.{length}
 use lib.Dec.{ltb}
 use borrow.Author.Tests.{eqb-false, ltb-false, lt-ltb, le-leb, le-ltb}
-use Rattle.lists.specs.Tests.{_is_, _from_to_, first}
+use Rattle.lists.specs.Tests.{_is_, first}
 use Rattle.rules.specs.Limits.{finalDay}
 use Rattle.rules.specs.Book.{Instruction, Book}
 use Rattle.rules.specs.Refusals.{after, tickForm, formOf, wellFormed, unknown, taken, onClosed, unclassed, misdated, duplicate, barred, noRow, untimely, lastDay, full, ceiling, refusals, answerNumber}

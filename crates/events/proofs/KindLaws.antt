@@ -1,7 +1,7 @@
 -- A kind that is none of the nine is malformed.
-use mathlib.Core.Path.{_≡_, refl, sym}
+use mathlib.Core.Path.{_≡_, refl}
 use mathlib.Core.Logic.{_≢_}
-use mathlib.Core.Bool.{true, false, not, cond}
+use mathlib.Core.Bool.{false}
 use Prim.Native.Nat.{ℕ, zero, suc}
 use Rattle.lists.specs.Tests.{first}
 use Rattle.rules.specs.Book.{Instruction, Book}

@@ -10,7 +10,6 @@ use lib.ListN.{length, getD}
 use lib.Dec.{leb}
 use Rattle.lists.specs.Lists.{gatherFrom, gather, tabulate}
 use Rattle.lists.proofs.TestLaws.{and-left}
-use Rattle.lists.proofs.ListLaws.{tabulate-at}
 use Rattle.lists.proofs.GatherLaws.{gather-tabulate}
 use Rattle.records.specs.Encoding.{rowAt, rowsOf, accountsOf}
 use Rattle.decimal.specs.Decimal.{textOf, textOfDate, twoDigits, dateText, digitsOf}
@@ -22,7 +21,7 @@ use Rattle.rules.specs.Tables.{Tables, accountsIn, rowsUsed, bookOf, soundTable
 use Rattle.rules.proofs.SoundnessLaws.{Near}
 use Rattle.rules.proofs.StorableLaws.{between-le, day-le}
 use Rattle.rules.proofs.TableLaws.{sound-book, sound-rows, length-sound-rows}
-use Rattle.posting.proofs.BookLaws.{used-room}
+use Rattle.posting.proofs.BookLaws.{used-room, book-row}
 use Rattle.listing_rules.specs.Texts.{bytesOf, field, line, rowText, accountText, bookText}
 use Rattle.listing_text.specs.Puts.{Puts}
 use Rattle.listing_text.proofs.PutsLaws.{puts-puts, puts-nothing}
@@ -57,15 +56,12 @@ pub sound-dated : (t : Tables) → soundTables t ≡ true → Dated (t .journal)
 unfolding rowDayFits
 sound-dated t s = record {
   room = used-room t s;
-  from = λ k h. rw (book-row k h) at (first k h);
-  to = λ k h. rw (book-row k h) at (last k h);
+  from = λ k h. rw (book-row t s k h) at (first k h);
+  to = λ k h. rw (book-row t s k h) at (last k h);
 }
   where
     near : Near (bookOf t .day) (bookOf t)
     near = sound-book t s .near
-
-    book-row : (k : ℕ) → k < rowsUsed t → getD (bookOf t .rows) k blank ≡ rowAt (t .journal) k
-    book-row k h = rw (sound-rows t s) (tabulate-at (rowAt (t .journal)) (rowsUsed t) k blank h)
 
     shape : (k : ℕ) → k < rowsUsed t → rowDayFits (bookOf t .day) (getD (bookOf t .rows) k blank) ≡ true
     shape k h = near .shape k (rw (length-sound-rows t s) h) .day

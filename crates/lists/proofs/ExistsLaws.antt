@@ -1,14 +1,13 @@
 -- Laws of "some element passes": what it says of each element, and where it says the same of two lists.
 use mathlib.Core.Path.{_≡_, refl}
 use mathlib.Core.Bool.{Bool, true, false, cond}
-use Prim.Native.Nat.{ℕ, suc, _+_, _≤_, _<_}
+use Prim.Native.Nat.{ℕ, _≤_, _<_}
 use native.Mathlib.Omega.{arith}
 use mathlib.Core.List.{List}
 use lib.ListN.{length, getD}
-use lib.Dec.{ltb}
 use borrow.Author.Tests.{lt-ltb, le-ltb, ltb-false}
-use Rattle.lists.specs.Lists.{count, exists, tabulate}
-use Rattle.lists.proofs.SumLaws.{sumBy-at-le, sumBy-zero-at, sumBy-more}
+use Rattle.lists.specs.Lists.{count, exists}
+use Rattle.lists.proofs.SumLaws.{sumBy-at-le, sumBy-zero-at}
 
 module _ {A : Type 0} (t : A → Bool) where
   -- where none passes, none does

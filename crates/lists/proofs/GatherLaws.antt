@@ -5,11 +5,11 @@ use Prim.Native.Nat.{ℕ, zero, suc, _+_, _-_, _≤_, _<_}
 use native.Mathlib.Omega.{arith}
 use native.Mathlib.Decide.{decLt}
 use mathlib.Core.List.{List, [], _∷_, _++_, map, append-assoc, append-nil}
-use lib.ListN.{length, getD, length-append, length-map, List·getD-append, List·getD-map}
+use lib.ListN.{length, getD, length-append, length-map, List·getD-append}
 use lib.Seq.{getD-append-add}
 use Rattle.lists.specs.Lists.{sumBy, gatherFrom, changeFrom, tabulate}
 use Rattle.lists.proofs.SumLaws.{sumBy-append, sumBy-map}
-use Rattle.lists.proofs.ListLaws.{length-tabulate, tabulate-more}
+use Rattle.lists.proofs.ListLaws.{length-tabulate, tabulate-more, map-at}
 
 -- ---- gather
 
@@ -104,11 +104,8 @@ change-same f g i (x ∷ xs) d e =
 -- ---- elements changed by f, and more elements after them
 
 module _ {A : Type 0} (f : A → A) (d : A) (rest : f d ≡ d) (xs more : List A) where
-  pub map-at : (i : ℕ) → getD (map f xs) i d ≡ f (getD xs i d)
-  map-at i = ap (λ (z : A). getD (map f xs) i z) (sym rest) ∙ List·getD-map f xs i d
-
   pub grown-at : (i : ℕ) → i < length xs → getD (map f xs ++ more) i d ≡ f (getD xs i d)
-  grown-at i l = List·getD-append (map f xs) more d i (rw (length-map xs f) l) ∙ map-at i
+  grown-at i l = List·getD-append (map f xs) more d i (rw (length-map xs f) l) ∙ map-at f xs i d rest
 
   pub sumBy-grown : (g : A → ℕ) → sumBy g (map f xs ++ more) ≡ sumBy (λ x. g (f x)) xs + sumBy g more
   sumBy-grown g = sumBy-append g (map f xs) more ∙ ap (λ (n : ℕ). n + sumBy g more) (sumBy-map g f xs)

@@ -6,3 +6,4 @@ pub mod CollectLaws
 pub mod GatherLaws
 pub mod ExistsLaws
 pub mod PassLaws
+pub mod SignLaws

@@ -117,6 +117,15 @@ module _ {A : Type 0} where
       go (yes q) i = omega (arith, e 0 (omega arith) q)
       go (no q) i = let r : 0 < sumBy g xs = i (omega arith) in omega arith
 
+-- what an element adds is at most its own
+pub only-le : {A : Type 0} (t : A → Bool) (f : A → ℕ) (x : A) → only t f x ≤ f x
+unfolding only
+only-le t f x = go (t x)
+  where
+    go : (b : Bool) → cond b (f x) 0 ≤ f x
+    go true = omega arith
+    go false = omega arith
+
 -- a sum over the elements that pass, each of at most so much
 pub sumBy-only-le : {A : Type 0} (t : A → Bool) (f : A → ℕ) (most : ℕ) (d : A) (xs : List A)
     → ((i : ℕ) → i < length xs → t (getD xs i d) ≡ true → f (getD xs i d) ≤ most) → sumBy (only t f) xs ≤ count t xs * most

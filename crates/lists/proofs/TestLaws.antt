@@ -1,6 +1,6 @@
 -- Laws of tests, of conjunctions and of tables of cases.
 use mathlib.Core.Path.{_≡_, refl, sym, _∙_}
-use mathlib.Core.Bool.{Bool, true, false, not, cond, _&&_, _||_, false≢true, true≢false, or-false, and-true, and-assoc}
+use mathlib.Core.Bool.{Bool, true, false, not, cond, _&&_, _||_, false≢true, true≢false, and-true, and-assoc}
 use Prim.Native.Nat.{ℕ, zero, suc, _<_}
 use native.Mathlib.Omega.{arith}
 use mathlib.Core.List.{List, [], _∷_}
@@ -24,10 +24,6 @@ and-both a b p q = rw p q
 pub and3 : (a b c : Bool) → a && b && c ≡ true → (a ≡ true) × (b ≡ true) × (c ≡ true)
 and3 a b c e = let d = and-left (a && b) c e in (and-left a b d, and-right a b d, and-right (a && b) c e)
 
-pub and-false : (b : Bool) → b && false ≡ false
-and-false true = refl
-and-false false = refl
-
 -- ---- tests that fail
 
 pub and-then : (a b : Bool) → a ≡ true → a && b ≡ false → b ≡ false
@@ -42,10 +38,6 @@ or-left false b e = refl
 pub or-right : (a b : Bool) → a || b ≡ false → b ≡ false
 or-right true b e = absurd (true≢false e)
 or-right false b e = e
-
-pub or-true : (b : Bool) → b || true ≡ true
-or-true true = refl
-or-true false = refl
 
 -- ---- cond
 

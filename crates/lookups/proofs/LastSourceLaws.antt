@@ -11,7 +11,7 @@ use lib.ListN.{length, getD}
 use lib.IntN.{ℤ}
 use Rattle.records.specs.Encoding.{rowAt, rowsOf}
 use Rattle.lists.specs.Tests.{_is_}
-use Rattle.lists.specs.Lists.{sumBy, only}
+use Rattle.lists.specs.Lists.{only}
 use Rattle.lists.proofs.ListLaws.{tabulate-at}
 use Rattle.lists.proofs.SumLaws.{sumBy-snoc, sumBy-at-le}
 use Rattle.rules.specs.Rows.{Row, Payment, blank, rowNo, debit, heldToll, held, remaining, sourceOf, payable}
@@ -19,13 +19,14 @@ use Rattle.rules.specs.Settlement.{money, debt, moved}
 use Rattle.rules.specs.Book.{Instruction}
 use Rattle.rules.specs.Tables.{Tables, rowsUsed, bookOf, soundTables}
 use Rattle.rules.proofs.TableLaws.{sound-book, sound-rows, length-sound-rows}
+use Rattle.rules.proofs.SettlementLaws.{payable-le}
 use Rattle.preservation.proofs.NamedLaws.{sound-moved}
 use Rattle.tables.proofs.ChangeLaws.{changed-append}
 use Rattle.settlement.specs.Settling.{Passed, Begun}
 use Rattle.posting.specs.Posts.{RowAdded}
 use Rattle.lookups.specs.declared.Lookup.{Lookup}
 use Rattle.lookups.specs.Lookups.{LooksUp}
-use Rattle.lookups.proofs.LookupLaws.{payable-le, StillLeft, still-before, still-add}
+use Rattle.lookups.proofs.LookupLaws.{StillLeft, still-before, still-add}
 
 -- ---- what is payable, and owed, is as before
 

@@ -1,8 +1,8 @@
 -- Where settlement may begin, by what has been looked up, after rows were changed and added.
-use mathlib.Core.Path.{_≡_, refl}
+use mathlib.Core.Path.{_≡_}
 use mathlib.Core.Logic.{_⊎_, inr, ⊎-elim}
-use mathlib.Core.Bool.{Bool, true, false, not, cond, _&&_}
-use Prim.Native.Nat.{ℕ, zero, suc, _+_, _-_, _≤_, _<_}
+use mathlib.Core.Bool.{Bool, true, _&&_}
+use Prim.Native.Nat.{ℕ, zero, suc, _+_, _-_, _≤_}
 use native.Mathlib.Omega.{arith}
 use native.Mathlib.Decide.{ℕ-discrete}
 use mathlib.Core.List.{List}
@@ -11,27 +11,17 @@ use Rattle.records.specs.Encoding.{rowAt, rowsOf}
 use Rattle.lists.specs.Tests.{_is_}
 use Rattle.lists.specs.Lists.{only, exists}
 use Rattle.lists.proofs.ListLaws.{tabulate-at}
-use Rattle.rules.specs.Rows.{Row, Test, blank, toll, debit, held, remaining, sourceOf, debitOf, payable}
-use Rattle.rules.proofs.AllocationLaws.{only-le}
+use Rattle.lists.proofs.SumLaws.{only-le}
+use Rattle.rules.specs.Rows.{Row, Test, blank, toll, debit, remaining, sourceOf, debitOf}
 use Rattle.tables.specs.Changes.{RowChanged, RowsMapped}
 use Rattle.settlement.specs.Settling.{Begun}
 use Rattle.posting.specs.Posts.{RowAdded}
 use Rattle.rules.specs.Book.{Instruction, row, topUpDue}
 use Rattle.rules.specs.Tables.{Tables, rowsUsed, bookOf, soundTables}
 use Rattle.rules.proofs.TableLaws.{sound-rows}
+use Rattle.rules.proofs.SettlementLaws.{payable-le}
 use Rattle.lookups.specs.declared.Lookup.{Lookup}
 use Rattle.lookups.specs.Lookups.{NothingLeft, LooksUp}
-
--- a debit that is not held is a debit
-pub payable-le : (rows : List Row) (a : ℕ) (r : Row) → only (payable rows a) remaining r ≤ only (debitOf a) remaining r
-unfolding payable debitOf only
-payable-le rows a r = go (r .account is a) (debit r) (not (held rows r))
-  where
-    go : (x d h : Bool) → cond (x && (d && h)) (remaining r) 0 ≤ cond (x && d) (remaining r) 0
-    go true true true = omega arith
-    go true true false = omega arith
-    go true false h = omega arith
-    go false d h = omega arith
 
 -- ---- the journal j on the way of the event: what was looked up still holds of it
 

@@ -1,6 +1,6 @@
 -- The search for a passage number over the rows of the journal, row by row.
 use mathlib.Core.Path.{_≡_, sym}
-use mathlib.Core.Bool.{true, false, _&&_}
+use mathlib.Core.Bool.{true, false, _&&_, and-false}
 use Prim.Native.Nat.{ℕ, _+_, _<_}
 use native.Mathlib.Omega.{arith}
 use native.Mathlib.Decide.{ℕ-discrete}
@@ -11,7 +11,6 @@ use Rattle.records.specs.Codes.{Toll}
 use Rattle.records.specs.Encoding.{rowAt, rowsOf}
 use Rattle.lists.specs.Tests.{_is_}
 use Rattle.lists.specs.Lists.{count, exists}
-use Rattle.lists.proofs.TestLaws.{and-false}
 use Rattle.lists.proofs.SumLaws.{count-none, count-some}
 use Rattle.rules.specs.Rows.{Row, Test, toll}
 

@@ -10,12 +10,11 @@ use Rattle.records.specs.Layout.{dayPlace, headerSchedule, stagePlace, rowWidth
 use Rattle.records.specs.Encoding.{word, rowAt, rowsOf, accountsOf, StorableRow, StorableAccount}
 use Rattle.lists.proofs.ListLaws.{tabulate-at}
 use Rattle.rules.specs.Limits.{finalDay, mostAccounts, mostRows, longestStage, highestRefund}
-use Rattle.rules.specs.Rows.{Row, blank, rowNo}
+use Rattle.rules.specs.Rows.{blank, rowNo}
 use Rattle.rules.specs.Book.{unused, account, accountNo, row}
-use Rattle.rules.specs.Soundness.{mostOf, amountFits}
 use Rattle.rules.specs.Tables.{Tables, accountsIn, roomIn, rowsUsed, scheduleFrom, bookOf, soundTables}
 use Rattle.rules.proofs.SoundnessLaws.{Near}
-use Rattle.rules.proofs.StorableLaws.{between-le, mostOf-le, day-le, stage-le, accounts-le, room-le, row-storable, account-storable}
+use Rattle.rules.proofs.StorableLaws.{day-le, stage-le, accounts-le, room-le, row-storable, account-storable, amount-le}
 use Rattle.rules.proofs.TableLaws.{sound-book, sound-rows, length-sound-rows, length-sound-accounts, journal-length, used-le}
 use Rattle.settlement.specs.Settling.{Journal}
 use Rattle.posting.specs.Posts.{Amounts}
@@ -118,17 +117,11 @@ module _ (t : Tables) (s : soundTables t ≡ true) where
 
   -- ---- the journal can be summed and settled
 
-  book-row : (k : ℕ) → k < rowsUsed t → getD (bookOf t .rows) k blank ≡ rowAt (t .journal) k
+  pub book-row : (k : ℕ) → k < rowsUsed t → getD (bookOf t .rows) k blank ≡ rowAt (t .journal) k
   book-row k h = rw (sound-rows t s) (tabulate-at (rowAt (t .journal)) (rowsUsed t) k blank h)
 
   amount-small : (k : ℕ) → k < rowsUsed t → rowAt (t .journal) k .amount ≤ highestRefund
-  unfolding amountFits
-  amount-small k h =
-      let r : Row = getD (bookOf t .rows) k blank in
-      let a : r .amount ≤ mostOf (r .kind) = between-le 1 (mostOf (r .kind)) (r .amount) (near .shape k (rw (length-sound-rows t s) h) .amount) in
-      let m = mostOf-le (r .kind) in
-      let g : r .amount ≤ highestRefund = omega arith in
-      rw (book-row k h) at g
+  amount-small k h = rw (book-row k h) at (amount-le (getD (bookOf t .rows) k blank) (near .shape k (rw (length-sound-rows t s) h) .amount))
 
   pub journal-summable : Amounts (t .journal) (rowsUsed t)
   journal-summable = record { room = used-room; few = used-small; small = amount-small }

@@ -1,14 +1,13 @@
 -- What is posted: the answer of an accepted event, and the tables after one row is added and an account settled.
-use mathlib.Core.Path.{_≡_, refl, sym, ap, _∙_}
-use mathlib.Core.Bool.{Bool, true, false, cond}
-use Prim.Native.Nat.{ℕ, suc, _+_, _-_, _*_, _^_, _≤_, _<_}
+use mathlib.Core.Path.{_≡_, sym, _∙_}
+use mathlib.Core.Bool.{true, false}
+use Prim.Native.Nat.{ℕ, _+_, _-_, _^_, _<_}
 use native.Mathlib.Omega.{arith}
 use native.Mathlib.Decide.{ℕ-discrete}
 use mathlib.Core.List.{List, [], _∷_, _++_}
-use lib.ListN.{length, getD, set, length-set, length-append}
+use lib.ListN.{length, length-set, length-append}
 use lib.IntN.{ℤ}
-use lib.Dec.{eqb}
-use borrow.Author.Tests.{eq-eqb, eqb-true}
+use borrow.Author.Tests.{eq-eqb}
 use Rattle.records.specs.Layout.{dayPlace, usedPlace, headerSchedule}
 use Rattle.records.specs.Encoding.{word, rowAt, rowsOf, accountsOf}
 use Rattle.lists.specs.Tests.{_is_}
@@ -16,18 +15,18 @@ use Rattle.rules.specs.Rows.{Row}
 use Rattle.rules.specs.Settlement.{settle}
 use Rattle.rules.specs.Book.{Account, Instruction, Answer, Book}
 use Rattle.rules.specs.Refusals.{after, answerNumber}
-use Rattle.rules.specs.Posting.{newRows, removesTopUp, acceptance, refusalBy, post}
-use Rattle.rules.specs.Tables.{Tables, accountsIn, roomIn, rowsUsed, scheduleFrom, bookOf, tablesOf, soundTables}
+use Rattle.rules.specs.Posting.{newRows, removesTopUp, acceptance, refusalBy}
+use Rattle.rules.specs.Tables.{Tables, accountsIn, roomIn, rowsUsed, scheduleFrom, bookOf, soundTables}
 use Rattle.rules.proofs.PostingLaws.{post-refused, post-accepted}
 use Rattle.rules.proofs.SettlementLaws.{length-settle}
 use Rattle.rules.proofs.SoundnessLaws.{facts-sound}
-use Rattle.rules.proofs.TableLaws.{sound-book, sound-rows, tablesOf-bookOf, used-le, header-length, journal-length}
+use Rattle.rules.proofs.TableLaws.{sound-book, sound-rows, tablesOf-bookOf, header-length, journal-length}
 use Rattle.preservation.proofs.SoundKept.{after-keeps-sound}
-use Rattle.tables.proofs.ChangeLaws.{changed-append}
+use Rattle.tables.proofs.ChangeLaws.{changed-append, word-same, word-other}
 use Rattle.settlement.specs.Settling.{Journal, Settled}
 use Rattle.posting.specs.Posts.{tablesAt, acceptanceOf, RowAdded, Posts}
 use Rattle.posting.proofs.BookLaws.{day-read, used-read, room-read, schedule-read, journal-settles}
-use Rattle.posting_laws.proofs.HeaderLaws.{schedule-same, word-put, word-others}
+use Rattle.posting_laws.proofs.HeaderLaws.{schedule-same}
 use Rattle.posting_laws.proofs.WrittenLaws.{Written, tables-written}
 
 -- ---- the answer
@@ -77,10 +76,10 @@ module _ (t : Tables) (s : soundTables t ≡ true) (h j j″ acc : List ℤ) (r 
   length-grown = length-settle a (bookOf t .rows ++ (r ∷ [])) ∙ length-append (bookOf t .rows) (r ∷ []) ∙ rw (← used-read t s)
 
   other-word : (k : ℕ) → (k ≡ usedPlace → ⊥) → word h k ≡ word (t .header) k
-  other-word k n = rw (w .header) (word-others (t .header) usedPlace _ k n)
+  other-word k n = rw (w .header) (word-other (t .header) usedPlace _ k n)
 
   used-word : word h usedPlace ≡ rowsUsed t + 1
-  used-word = rw (w .header) (word-put (t .header) usedPlace _ (omega (arith, header-length t s)))
+  used-word = rw (w .header) (word-same (t .header) usedPlace _ (omega (arith, header-length t s)))
 
   same-schedule : scheduleFrom h headerSchedule ≡ scheduleFrom (t .header) headerSchedule
   same-schedule = schedule-same (t .header) h (λ k l. other-word k (λ z. omega arith))

@@ -1,21 +1,20 @@
 -- What the refusals that concern every event come to: an account that is unknown, rows that an event adds, a ceiling that none but a tick can meet.
 use mathlib.Core.Path.{_≡_, refl, sym, ap, subst, _∙_}
-use mathlib.Core.Bool.{Bool, true, false, not, cond, _&&_, _||_, true≢false}
-use Prim.Native.Nat.{ℕ, zero, suc, _+_, _-_, _≤_, _<_}
+use mathlib.Core.Bool.{Bool, true, false, not, cond, _&&_, _||_, true≢false, or-true}
+use Prim.Native.Nat.{ℕ, zero, suc, _+_, _≤_, _<_}
 use native.Mathlib.Omega.{arith}
 use mathlib.Core.List.{List, [], _∷_, _++_, map}
-use lib.ListN.{length, getD, drop, length-append}
+use lib.ListN.{length, drop, length-append}
 use lib.Seq.{drop-at}
-use lib.Dec.{eqb, leb, ltb}
+use lib.Dec.{ltb}
 use borrow.Author.Tests.{le-leb, lt-ltb, le-ltb}
 use Rattle.lists.specs.Tests.{_is_, _from_to_}
 use Rattle.lists.specs.Lists.{sumBy, count, exists}
-use Rattle.lists.proofs.TestLaws.{or-true}
 use Rattle.lists.proofs.SumLaws.{sumBy-ext, sumBy-map}
 use Rattle.rules.specs.Limits.{highestRefund}
 use Rattle.rules.specs.Rows.{Row, Refund, Test}
 use Rattle.rules.specs.Settlement.{settleAccounts}
-use Rattle.rules.specs.Book.{Instruction, Book, account, accountNo, settled}
+use Rattle.rules.specs.Book.{Instruction, Book, account, settled}
 use Rattle.rules.specs.Refusals.{changeOf, after, ceiling}
 use Rattle.rules.specs.Tables.{Tables, roomIn, rowsUsed, bookOf, soundTables}
 use Rattle.rules.proofs.AllocationLaws.{bare}

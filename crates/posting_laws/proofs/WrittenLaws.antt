@@ -1,28 +1,25 @@
 -- Tables that hold a sound book, and all 0 past its rows, are that book's tables: what an event function shows of the tables that it leaves.
 use mathlib.Core.Path.{_≡_, refl, sym, ap, _∙_}
-use mathlib.Core.Bool.{Bool, true, _&&_}
+use mathlib.Core.Bool.{true}
 use Prim.Native.Nat.{ℕ, zero, suc, _+_, _*_, _-_, _/_, _%_, _≤_, _<_, min}
 use native.Mathlib.Omega.{arith}
-use mathlib.Core.List.{List, [], _∷_}
-use lib.ListN.{length, getD, drop, length-drop}
+use mathlib.Core.List.{List}
+use lib.ListN.{length, drop, length-drop}
 use lib.Seq.{getD-drop}
 use lib.IntN.{ℤ, pos}
-use lib.Dec.{leb, eqb}
 use borrow.Author.Tests.{le-leb, eq-eqb, eqb-true}
 use Rattle.records.specs.Layout.{dayPlace, usedPlace, headerSchedule, rowWidth}
-use Rattle.records.specs.Encoding.{natOf, word, rowFrom, rowAt, rowsOf, accountsOf}
-use Rattle.lists.specs.Tests.{_is_, allOf}
+use Rattle.records.specs.Encoding.{word, rowFrom, rowAt, rowsOf, accountsOf}
+use Rattle.lists.specs.Tests.{allOf}
 use Rattle.lists.specs.Lists.{everyFrom}
-use Rattle.lists.proofs.TestLaws.{allOf-at}
 use Rattle.lists.proofs.ListLaws.{every-at, every-all}
-use Rattle.rules.specs.Rows.{Row, blank}
-use Rattle.rules.specs.Schedule.{Schedule}
+use Rattle.rules.specs.Rows.{Row}
 use Rattle.rules.specs.Book.{Book}
 use Rattle.rules.specs.Soundness.{sound}
 use Rattle.rules.specs.Tables.{Tables, accountsIn, roomIn, rowsUsed, scheduleFrom, bookOf, tablesOf, wholeRecords, lengthsFit, usedFits, zeroWord, laterRowsZero, soundTables}
 use Rattle.rules.proofs.SoundnessLaws.{sound-facts}
 use Rattle.rules.proofs.StorableLaws.{rows-le}
-use Rattle.rules.proofs.TableLaws.{tablesOf-bookOf, journal-length, used-le}
+use Rattle.rules.proofs.TableLaws.{tablesOf-bookOf, sound-part}
 
 -- u holds the book b where t held a book of no more rows
 pub record Written (t u : Tables) (b : Book) : Type 0 where
@@ -71,16 +68,12 @@ from-zero xs p z =
 -- ---- the law
 
 module _ (t u : Tables) (b : Book) (st : soundTables t ≡ true) (sb : sound b ≡ true) (w : Written t u b) where
-  part : (k : ℕ) → getD (lengthsFit t ∷ usedFits t ∷ laterRowsZero t ∷ sound (bookOf t) ∷ []) k true ≡ true
-  unfolding soundTables
-  part = allOf-at _ st
-
   rows-room : length (b .rows) ≤ roomIn t
   rows-room = rw (← w .room) (rows-le (b .day) b (sound-facts b sb .near))
 
   lengths-fit : lengthsFit u ≡ true
   unfolding lengthsFit wholeRecords
-  lengths-fit = rw (w .header-size, w .accounts-size, w .journal-size) (part 0)
+  lengths-fit = rw (w .header-size, w .accounts-size, w .journal-size) (sound-part t st 0)
 
   used-fits : usedFits u ≡ true
   unfolding usedFits
@@ -94,7 +87,7 @@ module _ (t u : Tables) (b : Book) (st : soundTables t ≡ true) (sb : sound b �
       let e : m ≡ k * rowWidth + m % rowWidth = omega arith in
       let g : m < length (t .journal) = rw (w .journal-size) at h in
       let o : rowsUsed t ≤ length (b .rows) = w .longer in
-      let z : word (t .journal) m ≡ 0 = zero-from (t .journal) (rowsUsed t * rowWidth) (part 2) m (omega arith) g in
+      let z : word (t .journal) m ≡ 0 = zero-from (t .journal) (rowsUsed t * rowWidth) (sound-part t st 2) m (omega arith) g in
       rw e (same-word (t .journal) (u .journal) k (m % rowWidth) (omega arith) (w .rest k (omega arith)) ∙ rw (← e) z)))
 
   pub book-written : bookOf u ≡ b

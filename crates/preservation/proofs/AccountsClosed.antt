@@ -21,7 +21,7 @@ use Rattle.rules.specs.Tick.{closes, closeIf, refundRow, useUp, closeAccounts}
 use Rattle.rules.specs.Soundness.{kindFits, mostOf, amountFits, settledFits, markFits, tollWordsFit, noReference, rowDayFits, dueWithin, holdFits, accountUsed, names, referenceFits, passage, passageOnce, feesFit}
 use Rattle.rules.proofs.SoundnessLaws.{Shape, Live, Near}
 use Rattle.preservation.proofs.CarriedLaws.{carries-grown, reference-carried}
-use Rattle.preservation.proofs.SettledLaws.{settled-le}
+use Rattle.rules.proofs.StorableLaws.{settled-le}
 use Rattle.preservation.proofs.ClosingLaws.{whole-live, keeps, up-blank, refunds, refund, same-closed, rows′, closing, counted-closed, standing-closed}
 
 module _ (b : Book) where

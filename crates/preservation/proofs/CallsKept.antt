@@ -19,7 +19,7 @@ use Rattle.rules.specs.Tables.{Tables, bookOf, tablesOf, lengthsFit, usedFits, 
 use Rattle.rules.specs.Calls.{Event, eventRefusals, eventCall, batchRefusals, batchCall}
 use Rattle.rules.proofs.SoundnessLaws.{sound-facts}
 use Rattle.rules.proofs.StorableLaws.{rows-le}
-use Rattle.rules.proofs.PostingLaws.{post-refused, post-number, eventCall-refused-tables, batchCall-refused}
+use Rattle.rules.proofs.PostingLaws.{post-refused, post-number, eventCall-refused-tables, batchCall-refused, batchCall-runs}
 use Rattle.rules.proofs.TableLaws.{bookOf-tablesOf, soundTables-tablesOf}
 use Rattle.preservation.proofs.SoundKept.{post-keeps-sound, bookAfter-keeps-sound}
 
@@ -89,7 +89,4 @@ module _ (t : Tables) (es : List Event) (answers : List ℤ) (s : soundTables t 
   -- the book afterwards, where the batch is not too long and the answer table has room
   pub bookOf-batchCall : length es ≤ mostEvents → length es * answerWidth ≤ length answers
       → bookOf (batchCall t es answers .tables) ≡ bookAfter (bookOf t) (map instructionOf es)
-  bookOf-batchCall m a = rw (ran runs) (bookOf-sound (bookAfter (bookOf t) list) after-list)
-    where
-      runs : first (batchRefusals t es answers) ≡ 0
-      runs = unfold batchRefusals first in rw (s, le-ltb mostEvents (length es) m, le-ltb (length answers) (length es * answerWidth) a)
+  bookOf-batchCall m a = rw (ran (batchCall-runs t es answers s m a)) (bookOf-sound (bookAfter (bookOf t) list) after-list)

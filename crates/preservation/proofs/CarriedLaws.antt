@@ -4,16 +4,17 @@ use mathlib.Core.Bool.{Bool, true, false, _&&_}
 use Prim.Native.Nat.{ℕ, zero, suc, _≤_, _<_}
 use native.Mathlib.Omega.{arith}
 use native.Mathlib.Decide.{ℕ-discrete}
-use mathlib.Core.List.{List, [], _++_, map}
+use mathlib.Core.List.{List, _++_, map}
 use lib.ListN.{length, getD, set, List·getD-append}
 use lib.Seq.{getD-set-same, getD-set-other}
 use lib.Dec.{eqb, ltb}
 use borrow.Author.Tests.{ltb-true}
-use Rattle.lists.proofs.GatherLaws.{map-at, grown-at}
+use Rattle.lists.proofs.GatherLaws.{grown-at}
 use Rattle.rules.specs.Rows.{Row, blank, rowNo}
 use Rattle.rules.specs.Book.{Account}
 use Rattle.rules.specs.Soundness.{names, referenceFits, passageOnce, feesFit}
 use Rattle.rules.proofs.SoundnessLaws.{Shape}
+use Rattle.lists.proofs.ListLaws.{map-at}
 
 -- the second list of rows has those of the first under their numbers, with their kind and account
 pub record Carries (rows rows′ : List Row) : Type 0 where
@@ -39,7 +40,7 @@ carries-map f rest p q rows = record { kind = λ j h. at j (λ r. r .kind) p; ac
   where
     at : (j : ℕ) (g : Row → ℕ) → ((r : Row) → g (f r) ≡ g r) → g (rowNo (map f rows) j) ≡ g (rowNo rows j)
     at zero g e = refl
-    at (suc i) g e = rw (map-at f blank rest rows [] i) (e (getD rows i blank))
+    at (suc i) g e = rw (map-at f rows i blank rest) (e (getD rows i blank))
 
 pub carries-append : (rows more : List Row) → Carries rows (rows ++ more)
 carries-append rows more = record { kind = λ j h. ap (λ (r : Row). r .kind) (named j h); account = λ j h. ap (λ (r : Row). r .account) (named j h) }

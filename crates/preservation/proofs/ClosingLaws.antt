@@ -1,7 +1,7 @@
 -- A tick's last step: accounts close, their money leaving as a refund. What this does to sums, to one account's and to its words.
 use mathlib.Core.Path.{_≡_, refl, sym, ap, _∙_}
 use mathlib.Core.Logic.{_≢_}
-use mathlib.Core.Bool.{Bool, true, false, not, cond, _&&_, _||_, true≢false}
+use mathlib.Core.Bool.{Bool, true, false, not, cond, _&&_, _||_, true≢false, and-false}
 use Prim.Native.Nat.{ℕ, zero, suc, _+_, _-_, _≤_, _<_}
 use native.Mathlib.Nat.{add-zero}
 use native.Mathlib.Omega.{arith}
@@ -12,7 +12,7 @@ use borrow.Author.Tests.{le-leb, ltb-false, lt-ltb, eqb-true, eq-eqb, ne-eqb, no
 use Rattle.records.specs.AccountOperations.{closed}
 use Rattle.lists.specs.Tests.{_implies_}
 use Rattle.lists.specs.Lists.{sumBy, only, count, exists, one, gather}
-use Rattle.lists.proofs.TestLaws.{and-left, and-right, and-both, and-false, cond-zero}
+use Rattle.lists.proofs.TestLaws.{and-left, and-right, and-both, cond-zero}
 use Rattle.lists.proofs.SumLaws.{sumBy-ext, sumBy-zero}
 use Rattle.lists.proofs.GatherLaws.{gather-none, gather-only, sumBy-grown}
 use Rattle.rules.specs.Limits.{closingDays}

@@ -17,13 +17,14 @@ use Rattle.rules.specs.Rows.{Row, blank, remaining, heldToll, unsettled, source
 use Rattle.rules.specs.Settlement.{money, used, paid, owed}
 use Rattle.rules.specs.Book.{Account, unused, Book}
 use Rattle.rules.specs.Events.{release}
-use Rattle.rules.specs.Tick.{nextDay, holdEnds, endHolds, beforeRaising}
+use Rattle.rules.specs.Tick.{nextDay, holdEnds, endHold, endHolds, beforeRaising}
 use Rattle.rules.specs.Opening.{dayFits}
 use Rattle.rules.specs.Soundness.{settledFits, rowDayFits, dueWithin, holdFits, requestFits, declineFits, returnedOf, returnedFits, even, closedClear}
 use Rattle.rules.proofs.SoundnessLaws.{Shape, Live, Standing, Counted, Near}
 use Rattle.preservation.proofs.SettledLaws.{hold-free, settled-near}
 use Rattle.preservation.proofs.KeepingLaws.{framed-near, framed-map, core}
 use Rattle.preservation.proofs.DisputeKept.{HeldToll, held-is, live-released, shape-released}
+use Rattle.preservation.proofs.TickSteps.{endHold-keeps}
 
 -- ---- every row changed in its due day, dispute and hold alone
 
@@ -72,18 +73,7 @@ standing-later today x s = record {
     later true e = and-both (leb 1 (x .request)) _ (and-left (leb 1 (x .request)) _ e) (leb-up (x .request) today (and-right (leb 1 (x .request)) _ e))
     later false e = refl
 
--- ---- a row at dawn
-
-abbrev atDawn : ℕ → Row → Row
-atDawn today r = cond (holdEnds today r) (release today r) r
-
-core-atDawn : (today : ℕ) (r : Row) → core (atDawn today r) ≡ core r
-unfolding release
-core-atDawn today r = go (holdEnds today r)
-  where
-    go : (t : Bool) → core (cond t (release today r) r) ≡ core r
-    go true = refl
-    go false = refl
+-- ---- a row whose hold may end
 
 ending : (today : ℕ) (r : Row) → holdEnds today r ≡ true → (r .kind ≡ 1) × (r .dispute ≡ 1)
 unfolding holdEnds
@@ -122,33 +112,35 @@ live-stays today L r n v = record { settled = v .settled; due = due (eqb (r .kin
         ) (w .due-after)
     hold false e = hold-free (eqb (r .kind) 1) (eqb (r .dispute) 1) _ _ (eqb (r .hold) 0) e (v .hold)
 
-live-atDawn : (today L : ℕ) (r : Row) → Live today today L r → Live today (today + 1) L (atDawn (today + 1) r)
-live-atDawn today L r v = go (holdEnds (today + 1) r) refl
+live-endHold : (today L : ℕ) (r : Row) → Live today today L r → Live today (today + 1) L (endHold (today + 1) r)
+unfolding endHold
+live-endHold today L r v = go (holdEnds (today + 1) r) refl
   where
     go : (t : Bool) → holdEnds (today + 1) r ≡ t → Live today (today + 1) L (cond t (release (today + 1) r) r)
     go true e = let f = ending (today + 1) r e in live-released today today today (today + 1) L r (f .0) (f .1) (omega arith) (omega arith) v
     go false e = live-stays today L r e v
 
-shape-atDawn : (today : ℕ) (xs : List Account) (rows : List Row) (n : ℕ) (r : Row) → Shape today xs rows n r → Shape today xs rows n (atDawn today r)
-shape-atDawn today xs rows n r s = go (holdEnds today r) refl
+shape-endHold : (today : ℕ) (xs : List Account) (rows : List Row) (n : ℕ) (r : Row) → Shape today xs rows n r → Shape today xs rows n (endHold today r)
+unfolding endHold
+shape-endHold today xs rows n r s = go (holdEnds today r) refl
   where
     go : (t : Bool) → holdEnds today r ≡ t → Shape today xs rows n (cond t (release today r) r)
     go true e = shape-released today today xs rows n r (ending today r e .0) s
     go false e = s
 
 pub endHolds-near : (b : Book) → Near (b .day) b → b .day ≢ finalDay → Near (b .day) (endHolds (nextDay b))
-unfolding endHolds nextDay dayFits holdEnds
+unfolding endHolds nextDay dayFits endHold holdEnds
 endHolds-near b s ne =
-    let f : Row → Row = atDawn (b .day + 1) in
-    let same : (r : Row) → core (f r) ≡ core r = core-atDawn (b .day + 1) in
+    let f : Row → Row = endHold (b .day + 1) in
+    let same : (r : Row) → core (f r) ≡ core r = endHold-keeps core (λ r t. unfold release in refl) (b .day + 1) in
     let d1 : 1 ≤ b .day = leb-true 1 (b .day) (and-left (leb 1 (b .day)) _ (s .day)) in
     let d2 : b .day ≤ finalDay = leb-true (b .day) finalDay (and-right (leb 1 (b .day)) _ (s .day)) in
     framed-near (b .day) (endHolds (nextDay b))
     (framed-map (b .day) (nextDay b) f refl
     (λ r. record { kind = ap (λ (x : Row). x .kind) (same r); account = ap (λ (x : Row). x .account) (same r); reference = ap (λ (x : Row). x .reference) (same r) })
     (and-both _ _ (le-leb 1 (b .day + 1) (omega arith)) (le-leb (b .day + 1) finalDay (omega arith))) (s .schedule) (s .sizes) (s .fits)
-    (λ k l. shape-atDawn (b .day + 1) (b .accounts) (b .rows) (suc k) (getD (b .rows) k blank) (shape-later (b .day) (b .accounts) (b .rows) (suc k) (getD (b .rows) k blank) (s .shape k l)))
-    (λ k l. live-atDawn (b .day) (b .schedule .stage) (getD (b .rows) k blank) (s .live k l))
+    (λ k l. shape-endHold (b .day + 1) (b .accounts) (b .rows) (suc k) (getD (b .rows) k blank) (shape-later (b .day) (b .accounts) (b .rows) (suc k) (getD (b .rows) k blank) (s .shape k l)))
+    (λ k l. live-endHold (b .day) (b .schedule .stage) (getD (b .rows) k blank) (s .live k l))
     (λ k h. standing-later (b .day) (getD (b .accounts) k unused) (s .standing k h)))
     (λ k h. counted-map f same (b .rows) (suc k) (getD (b .accounts) k unused) (s .counted k h))
 

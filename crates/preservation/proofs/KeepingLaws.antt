@@ -13,7 +13,6 @@ use borrow.Author.Tests.{le-leb, eqb-true}
 use Rattle.lists.specs.Tests.{_implies_}
 use Rattle.lists.specs.Lists.{sumBy, only, count}
 use Rattle.lists.proofs.TestLaws.{cond-zero}
-use Rattle.lists.proofs.GatherLaws.{map-at}
 use Rattle.lists.proofs.SumLaws.{sumBy-snoc, sumBy-set-same, sumBy-map, sumBy-ext}
 use Rattle.rules.specs.Schedule.{scheduleFits}
 use Rattle.rules.specs.Rows.{Row, Test, blank, toll, remaining, withDue, withDispute, withHold, feeNaming, sourceOf, debitOf}
@@ -23,6 +22,7 @@ use Rattle.rules.specs.Opening.{dayFits, sizesFit}
 use Rattle.rules.specs.Soundness.{accountUsed, passage, passageOnce, feesFit, returnedOf, returnedFits, even, closedClear}
 use Rattle.rules.proofs.SoundnessLaws.{Shape, Live, Standing, Counted, Near}
 use Rattle.preservation.proofs.CarriedLaws.{carries-map, carries-append, carries-set, shape-carried}
+use Rattle.lists.proofs.ListLaws.{map-at}
 
 -- ---- a nearly sound book but for the accounts' sums
 
@@ -321,10 +321,10 @@ framed-map past b f rest same d c z n w v st =
       shape = λ k h.
           let l : k < length (b .rows) = rw (length-map (b .rows) f) at h in
           let o = w k l in
-          rw (map-at f blank rest rows [] k)
+          rw (map-at f rows k blank rest)
           (shape-carried rows (map f rows) (carries-map f rest (λ r. same r .kind) (λ r. same r .account) rows) (b .day) (b .accounts) (suc k) (f (getD rows k blank)) (omega arith)
           (passage-map (f (getD rows k blank)) ∙ o .passage) (fees-map (suc k) (f (getD rows k blank)) ∙ o .fees) o);
-      live = λ k h. rw (map-at f blank rest rows [] k) (v k (rw (length-map (b .rows) f) at h));
+      live = λ k h. rw (map-at f rows k blank rest) (v k (rw (length-map (b .rows) f) at h));
       standing = st;
     }
   where

@@ -12,6 +12,7 @@ pub mod TollKept
 pub mod ReturnKept
 pub mod ForgiveLaws
 pub mod UpholdKept
+pub mod TickSteps
 pub mod HoldsEnded
 pub mod TollsRaised
 pub mod ClosingLaws
@@ -22,4 +23,5 @@ pub mod CallsKept
 pub mod EventFrame
 pub mod PostFrame
 pub mod NamedLaws
+pub mod OpenTolls
 pub mod RowsKept

@@ -1,12 +1,12 @@
 -- An event settles the account that it names alone: elsewhere settlement finds nothing to move.
-use mathlib.Core.Path.{_≡_, refl, ap, _∙_}
+use mathlib.Core.Path.{_≡_, ap}
 use mathlib.Core.Logic.{_≢_}
-use Prim.Native.Nat.{ℕ, zero, suc, _≤_, _<_}
+use Prim.Native.Nat.{ℕ, zero, suc, _≤_}
 use native.Mathlib.Omega.{arith}
 use mathlib.Core.List.{List}
 use lib.ListN.{length}
 use Rattle.rules.specs.Rows.{Row}
-use Rattle.rules.specs.Settlement.{money, debt, moved, settle}
+use Rattle.rules.specs.Settlement.{moved, settle}
 use Rattle.rules.specs.Book.{Instruction, Book, withRows, settled}
 use Rattle.rules.specs.Refusals.{changeOf, after}
 use Rattle.rules.proofs.SettlementAccountsLaws.{settleAccounts-same, settleAccounts-one}

@@ -12,12 +12,12 @@ use lib.Dec.{eqb}
 use borrow.Author.Tests.{ne-eqb}
 use Rattle.lists.specs.Lists.{sumBy, only, count}
 use Rattle.lists.proofs.SumLaws.{sumBy-longer}
-use Rattle.lists.proofs.GatherLaws.{map-at}
 use Rattle.rules.specs.Rows.{Row, blank, remaining, sourceOf, debitOf}
 use Rattle.rules.specs.Settlement.{money, used, paid, owed}
 use Rattle.rules.specs.Book.{Account}
 use Rattle.rules.specs.Soundness.{returnedOf, returnedFits, even, closedClear}
 use Rattle.rules.proofs.SoundnessLaws.{Counted}
+use Rattle.lists.proofs.ListLaws.{map-at}
 
 pub record Others (n : ℕ) (rows rows′ : List Row) : Type 0 where
   pub longer : length rows ≤ length rows′
@@ -80,12 +80,15 @@ others-map n rows f rest a e =
     let m : length (map f rows) ≡ length rows = length-map rows f in
     record {
       longer = omega arith;
-      same = λ k l w. map-at f blank rest rows [] k ∙ e k l w;
-      mine = λ k l w. rw (map-at f blank rest rows [] k) (a (getD rows k blank) ∙ w);
+      same = λ k l w. map-at f rows k blank rest ∙ e k l w;
+      mine = λ k l w. rw (map-at f rows k blank rest) (a (getD rows k blank) ∙ w);
       added = λ k l h. absurd (omega arith);
     }
 
 -- ---- what they leave alone
+
+pub other-account : (n m : ℕ) → m ≢ n → (r : Row) → r .account ≡ n → eqb (r .account) m ≡ false
+other-account n m ne r e = ne-eqb (r .account) m (λ w. ne (sym w ∙ e))
 
 module _ (n : ℕ) (rows rows′ : List Row) (o : Others n rows rows′) where
   -- a sum to which rows of account n add nothing
@@ -98,28 +101,25 @@ module _ (n : ℕ) (rows rows′ : List Row) (o : Others n rows rows′) where
       at i l (no e) = ap f (sym (o .same i l e))
 
   module _ (m : ℕ) (ne : m ≢ n) where
-    other-account : (r : Row) → r .account ≡ n → eqb (r .account) m ≡ false
-    other-account r e = ne-eqb (r .account) m (λ w. ne (sym w ∙ e))
-
     pub used-others : used m rows′ ≡ used m rows
     unfolding used only sourceOf
-    used-others = sum-others (only (sourceOf m) (λ r. r .settled)) (λ r e. rw (other-account r e))
+    used-others = sum-others (only (sourceOf m) (λ r. r .settled)) (λ r e. rw (other-account n m ne r e))
 
     pub paid-others : paid m rows′ ≡ paid m rows
     unfolding paid only debitOf
-    paid-others = sum-others (only (debitOf m) (λ r. r .settled)) (λ r e. rw (other-account r e))
+    paid-others = sum-others (only (debitOf m) (λ r. r .settled)) (λ r e. rw (other-account n m ne r e))
 
     pub money-others : money m rows′ ≡ money m rows
     unfolding money only sourceOf
-    money-others = sum-others (only (sourceOf m) remaining) (λ r e. rw (other-account r e))
+    money-others = sum-others (only (sourceOf m) remaining) (λ r e. rw (other-account n m ne r e))
 
     pub owed-others : owed m rows′ ≡ owed m rows
     unfolding owed only debitOf
-    owed-others = sum-others (only (debitOf m) remaining) (λ r e. rw (other-account r e))
+    owed-others = sum-others (only (debitOf m) remaining) (λ r e. rw (other-account n m ne r e))
 
     returned-others : count (returnedOf m) rows′ ≡ count (returnedOf m) rows
     unfolding count returnedOf
-    returned-others = sum-others (λ r. cond (returnedOf m r) 1 0) (λ r e. rw (other-account r e))
+    returned-others = sum-others (λ r. cond (returnedOf m r) 1 0) (λ r e. rw (other-account n m ne r e))
 
     pub counted-others : (x : Account) → Counted rows m x → Counted rows′ m x
     unfolding returnedFits even closedClear

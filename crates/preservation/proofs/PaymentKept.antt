@@ -1,6 +1,6 @@
 -- Sound stays sound: a payment (event 3) and a top-up, paid or declined (event 7).
 use mathlib.Core.Path.{_≡_, refl}
-use mathlib.Core.Bool.{Bool, true, false, not, cond, _&&_, false≢true}
+use mathlib.Core.Bool.{Bool, true, false, not, cond, _&&_, false≢true, and-false}
 use Prim.Native.Nat.{ℕ, suc, _+_, _≤_, _<_}
 use native.Mathlib.Omega.{arith}
 use mathlib.Core.List.{[], _∷_}
@@ -10,7 +10,7 @@ use borrow.Author.Tests.{leb-true, leb-false, le-leb, ltb-true, eqb-true, ne-eqb
 use Rattle.records.specs.AccountOperations.{topUpPaid, declinedOn}
 use Rattle.records.specs.Updates.{withTopUp, withDeclines}
 use Rattle.lists.specs.Tests.{_from_to_, _implies_}
-use Rattle.lists.proofs.TestLaws.{and-left, and-right, and-both, and-false, or-left}
+use Rattle.lists.proofs.TestLaws.{and-left, and-right, and-both, or-left}
 use Rattle.rules.specs.Limits.{highestPayment, highestTopUp, mostDeclines}
 use Rattle.rules.specs.Rows.{Row, Payment, newRow, withMark, feeNaming}
 use Rattle.rules.specs.Book.{Account, Instruction, Book, account, addRow, putAccount, topUpDue, lowBalance}

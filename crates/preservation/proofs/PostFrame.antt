@@ -7,24 +7,23 @@ use Prim.Native.Nat.{ℕ, zero, suc, _≤_, _<_, min}
 use native.Mathlib.Omega.{arith}
 use native.Mathlib.Decide.{ℕ-discrete}
 use mathlib.Core.List.{List}
-use lib.ListN.{length, getD, List·getD-map}
+use lib.ListN.{length, getD}
 use lib.Dec.{eqb}
-use borrow.Author.Tests.{eqb-true, ne-eqb, not-true}
+use borrow.Author.Tests.{eqb-true, not-true}
 use Rattle.lists.specs.Lists.{only}
 use Rattle.lists.proofs.SumLaws.{sumBy-longer}
 use Rattle.rules.specs.Rows.{Row, blank, rowNo, held, heldToll, remaining, payable}
-use Rattle.rules.specs.Settlement.{money, debt, moved, settleAccounts}
+use Rattle.rules.specs.Settlement.{money, debt, moved}
 use Rattle.rules.specs.Book.{Instruction, Book, account, settled}
 use Rattle.rules.specs.Soundness.{accountUsed, spent, sound}
 use Rattle.rules.specs.Refusals.{changeOf, after, answerNumber}
 use Rattle.rules.specs.Posting.{post}
-use Rattle.rules.proofs.AllocationLaws.{bare}
-use Rattle.rules.proofs.SettlementAccountsLaws.{length-settleAccounts, settleAccounts-bare, settleAccounts-still}
+use Rattle.rules.proofs.SettlementAccountsLaws.{length-settleAccounts, settleAccounts-row, settleAccounts-still}
 use Rattle.rules.proofs.SoundnessLaws.{Near, Sound, sound-facts}
 use Rattle.rules.proofs.StorableLaws.{used-inside}
 use Rattle.rules.proofs.PostingLaws.{post-refused, post-accepted}
 use Rattle.preservation.proofs.Accepted.{Accepted, accepted}
-use Rattle.preservation.proofs.OthersLaws.{Others, money-others}
+use Rattle.preservation.proofs.OthersLaws.{Others, money-others, other-account}
 use Rattle.preservation.proofs.FeeLaws.{Named, fee-at}
 use Rattle.preservation.proofs.EventFrame.{change-others, change-account}
 
@@ -52,14 +51,11 @@ module _ (b : Book) (s : Near (b .day) b) (n : ℕ) (rows′ : List Row) (o : Ot
   unfolding debt only payable
   debt-others m ne =
       sym (sumBy-longer (only (payable (b .rows) m) remaining) (only (payable rows′ m) remaining) blank (b .rows) rows′ (o .longer)
-      (λ i l. at i l (ℕ-discrete (getD (b .rows) i blank .account) n)) (λ i l h. rw (other (getD rows′ i blank) (o .added i l h))))
+      (λ i l. at i l (ℕ-discrete (getD (b .rows) i blank .account) n)) (λ i l h. rw (other-account n m ne (getD rows′ i blank) (o .added i l h))))
     where
-      other : (r : Row) → r .account ≡ n → eqb (r .account) m ≡ false
-      other r e = ne-eqb (r .account) m (λ w. ne (sym w ∙ e))
-
       at : (i : ℕ) → i < length (b .rows) → Dec (getD (b .rows) i blank .account ≡ n)
           → only (payable (b .rows) m) remaining (getD (b .rows) i blank) ≡ only (payable rows′ m) remaining (getD rows′ i blank)
-      at i l (yes e) = rw (other (getD (b .rows) i blank) e, other (getD rows′ i blank) (o .mine i l e))
+      at i l (yes e) = rw (other-account n m ne (getD (b .rows) i blank) e, other-account n m ne (getD rows′ i blank) (o .mine i l e))
       at i l (no e) = rw (o .same i l e, held-others i l e)
 
 -- ---- settlement moves nothing in another account
@@ -99,9 +95,7 @@ module _ (b : Book) (e : Instruction) (s : Sound b) (ne : e .kind ≢ 9) (q : Ac
   after-added k l h =
       let rows₁ : List Row = changeOf (e .kind) b e .rows in
       let n : ℕ = length (changeOf (e .kind) b e .accounts) in
-      let f : bare (getD (settleAccounts n rows₁) k blank) ≡ bare (getD rows₁ k blank) =
-      sym (List·getD-map bare (settleAccounts n rows₁) k blank) ∙ ap (λ (ys : List Row). getD ys k blank) (settleAccounts-bare n rows₁) ∙ List·getD-map bare rows₁ k blank in
-      ap (λ (r : Row). r .account) f ∙ changed .added k l (rw (length-settleAccounts n rows₁) at h)
+      ap (λ (r : Row). r .account) (settleAccounts-row n rows₁ k .kept) ∙ changed .added k l (rw (length-settleAccounts n rows₁) at h)
 
   after-account : (n : ℕ) → n ≢ e .account → account (after b e) n ≡ account b n
   unfolding after settled

@@ -1,6 +1,6 @@
 -- Sound stays sound: a returned check (event 4).
 use mathlib.Core.Path.{_≡_, refl, ap, _∙_}
-use mathlib.Core.Bool.{Bool, true, false, not, cond, false≢true, true≢false}
+use mathlib.Core.Bool.{Bool, true, false, not, cond, false≢true, true≢false, and-false, or-true}
 use Prim.Native.Nat.{ℕ, zero, suc, _+_, _-_, _≤_, _<_}
 use native.Mathlib.Omega.{arith}
 use native.Mathlib.Decide.{ℕ-discrete}
@@ -13,7 +13,7 @@ use Rattle.records.specs.Updates.{withState, withReturned}
 use Rattle.records.specs.AccountOperations.{checkReturned}
 use Rattle.lists.specs.Tests.{_from_to_}
 use Rattle.lists.specs.Lists.{only, count}
-use Rattle.lists.proofs.TestLaws.{and-left, and-right, and-both, and-false, or-left, or-true}
+use Rattle.lists.proofs.TestLaws.{and-left, and-right, and-both, or-left}
 use Rattle.lists.proofs.SumLaws.{sumBy-set, sumBy-set-same}
 use Rattle.rules.specs.Limits.{highestPayment, highestFee, highestCharge, returnFee}
 use Rattle.rules.specs.Rows.{Row, Fee, Reversal, blank, rowNo, toll, newRow, withMark, withReference, feeNaming, sourceOf, debitOf}

@@ -5,18 +5,17 @@ use mathlib.Core.Bool.{Bool, true, false, cond, _&&_}
 use Prim.Native.Nat.{ℕ, zero, suc, _+_, _-_, _≤_, _<_}
 use native.Mathlib.Omega.{arith}
 use native.Mathlib.Decide.{ℕ-discrete}
-use mathlib.Core.List.{List, [], _++_, map}
+use mathlib.Core.List.{List, _++_, map}
 use lib.ListN.{length, getD, set, length-append, length-map, length-set, List·getD-append}
 use lib.Seq.{getD-set-same, getD-set-other}
 use lib.Dec.{eqb}
 use borrow.Author.Tests.{eqb-true}
-use Rattle.lists.proofs.GatherLaws.{map-at}
 use Rattle.records.specs.Codes.{CheckReturned, Upheld}
 use Rattle.rules.specs.Rows.{Row, blank, withMark, withHold, withDispute, remaining, settleWhole, feeNaming, source}
 use Rattle.rules.specs.Settlement.{settle, settleAccounts}
 use Rattle.rules.specs.Book.{Instruction, Book, account, row, settled}
 use Rattle.rules.specs.Events.{openAccount, postToll, postPayment, returnCheck, holdFrom, holdToll, release, uphold, reject, decide, payTopUp, declineTopUp, topUpResult, requestClose}
-use Rattle.rules.specs.Tick.{nextDay, holdEnds, endHolds, beforeRaising, rises, raise, raiseTolls, closes, useUp, closeAccounts, tick}
+use Rattle.rules.specs.Tick.{nextDay, holdEnds, endHold, endHolds, beforeRaising, rises, raise, raiseTolls, closes, useUp, closeAccounts, tick}
 use Rattle.rules.specs.Refusals.{changeOf, after, answerNumber, noRow}
 use Rattle.rules.specs.Posting.{post}
 use Rattle.rules.proofs.SettlementLaws.{settle-row, length-settle}
@@ -24,6 +23,7 @@ use Rattle.rules.proofs.PostingLaws.{post-refused, post-accepted}
 use Rattle.preservation.proofs.Accepted.{Accepted, accepted}
 use Rattle.preservation.proofs.LookupLaws.{named-kind}
 use Rattle.preservation.proofs.DisputeKept.{event6, decided}
+use Rattle.lists.proofs.ListLaws.{map-at}
 
 -- a row in place of another
 pub record RowKept (r s : Row) : Type 0 where
@@ -91,7 +91,7 @@ rows-set rows j r p = record { longer = omega (arith, length-set rows j r); each
 rows-map : (f : Row → Row) → f blank ≡ blank → ((r : Row) → RowKept r (f r)) → (rows : List Row) → RowsKept rows (map f rows)
 rows-map f rest p rows = record {
   longer = omega (arith, length-map rows f);
-  each = λ k h. rw (map-at f blank rest rows [] k) (p (getD rows k blank));
+  each = λ k h. rw (map-at f rows k blank rest) (p (getD rows k blank));
 }
 
 row-settled : (a : ℕ) (rows : List Row) (k : ℕ) → RowKept (getD rows k blank) (getD (settle a rows) k blank)
@@ -172,12 +172,11 @@ topUp-kept b e = go (eqb (e .b) 1)
 
 -- ---- the tick
 
-dawn-kept : (b : Book) → RowsKept (b .rows) (beforeRaising b .rows)
-unfolding beforeRaising endHolds nextDay holdEnds
-dawn-kept b =
-    let f : Row → Row = λ r. cond (holdEnds (b .day + 1) r) (release (b .day + 1) r) r in
+ended-kept : (b : Book) → RowsKept (b .rows) (beforeRaising b .rows)
+unfolding beforeRaising endHolds nextDay endHold holdEnds
+ended-kept b =
     rows-kept (b .rows) (endHolds (nextDay b) .rows) _
-    (rows-map f refl (λ r. row-cond (holdEnds (b .day + 1) r) r (release (b .day + 1) r) (row-released (b .day + 1) r)) (b .rows))
+    (rows-map (endHold (b .day + 1)) refl (λ r. row-cond (holdEnds (b .day + 1) r) r (release (b .day + 1) r) (row-released (b .day + 1) r)) (b .rows))
     (settled-keeps-rows (endHolds (nextDay b)))
 
 raised-kept : (b : Book) → RowsKept (b .rows) (raiseTolls b .rows)
@@ -195,7 +194,7 @@ closed-kept b =
 tick-kept : (b : Book) (e : Instruction) → RowsKept (b .rows) (tick b e .rows)
 unfolding tick
 tick-kept b e =
-    rows-kept (b .rows) _ _ (dawn-kept b) (rows-kept (beforeRaising b .rows) _ _ (raised-kept (beforeRaising b)) (closed-kept (raiseTolls (beforeRaising b))))
+    rows-kept (b .rows) _ _ (ended-kept b) (rows-kept (beforeRaising b .rows) _ _ (raised-kept (beforeRaising b)) (closed-kept (raiseTolls (beforeRaising b))))
 
 -- ---- every event
 

@@ -1,7 +1,7 @@
 -- Settlement makes a book that is nearly sound sound.
 use mathlib.Core.Path.{_≡_, refl, sym, ap, _∙_}
 use mathlib.Core.Logic.{_≢_}
-use mathlib.Core.Bool.{Bool, true, false, not, cond, _&&_, _||_, true≢false, false≢true}
+use mathlib.Core.Bool.{Bool, true, false, not, cond, _&&_, _||_, true≢false, false≢true, or-true}
 use Prim.Native.Nat.{ℕ, zero, suc, _+_, _≤_, _<_, min}
 use native.Mathlib.Omega.{arith}
 use native.Mathlib.Nat.{add-zero}
@@ -9,18 +9,18 @@ use native.Mathlib.Decide.{ℕ-discrete}
 use mathlib.Core.List.{List}
 use lib.ListN.{length, getD}
 use lib.Dec.{eqb, leb, ltb}
-use borrow.Author.Tests.{leb-true, le-leb, ltb-true, lt-ltb, eqb-true, eq-eqb}
+use borrow.Author.Tests.{le-leb, ltb-true, lt-ltb, eqb-true, eq-eqb}
 use Rattle.lists.specs.Tests.{_implies_}
-use Rattle.lists.specs.Lists.{only}
-use Rattle.lists.proofs.TestLaws.{and-left, and-right, and-both, and-false, or-true}
-use Rattle.rules.specs.Rows.{Row, blank, debit, held, heldToll, unsettled, remaining, settleMore, feeNaming, sourceOf, payable}
+use Rattle.lists.proofs.TestLaws.{and-left, and-right, and-both}
+use Rattle.rules.specs.Rows.{Row, blank, heldToll, unsettled, settleMore, feeNaming, sourceOf, payable}
 use Rattle.rules.specs.Settlement.{money, debt, moved, settle, settleAccounts, used, paid, owed}
 use Rattle.rules.specs.Book.{Account, unused, Book, withRows, settled}
 use Rattle.rules.specs.Soundness.{kindFits, amountFits, settledFits, markFits, tollWordsFit, noReference, rowDayFits, dueWithin, holdFits, accountUsed, names, referenceFits, passage, passageOnce, feesFit, returnedOf, returnedFits, even, spent, closedClear}
 use Rattle.rules.proofs.AllocationLaws.{share, share-le}
-use Rattle.rules.proofs.SettlementLaws.{settle-same, settle-fair, settle-row, settle-at, length-settle}
+use Rattle.rules.proofs.SettlementLaws.{settle-same, settle-fair, settle-row, settle-at, length-settle, held-source, held-payable}
 use Rattle.rules.proofs.SettlementAccountsLaws.{used-other, money-other, paid-other, owed-other, count-settle, named-settle, length-settleAccounts, settleAccounts-spent}
 use Rattle.rules.proofs.SoundnessLaws.{Shape, Live, Counted, Near, Sound}
+use Rattle.rules.proofs.StorableLaws.{settled-le}
 use Rattle.preservation.proofs.CarriedLaws.{Carries, reference-carried}
 
 -- ---- one row
@@ -65,10 +65,6 @@ hold-free true true x x′ y e f = absurd (true≢false e)
 hold-free true false x x′ y e f = f
 hold-free false d x x′ y e f = refl
 
-pub settled-le : (r : Row) → settledFits r ≡ true → r .settled ≤ r .amount
-unfolding settledFits
-settled-le r e = leb-true (r .settled) (r .amount) (and-left (leb (r .settled) (r .amount)) _ e)
-
 -- a row of which more is settled, within its amount, and nothing more where it is a held toll
 pub live-more : (past today L : ℕ) (r : Row) (m : ℕ) → (r .settled ≤ r .amount → r .settled + m ≤ r .amount) → (heldToll r ≡ true → m ≡ 0)
     → Live past today L r → Live past today L (settleMore r m)
@@ -98,17 +94,6 @@ live-more past today L r m f z v =
     holds : (b : Bool) → heldToll r ≡ b → holdFits today L (settleMore r m) ≡ true
     holds true e = rw (z e, add-zero) (v .hold)
     holds false e = hold-free (eqb (r .kind) 1) (eqb (r .dispute) 1) _ _ (eqb (r .hold) 0) e (v .hold)
-
--- a held toll takes and gives nothing
-held-source : (a : ℕ) (r : Row) → heldToll r ≡ true → only (sourceOf a) remaining r ≡ 0
-unfolding only sourceOf
-held-source a r e =
-    let k : r .kind ≡ 1 = eqb-true (r .kind) 1 (and-left (eqb (r .kind) 1) _ e) in
-    rw (k, and-false (eqb (r .account) a))
-
-held-payable : (rows : List Row) (a : ℕ) (r : Row) → heldToll r ≡ true → only (payable rows a) remaining r ≡ 0
-unfolding only payable held
-held-payable rows a r e = rw (e, and-false (debit r), and-false (eqb (r .account) a))
 
 live-settle : (past today L a : ℕ) (rows : List Row) (i : ℕ) → Live past today L (getD rows i blank) → Live past today L (getD (settle a rows) i blank)
 live-settle past today L a rows i v =

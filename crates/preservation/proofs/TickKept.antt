@@ -5,7 +5,7 @@ use mathlib.Core.Bool.{Bool, true, false, cond, _&&_, true≢false}
 use Prim.Native.Nat.{ℕ, suc, _+_, _-_, _≤_, _<_}
 use native.Mathlib.Omega.{arith}
 use mathlib.Core.List.{List, _++_, map}
-use lib.ListN.{length, getD, drop, length-append, length-map, length-drop, List·getD-map}
+use lib.ListN.{length, getD, drop, length-append, length-map, length-drop}
 use lib.Seq.{getD-drop, drop-append-le}
 use lib.Dec.{eqb, ltb}
 use borrow.Author.Tests.{ltb-false, eq-eqb}
@@ -16,18 +16,18 @@ use Rattle.rules.specs.Limits.{finalDay, highestRefund}
 use Rattle.rules.specs.Rows.{Row, Test, blank}
 use Rattle.rules.specs.Settlement.{money, settleAccounts}
 use Rattle.rules.specs.Book.{Account, unused, Instruction, Book, settled}
-use Rattle.rules.specs.Tick.{nextDay, endHolds, beforeRaising, raise, feeRow, raiseTolls, closes, refundRow, useUp, closeAccounts, tick}
+use Rattle.rules.specs.Tick.{beforeRaising, raise, feeRow, raiseTolls, closes, refundRow, useUp, closeAccounts, tick}
 use Rattle.rules.specs.Refusals.{changeOf, after, lastDay, ceiling}
 use Rattle.rules.proofs.AllocationLaws.{bare}
-use Rattle.rules.proofs.SettlementAccountsLaws.{length-settleAccounts, settleAccounts-bare}
+use Rattle.rules.proofs.SettlementAccountsLaws.{length-settleAccounts, settleAccounts-row}
 use Rattle.rules.proofs.SoundnessLaws.{Near}
 use Rattle.preservation.proofs.Accepted.{Accepted}
-use Rattle.preservation.proofs.SettledLaws.{length-settled}
 use Rattle.preservation.proofs.LookupLaws.{after-fits}
 use Rattle.preservation.proofs.HoldsEnded.{beforeRaising-near}
 use Rattle.preservation.proofs.TollsRaised.{raiseTolls-near}
 use Rattle.preservation.proofs.ClosingLaws.{refunds, refund, rows′}
 use Rattle.preservation.proofs.AccountsClosed.{closeAccounts-near}
+use Rattle.preservation.proofs.TickSteps.{unraised-day, unraised-room, unraised-length}
 
 -- a count over the later rows that does not look at what is settled stays under settlement
 count-later : (t : Test) → ((r : Row) → t (bare r) ≡ t r) → (a n : ℕ) (rows : List Row) → count t (drop n (settleAccounts a rows)) ≡ count t (drop n rows)
@@ -41,10 +41,7 @@ count-later t s a n rows =
     (λ i h. rw (getD-drop n xs i blank, getD-drop n rows i blank, same (n + i))) (λ i h q. absurd (omega arith))
   where
     same : (i : ℕ) → t (getD (settleAccounts a rows) i blank) ≡ t (getD rows i blank)
-    same i =
-        let e : bare (getD (settleAccounts a rows) i blank) ≡ bare (getD rows i blank) =
-        sym (List·getD-map bare (settleAccounts a rows) i blank) ∙ ap (λ (ys : List Row). getD ys i blank) (settleAccounts-bare a rows) ∙ List·getD-map bare rows i blank in
-        sym (s (getD (settleAccounts a rows) i blank)) ∙ ap t e ∙ s (getD rows i blank)
+    same i = sym (s (getD (settleAccounts a rows) i blank)) ∙ ap t (settleAccounts-row a rows i .kept) ∙ s (getD rows i blank)
 
 module _ (b : Book) (n a m c d x : ℕ) where
   abbrev event9 : Instruction
@@ -56,25 +53,13 @@ module _ (b : Book) (n a m c d x : ℕ) where
 
   -- ---- its day, its rooms and its rows
 
-  one-more : beforeRaising b .day ≡ b .day + 1
-  unfolding beforeRaising settled endHolds nextDay
-  one-more = refl
-
-  same-room : beforeRaising b .room ≡ b .room
-  unfolding beforeRaising settled endHolds nextDay
-  same-room = refl
-
-  length-beforeRaising : length (beforeRaising b .rows) ≡ length (b .rows)
-  unfolding beforeRaising endHolds nextDay
-  length-beforeRaising = length-settled (endHolds (nextDay b)) ∙ length-map (b .rows) _
-
   late-longer : length (b .rows) ≤ length (late .rows)
   unfolding raiseTolls
   late-longer =
       let r : Book = beforeRaising b in
       omega (
         arith,
-        length-beforeRaising,
+        unraised-length b,
         length-append (map (raise (r .schedule) (r .day)) (r .rows)) (gather (feeRow (r .schedule) (r .day)) (r .rows)),
         length-map (r .rows) (raise (r .schedule) (r .day)),
       )
@@ -130,12 +115,12 @@ module _ (b : Book) (n a m c d x : ℕ) where
 
   late-room : late .room ≡ b .room
   unfolding raiseTolls
-  late-room = same-room
+  late-room = unraised-room b
 
   pub tick-near : Near (b .day) b → Accepted b event9 → Near (changeOf 9 b event9 .day) (changeOf 9 b event9)
   unfolding changeOf tick
   tick-near s q =
       same-day
       (closeAccounts-near late (beforeRaising b .day)
-      (raiseTolls-near (b .day) (beforeRaising b) (beforeRaising-near b s (not-last q)) one-more (omega (arith, late-fits q, same-room)))
+      (raiseTolls-near (b .day) (beforeRaising b) (beforeRaising-near b s (not-last q)) (unraised-day b) (omega (arith, late-fits q, unraised-room b)))
       (omega (arith, closed-fits q, late-room)) (refund-low q))

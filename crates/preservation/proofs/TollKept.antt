@@ -1,6 +1,6 @@
 -- Sound stays sound: a toll (event 2).
 use mathlib.Core.Path.{_≡_, refl, _∙_}
-use mathlib.Core.Bool.{Bool, true, cond, _&&_}
+use mathlib.Core.Bool.{Bool, true, cond, _&&_, and-false}
 use Prim.Native.Nat.{ℕ, suc, _+_, _≤_}
 use native.Mathlib.Omega.{arith}
 use mathlib.Core.List.{[], _∷_}
@@ -9,7 +9,7 @@ use lib.Dec.{eqb, leb}
 use borrow.Author.Tests.{leb-true, le-leb, lt-ltb, ltb-false, eqb-true, eq-eqb, not-false}
 use Rattle.lists.specs.Tests.{_from_to_}
 use Rattle.lists.specs.Lists.{count, exists}
-use Rattle.lists.proofs.TestLaws.{and-left, and-right, and-both, and-false}
+use Rattle.lists.proofs.TestLaws.{and-left, and-right, and-both}
 use Rattle.lists.proofs.SumLaws.{sumBy-snoc}
 use Rattle.rules.specs.Limits.{finalDay, highestRate, highestPassage, mostAxles, highestHeight}
 use Rattle.rules.specs.Rows.{Row, Toll, newRow, withDue, withReference, feeNaming}

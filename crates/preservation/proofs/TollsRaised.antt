@@ -1,17 +1,17 @@
 -- A tick's fourth step keeps a book nearly sound: tolls due today rise a stage, and their fees are added.
 use mathlib.Core.Path.{_≡_, refl, sym, ap, _∙_}
 use mathlib.Core.Logic.{_≢_}
-use mathlib.Core.Bool.{Bool, true, false, not, cond, _&&_, true≢false}
+use mathlib.Core.Bool.{Bool, true, false, not, cond, _&&_, true≢false, and-false}
 use Prim.Native.Nat.{ℕ, zero, suc, _+_, _-_, _≤_, _<_}
 use native.Mathlib.Nat.{add-zero}
 use native.Mathlib.Omega.{arith}
 use mathlib.Core.List.{List, _++_, map}
 use lib.ListN.{length, getD}
 use lib.Dec.{eqb, leb, ltb}
-use borrow.Author.Tests.{leb-true, le-leb, ltb-true, lt-ltb, eqb-true, eq-eqb, ne-eqb, not-true}
+use borrow.Author.Tests.{leb-true, le-leb, ltb-true, lt-ltb, eqb-true, eq-eqb, ne-eqb}
 use Rattle.lists.specs.Tests.{_implies_}
 use Rattle.lists.specs.Lists.{sumBy, only, count, one, gather}
-use Rattle.lists.proofs.TestLaws.{and-left, and-right, and-both, and-false, cond-zero, cond-both}
+use Rattle.lists.proofs.TestLaws.{and-left, and-right, and-both, cond-zero, cond-both}
 use Rattle.lists.proofs.SumLaws.{sumBy-append, sumBy-map, sumBy-ext, sumBy-at-le}
 use Rattle.lists.proofs.GatherLaws.{gather-none, gather-only, gather-each, grown-each}
 use Rattle.rules.specs.Limits.{highestFee}
@@ -25,34 +25,9 @@ use Rattle.rules.proofs.SoundnessLaws.{Shape, Live, Counted, Near}
 use Rattle.preservation.proofs.CarriedLaws.{Carries, carries-grown, reference-carried}
 use Rattle.preservation.proofs.SettledLaws.{hold-free}
 use Rattle.preservation.proofs.FeeLaws.{ScheduleParts, schedule-parts, stageFee-le}
+use Rattle.preservation.proofs.TickSteps.{Rising, rising, raise-keeps}
 
 -- ---- a row that rises
-
-pub record Rising (today : ℕ) (r : Row) : Type 0 where
-  pub toll : r .kind ≡ 1
-  pub free : heldToll r ≡ false
-  pub open-still : unsettled r ≡ true
-  pub under : r .mark < 4
-  pub due : r .due ≡ today
-
-pub rising : (today : ℕ) (r : Row) → rises today r ≡ true → Rising today r
-unfolding rises
-rising today r e =
-    let a1 : Bool = eqb (r .kind) 1 in
-    let a2 : Bool = not (heldToll r) in
-    let a3 : Bool = unsettled r in
-    let a4 : Bool = ltb (r .mark) 4 in
-    let a5 : Bool = eqb (r .due) today in
-    let e4 = and-left (a1 && a2 && a3 && a4) a5 e in
-    let e3 = and-left (a1 && a2 && a3) a4 e4 in
-    let e2 = and-left (a1 && a2) a3 e3 in
-    record {
-      toll = eqb-true (r .kind) 1 (and-left a1 a2 e2);
-      free = not-true (heldToll r) (and-right a1 a2 e2);
-      open-still = and-right (a1 && a2) a3 e3;
-      under = ltb-true (r .mark) 4 (and-right (a1 && a2 && a3) a4 e4);
-      due = eqb-true (r .due) today (and-right (a1 && a2 && a3 && a4) a5 e);
-    }
 
 -- an account that owes nothing has no toll that rises
 wanted : (n : ℕ) (r : Row) (m : ℕ) → r .kind ≡ 1 → r .settled < r .amount → only (debitOf n) remaining r ≤ 0 → cond (eqb (r .account) n && true) m 0 ≡ 0
@@ -64,14 +39,8 @@ wanted n r m k l b = go (eqb (r .account) n) refl
     go false e = refl
 
 module _ (s : Schedule) (today : ℕ) where
-  -- what does not look at stage and due day
   keeps : {B : Type 0} (g : Row → B) → ((r : Row) (v w : ℕ) → g (withDue v (withMark w r)) ≡ g r) → (r : Row) → g (raise s today r) ≡ g r
-  unfolding raise
-  keeps g f r = go (rises today r)
-    where
-      go : (t : Bool) → g (cond t (withDue (r .due + s .stage) (withMark (r .mark + 1) r)) r) ≡ g r
-      go true = f r (r .due + s .stage) (r .mark + 1)
-      go false = refl
+  keeps g f = raise-keeps g f s today
 
   raise-blank : raise s today blank ≡ blank
   unfolding raise rises

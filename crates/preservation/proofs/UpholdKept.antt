@@ -1,7 +1,7 @@
 -- Sound stays sound: a decision for the motorist (event 6, verdict 1), and so event 6 under either verdict.
 use mathlib.Core.Path.{_≡_, refl, sym, ap, subst, _∙_}
 use mathlib.Core.Logic.{_≢_}
-use mathlib.Core.Bool.{Bool, true, false, cond, _&&_, false≢true}
+use mathlib.Core.Bool.{Bool, true, false, cond, _&&_, false≢true, and-false}
 use Prim.Native.Nat.{ℕ, zero, suc, _+_, _*_, _-_, _≤_, _<_}
 use native.Mathlib.Nat.{add-zero}
 use native.Mathlib.Omega.{arith}
@@ -13,7 +13,7 @@ use lib.Dec.{eqb, leb}
 use borrow.Author.Tests.{leb-true, le-leb, ltb-true, le-ltb, lt-ltb, eqb-true, eq-eqb}
 use Rattle.lists.specs.Tests.{_from_to_}
 use Rattle.lists.specs.Lists.{sumBy, only, count}
-use Rattle.lists.proofs.TestLaws.{and-left, and-right, and-both, and-false}
+use Rattle.lists.proofs.TestLaws.{and-left, and-right, and-both}
 use Rattle.lists.proofs.SumLaws.{sumBy-snoc, sumBy-set, sumBy-set-same, sumBy-map, sumBy-ext, sumBy-ext-at, sumBy-add, sumBy-le, sumBy-only-le, sumBy-at-le}
 use Rattle.rules.specs.Limits.{highestRate, highestFee, highestCredit}
 use Rattle.rules.specs.Rows.{Row, Credit, blank, rowNo, newRow, withSettled, withDispute, withHold, withReference, remaining, settleWhole, feeNaming, sourceOf, debitOf}
@@ -25,7 +25,7 @@ use Rattle.rules.specs.Refusals.{changeOf, unknown}
 use Rattle.rules.proofs.SoundnessLaws.{Shape, Live, Counted, Near}
 use Rattle.preservation.proofs.Accepted.{Accepted}
 use Rattle.preservation.proofs.CarriedLaws.{Carries, carries-set, carries-map, carries-append, carries-carries}
-use Rattle.preservation.proofs.SettledLaws.{settled-le}
+use Rattle.rules.proofs.StorableLaws.{settled-le}
 use Rattle.preservation.proofs.KeepingLaws.{Framed, near-framed, framed-near, grown, framed-add, kept-same, framed-put, framed-map}
 use Rattle.preservation.proofs.OthersLaws.{Others, others-others, others-set, others-map, others-add, counted-others}
 use Rattle.preservation.proofs.FeeLaws.{Named, fee-names}

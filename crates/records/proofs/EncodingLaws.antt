@@ -2,15 +2,13 @@
 use Prim.Native.Nat.{ℕ, zero, suc, _+_, _*_, _^_, _≤_, _<_}
 use native.Mathlib.Omega.{arith}
 use native.Mathlib.Nat.{suc-mul, zero-mul}
-use mathlib.Core.Path.{_≡_, refl, sym, ap, _∙_}
+use mathlib.Core.Path.{_≡_, refl, sym, _∙_}
 use mathlib.Core.List.{List, [], _∷_, _++_, append-assoc, append-nil}
 use lib.IntN.{ℤ, pos, negsuc}
 use lib.ListN.{length, getD, take, drop, length-append}
 use lib.Seq.{getD-append-add, ext-getD, take-add}
 use Rattle.lists.specs.Lists.{tabulate}
 use Rattle.lists.proofs.ListLaws.{length-tabulate, tabulate-at, tabulate-getD}
-use Rattle.records.specs.declared.Row.{Row}
-use Rattle.records.specs.declared.Account.{Account}
 use Rattle.records.specs.Layout.{accountWidth, rowWidth}
 use Rattle.records.specs.Encoding.{natOf, word, accountFrom, rowFrom, accountWords, rowWords, writeAll, StorableAccount, StorableRow}
 
@@ -81,7 +79,7 @@ module _ {A : Type 0} (k : ℕ) (read : List ℤ → ℕ → A) (words : A → L
 -- ---- rows and accounts
 
 -- the word at a place, from its bound
-plain : (t : List ℤ) (a : ℕ) → word t a < 2 ^ 63 → pos (word t a) ≡ getD t a (pos 0)
+pub plain : (t : List ℤ) (a : ℕ) → word t a < 2 ^ 63 → pos (word t a) ≡ getD t a (pos 0)
 unfolding word
 plain t a h = pos-natOf (getD t a (pos 0)) h
 

@@ -1,6 +1,6 @@
 -- The balance is the six sums' (demand 3's formula), and no money lies idle beside an uncovered debt that is not held.
 use mathlib.Core.Path.{_≡_, refl, sym, ap, ap₂, _∙_}
-use mathlib.Core.Bool.{Bool, true, false, cond, _&&_, _||_, true≢false}
+use mathlib.Core.Bool.{Bool, true, false, cond, _&&_, _||_, true≢false, and-false}
 use Prim.Native.Nat.{ℕ, _+_}
 use native.Mathlib.Omega.{arith}
 use mathlib.Core.List.{List}
@@ -8,7 +8,6 @@ use lib.IntN.{ℤ, pos, negℤ, _+ℤ_, _-ℤ_, +ℤ-assoc, negℤ-+ℤ, pos-+�
 use borrow.Author.Tests.{eqb-true}
 use Rattle.lists.specs.Tests.{_is_}
 use Rattle.lists.specs.Lists.{sumBy, only}
-use Rattle.lists.proofs.TestLaws.{and-false}
 use Rattle.lists.proofs.SumLaws.{sumBy-add}
 use Rattle.lists.proofs.PairLaws.{Pairs, pairs-to, pairs-sum}
 use Rattle.rules.specs.Rows.{Row, Toll, Fee, Reversal, Payment, Credit, Refund, sourceOf, debitOf}

@@ -16,10 +16,8 @@ use Rattle.lists.proofs.PairLaws.{Pairs, none, more, pairs-to, pairs-same}
 use Rattle.lists.proofs.CollectLaws.{collect, gather-collect, collect-pairs}
 use Rattle.rules.specs.Schedule.{Schedule}
 use Rattle.rules.specs.Rows.{Row, Toll, Held, LastStage, blank, toll, heldToll, feeNaming}
-use Rattle.rules.specs.Book.{Instruction, unused, Book, row}
-use Rattle.rules.specs.Posting.{post}
+use Rattle.rules.specs.Book.{unused, Book, row}
 use Rattle.rules.specs.Opening.{opening}
-use Rattle.rules.specs.Soundness.{sound}
 use Rattle.rules.specs.Tables.{Tables, accountsIn, bookOf}
 use Rattle.rules.specs.Calls.{openedBook, openCall}
 use Rattle.rules.proofs.SoundnessLaws.{Sound, sound-facts}

@@ -1,7 +1,7 @@
 -- A tick's last step: the book and the replay close the same accounts, with the same refunds, and use up the same money. An account that is
 -- closed already may close again in the replay, to no effect.
 use mathlib.Core.Path.{_≡_, refl, sym, _∙_}
-use mathlib.Core.Bool.{Bool, true, false, not, cond, _&&_, false≢true}
+use mathlib.Core.Bool.{Bool, true, false, not, cond, _&&_, false≢true, and-assoc}
 use Prim.Native.Nat.{ℕ, zero, suc, _+_, _≤_, _<_}
 use native.Mathlib.Omega.{arith}
 use native.Mathlib.Decide.{decLt}
@@ -26,9 +26,9 @@ use Rattle.replay.specs.Replay.{Note, Replay, noteNo, addFees, closing}
 use Rattle.replay.proofs.Relation.{Face, Match, Rows, Alike}
 use Rattle.replay.proofs.PlainEvents.{noted-no, zero-request}
 use Rattle.replay.proofs.Balances.{sources-same, debits-same}
-use Rattle.replay.proofs.Raising.{duskEntries}
+use Rattle.replay.proofs.Raising.{unraisedEntries}
 use Rattle.replay.proofs.RaisedFees.{raise-rows}
-use Rattle.replay.proofs.NightSums.{heldOf, night, night-even, night-sources, night-debits, held-owes, none-owed, closed-none}
+use Rattle.replay.proofs.RaisedSums.{heldOf, afterRaising, afterRaising-even, afterRaising-sources, afterRaising-debits, held-owes, none-owed, closed-none}
 
 -- ---- an account's state and its request day
 
@@ -96,31 +96,31 @@ module _ (b : Book) (p : Replay) (sound : Sound b) (a : Alike b p) where
   abbrev pub L : ℕ
   L = b .schedule .stage
 
-  abbrev nightBook : Book
-  nightBook = raiseTolls (beforeRaising b)
+  abbrev raisedBook : Book
+  raisedBook = raiseTolls (beforeRaising b)
 
-  abbrev pub nightEntries : List Entry
-  nightEntries = duskEntries b p sound a ++ gather (addFees (p .schedule) (p .day + 1)) (p .entries)
+  abbrev pub raisedEntries : List Entry
+  raisedEntries = unraisedEntries b p sound a ++ gather (addFees (p .schedule) (p .day + 1)) (p .entries)
 
-  pub rows : Rows (Match 0 now L) (night b p sound a) nightEntries
+  pub rows : Rows (Match 0 now L) (afterRaising b p sound a) raisedEntries
   rows = raise-rows b p sound a
 
-  faces : Pairs Face (night b p sound a) nightEntries
+  faces : Pairs Face (afterRaising b p sound a) raisedEntries
   faces = pairs-to (λ r x m. m .is .face) rows
 
   abbrev pub noteOf : ℕ → Note
   noteOf c = noteNo (p .notes) c
 
   abbrev pub closesNow : ℕ → Bool
-  closesNow c = closes nightBook c (account b c)
+  closesNow c = closes raisedBook c (account b c)
 
   abbrev pub closingNow : ℕ → Bool
-  closingNow c = closing now nightEntries c (noteOf c)
+  closingNow c = closing now raisedEntries c (noteOf c)
 
   -- the book and the replay judge alike, or the account is closed and has nothing
   pub data Judged (c : ℕ) : Type 0 where
-    same : closesNow c ≡ closingNow c → (closingNow c ≡ true → moneyIn c nightEntries ≡ moneyOut c nightEntries + money c (night b p sound a)) → Judged c
-    idle : closesNow c ≡ false → money c (night b p sound a) ≡ 0 → moneyIn c nightEntries ≡ moneyOut c nightEntries → Judged c
+    same : closesNow c ≡ closingNow c → (closingNow c ≡ true → moneyIn c raisedEntries ≡ moneyOut c raisedEntries + money c (afterRaising b p sound a)) → Judged c
+    idle : closesNow c ≡ false → money c (afterRaising b p sound a) ≡ 0 → moneyIn c raisedEntries ≡ moneyOut c raisedEntries → Judged c
 
   -- an account without a request
   quiet : (c : ℕ) → account b c .state is Pending ≡ false → account b c .request ≡ 0 → Judged c
@@ -135,25 +135,25 @@ module _ (b : Book) (p : Replay) (sound : Sound b) (a : Alike b p) where
     abbrev c : ℕ
     c = suc j
 
-    sums-in : moneyIn c nightEntries ≡ used c (night b p sound a) + money c (night b p sound a)
-    sums-in = sym (sources-same faces c) ∙ night-sources b p sound a j h
+    sums-in : moneyIn c raisedEntries ≡ used c (afterRaising b p sound a) + money c (afterRaising b p sound a)
+    sums-in = sym (sources-same faces c) ∙ afterRaising-sources b p sound a j h
 
-    sums-out : moneyOut c nightEntries ≡ paid c (night b p sound a) + owed c (night b p sound a)
-    sums-out = sym (debits-same faces c) ∙ night-debits b p sound a j h
+    sums-out : moneyOut c raisedEntries ≡ paid c (afterRaising b p sound a) + owed c (afterRaising b p sound a)
+    sums-out = sym (debits-same faces c) ∙ afterRaising-debits b p sound a j h
 
-    held-count : sumBy (heldOf c) (night b p sound a) ≡ count (λ y. y .account is c && (isToll y && y .hold)) nightEntries
+    held-count : sumBy (heldOf c) (afterRaising b p sound a) ≡ count (λ y. y .account is c && (isToll y && y .hold)) raisedEntries
     unfolding count
     held-count = pairs-sum (pairs-to (λ r x f. rw (f .hold, f .kind, f .account)) faces)
 
     -- "no unsettled debit, held ones counted"
-    clear-same : not (exists (λ r. debitOf c r && unsettled r) (night b p sound a))
-        ≡ not (exists (λ y. y .account is c && (isToll y && y .hold)) nightEntries) && leb (moneyOut c nightEntries) (moneyIn c nightEntries)
+    clear-same : not (exists (λ r. debitOf c r && unsettled r) (afterRaising b p sound a))
+        ≡ not (exists (λ y. y .account is c && (isToll y && y .hold)) raisedEntries) && leb (moneyOut c raisedEntries) (moneyIn c raisedEntries)
     unfolding exists
     clear-same =
-        unsettled-owed c (night b p sound a)
+        unsettled-owed c (afterRaising b p sound a)
         ∙ rw (sums-in, sums-out, ← held-count)
-        (judged (used c (night b p sound a)) (paid c (night b p sound a)) (owed c (night b p sound a)) (money c (night b p sound a)) (sumBy (heldOf c) (night b p sound a))
-        (night-even b p sound a j h) (held-owes b p sound a j h) (none-owed b p sound a j h))
+        (judged (used c (afterRaising b p sound a)) (paid c (afterRaising b p sound a)) (owed c (afterRaising b p sound a)) (money c (afterRaising b p sound a)) (sumBy (heldOf c) (afterRaising b p sound a))
+        (afterRaising-even b p sound a j h) (held-owes b p sound a j h) (none-owed b p sound a j h))
 
     pending : account b c .state ≡ Pending → Judged c
     unfolding closes closing raiseTolls beforeRaising settled endHolds nextDay
@@ -161,20 +161,16 @@ module _ (b : Book) (p : Replay) (sound : Sound b) (a : Alike b p) where
         let n = noted-no b p a c in
         let r : 1 ≤ account b c .request = request-some (b .day) (account b c) (sound .near .standing j h .request) e in
         let t : closesNow c ≡ closingNow c = rw (e, ← (n .request), lt-ltb 0 (account b c .request) r, clear-same)
-        (regroup (leb (account b c .request + closingDays) now) (not (exists (λ y. y .account is c && (isToll y && y .hold)) nightEntries)) (leb (moneyOut c nightEntries) (moneyIn c nightEntries))) in
+        (sym (and-assoc (leb (account b c .request + closingDays) now) (not (exists (λ y. y .account is c && (isToll y && y .hold)) raisedEntries)) (leb (moneyOut c raisedEntries) (moneyIn c raisedEntries)))) in
         same t (λ v.
-        let o : owed c (night b p sound a) ≡ 0 = eqb-true _ _ (sym (unsettled-owed c (night b p sound a)) ∙ and-right (account b c .state is Pending && leb (account b c .request + closingDays) now) _ (t ∙ v)) in
-        omega (arith, sums-in, sums-out, night-even b p sound a j h))
-      where
-        regroup : (x y z : Bool) → x && (y && z) ≡ x && y && z
-        regroup true y z = refl
-        regroup false y z = refl
+        let o : owed c (afterRaising b p sound a) ≡ 0 = eqb-true _ _ (sym (unsettled-owed c (afterRaising b p sound a)) ∙ and-right (account b c .state is Pending && leb (account b c .request + closingDays) now) _ (t ∙ v)) in
+        omega (arith, sums-in, sums-out, afterRaising-even b p sound a j h))
 
     closed-idle : account b c .state ≡ Closed → Judged c
     unfolding closes
     closed-idle e =
         let z = closed-none b p sound a j h e in
-        idle (rw e) (z .0) (omega (arith, sums-in, sums-out, night-even b p sound a j h, z .0, z .1))
+        idle (rw e) (z .0) (omega (arith, sums-in, sums-out, afterRaising-even b p sound a j h, z .0, z .1))
 
     in-table : Judged c
     in-table = go (account b c .state is Pending) (account b c .state is Closed) refl refl

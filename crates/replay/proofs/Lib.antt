@@ -6,12 +6,11 @@ pub mod PlainEvents
 pub mod RowEvents
 pub mod Balances
 pub mod Idle
-pub mod SettledAccounts
-pub mod Dawn
+pub mod HoldsEnded
 pub mod EntryLaws
 pub mod Raising
 pub mod RaisedFees
-pub mod NightSums
+pub mod RaisedSums
 pub mod Closing
 pub mod Ticking
 pub mod StageFees

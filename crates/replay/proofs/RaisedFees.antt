@@ -19,14 +19,15 @@ use Rattle.rules.specs.Rows.{Row, Fee, LastStage, blank, newRow, withReference,
 use Rattle.rules.specs.Book.{Book, settled}
 use Rattle.rules.specs.Tick.{nextDay, endHolds, beforeRaising, rises, raise, feeRow, raiseTolls}
 use Rattle.rules.proofs.SoundnessLaws.{Sound}
+use Rattle.preservation.proofs.TickSteps.{rising, raise-keeps, unraised-length}
 use Rattle.replay.specs.Entries.{Entry, noEntry, newEntry, withToll}
 use Rattle.replay.specs.Replay.{Replay, gains, reaches, addFee, addFees}
 use Rattle.replay.specs.Demand3.{tollNamed}
 use Rattle.replay.proofs.Relation.{Match, Named, Rows, Alike, track-other}
 use Rattle.replay.proofs.SoundRows.{stage-length}
 use Rattle.replay.proofs.Growing.{Referring, referring, Kept, kind-kept, grow}
-use Rattle.replay.proofs.Dawn.{gains-same, dusk-rows}
-use Rattle.replay.proofs.Raising.{raise-keeps, rising, old, dusk-length, duskEntries, kind-same, account-same, reference-same, rises-reached, reached-rises, raise-match, mark-same}
+use Rattle.replay.proofs.HoldsEnded.{gains-same, unraised-alike}
+use Rattle.replay.proofs.Raising.{old, unraisedEntries, kind-same, account-same, reference-same, rises-reached, reached-rises, raise-match, mark-same}
 
 -- ---- the open days of stage k, and of the stage after m
 
@@ -85,12 +86,12 @@ module _ (b : Book) (p : Replay) (sound : Sound b) (a : Alike b p) where
   abbrev now : ℕ
   now = b .day + 1
 
-  abbrev dusk : List Row
-  dusk = beforeRaising b .rows
+  abbrev unraised : List Row
+  unraised = beforeRaising b .rows
 
   module _ (k : ℕ) (h : k < length (b .rows)) where
     abbrev s : Row
-    s = getD dusk k blank
+    s = getD unraised k blank
 
     abbrev x : Entry
     x = getD (p .entries) k noEntry
@@ -137,48 +138,48 @@ module _ (b : Book) (p : Replay) (sound : Sound b) (a : Alike b p) where
   -- ---- the rows after the raising
 
   abbrev pub raised : List Row
-  raised = map (raise (b .schedule) now) dusk
+  raised = map (raise (b .schedule) now) unraised
 
   abbrev pub fees : List Row
-  fees = gather (feeRow (b .schedule) now) dusk
+  fees = gather (feeRow (b .schedule) now) unraised
 
-  pub raised-kept : Pairs Kept dusk raised
-  raised-kept = pairs-map-self (raise (b .schedule) now) (λ r. record { kind = raise-keeps (λ q. q .kind) (λ q v w. refl) (b .schedule) now r; reference = raise-keeps (λ q. q .reference) (λ q v w. refl) (b .schedule) now r }) dusk
+  pub raised-kept : Pairs Kept unraised raised
+  raised-kept = pairs-map-self (raise (b .schedule) now) (λ r. record { kind = raise-keeps (λ q. q .kind) (λ q v w. refl) (b .schedule) now r; reference = raise-keeps (λ q. q .reference) (λ q v w. refl) (b .schedule) now r }) unraised
 
-  pub raise-at : (k : ℕ) → getD raised k blank ≡ raise (b .schedule) now (getD dusk k blank)
+  pub raise-at : (k : ℕ) → getD raised k blank ≡ raise (b .schedule) now (getD unraised k blank)
   unfolding raise rises
-  raise-at k = map-at (raise (b .schedule) now) dusk k blank refl
+  raise-at k = map-at (raise (b .schedule) now) unraised k blank refl
 
-  pub dusk-referring : Referring dusk
-  dusk-referring k h f =
-      let l : k < length (b .rows) = rw (dusk-length b p sound a) at h in
+  pub unraised-referring : Referring unraised
+  unraised-referring k h f =
+      let l : k < length (b .rows) = rw (unraised-length b) at h in
       rw (reference-same b p sound a k l) (referring b (sound .near) k l (rw (kind-same b p sound a k l) at f))
 
-  fee-pairs : (k n : ℕ) → n ≡ 1 + k → k < length dusk
-      → Pairs (Named (Match 0 now L) (raised ++ fees)) (feeRow (b .schedule) now n (getD dusk k blank)) (addFees (p .schedule) (p .day + 1) n (getD (p .entries) k noEntry))
+  fee-pairs : (k n : ℕ) → n ≡ 1 + k → k < length unraised
+      → Pairs (Named (Match 0 now L) (raised ++ fees)) (feeRow (b .schedule) now n (getD unraised k blank)) (addFees (p .schedule) (p .day + 1) n (getD (p .entries) k noEntry))
   unfolding feeRow addFees addFee tollNamed
   fee-pairs k n e h =
-      let l : k < length (b .rows) = rw (dusk-length b p sound a) at h in
+      let l : k < length (b .rows) = rw (unraised-length b) at h in
       let z : n ≡ suc k = omega arith in
       rw (z, ← (a .schedule), ← (a .day), reaches-same k l 2 (omega arith), reaches-same k l 3 (omega arith), reaches-same k l 4 (omega arith))
       (one-fee (Named (Match 0 now L) (raised ++ fees)) (b .schedule)
-      (λ j. withReference (suc k) (newRow Fee (getD dusk k blank .account) now (stageFee (b .schedule) j)))
+      (λ j. withReference (suc k) (newRow Fee (getD unraised k blank .account) now (stageFee (b .schedule) j)))
       (λ j. withToll (suc k) (newEntry Fee (getD (p .entries) k noEntry .account) now (stageFee (b .schedule) j)))
-      (rises now (getD dusk k blank)) (getD dusk k blank .mark) (λ q. rising now (getD dusk k blank) q .under)
+      (rises now (getD unraised k blank)) (getD unraised k blank .mark) (λ q. rising now (getD unraised k blank) q .under)
       (λ q j. record {
         is = record {
           face = record { kind = refl; account = account-same b p sound a k l ∙ old b p sound a k l .face .account; day = refl; amount = refl; settled = refl; hold = refl };
           track = track-other 0 now L _ _ refl (λ i. refl);
         };
-        toll = rw (kind-kept dusk raised fees raised-kept (suc k) h, rising now (getD dusk k blank) q .toll);
+        toll = rw (kind-kept unraised raised fees raised-kept (suc k) h, rising now (getD unraised k blank) q .toll);
       }))
 
-  pub raise-rows : Rows (Match 0 now L) (raiseTolls (beforeRaising b) .rows) (duskEntries b p sound a ++ gather (addFees (p .schedule) (p .day + 1)) (p .entries))
+  pub raise-rows : Rows (Match 0 now L) (raiseTolls (beforeRaising b) .rows) (unraisedEntries b p sound a ++ gather (addFees (p .schedule) (p .day + 1)) (p .entries))
   unfolding raiseTolls beforeRaising settled endHolds nextDay
   raise-rows =
-      let d = dusk-rows b p (sound .near) a in
-      let n : length raised ≡ length dusk = length-map dusk (raise (b .schedule) now) in
-      grow dusk (duskEntries b p sound a) dusk-referring d raised (duskEntries b p sound a) raised-kept (pairs-self (λ y. refl) (duskEntries b p sound a))
-      (pairs-each blank noEntry raised (duskEntries b p sound a) (n ∙ pairs-length d) (λ k h.
-      rw (raise-at k) (raise-match b p sound a k (rw (n, dusk-length b p sound a) at h))))
-      fees _ (pairs-gather (feeRow (b .schedule) now) (addFees (p .schedule) (p .day + 1)) blank noEntry 1 dusk (p .entries) (dusk-length b p sound a ∙ pairs-length (a .rows)) fee-pairs)
+      let d = unraised-alike b p (sound .near) a in
+      let n : length raised ≡ length unraised = length-map unraised (raise (b .schedule) now) in
+      grow unraised (unraisedEntries b p sound a) unraised-referring d raised (unraisedEntries b p sound a) raised-kept (pairs-self (λ y. refl) (unraisedEntries b p sound a))
+      (pairs-each blank noEntry raised (unraisedEntries b p sound a) (n ∙ pairs-length d) (λ k h.
+      rw (raise-at k) (raise-match b p sound a k (rw (n, unraised-length b) at h))))
+      fees _ (pairs-gather (feeRow (b .schedule) now) (addFees (p .schedule) (p .day + 1)) blank noEntry 1 unraised (p .entries) (unraised-length b ∙ pairs-length (a .rows)) fee-pairs)

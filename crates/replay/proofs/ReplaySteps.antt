@@ -1,7 +1,7 @@
 -- The replay's steps, by themselves: none but the tick changes a toll's fees or open days.
 use mathlib.Core.Path.{_≡_, refl, sym, _∙_}
 use mathlib.Core.Logic.{_≢_}
-use mathlib.Core.Bool.{Bool, true, false, cond}
+use mathlib.Core.Bool.{Bool, true, false, cond, and-false}
 use Prim.Native.Nat.{ℕ, zero, suc, _-_, _≤_}
 use native.Mathlib.Omega.{arith}
 use mathlib.Core.List.{List, [], _∷_, _++_, append-nil}
@@ -11,7 +11,7 @@ use Rattle.records.specs.Codes.{Yes}
 use Rattle.records.specs.declared.Instruction.{Instruction}
 use Rattle.lists.specs.Tests.{_is_}
 use Rattle.lists.specs.Lists.{one}
-use Rattle.lists.proofs.TestLaws.{and-false, cond-either}
+use Rattle.lists.proofs.TestLaws.{cond-either}
 use Rattle.lists.proofs.PairLaws.{Pairs, none, more, pairs-at, pairs-to, pairs-map-self, pairs-set-self}
 use Rattle.lists.proofs.CollectLaws.{collect, collect-append, collect-pairs, collect-none}
 use Rattle.replay.specs.Entries.{Entry, Fee, noEntry, entryNo, coverWhole, feeOf, unusedOf, wantedBy, cover, settleEntries, settleAllEntries}

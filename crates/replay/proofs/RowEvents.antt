@@ -1,6 +1,6 @@
 -- Events 4, 5 and 6 keep the relation: they change a row that the event names, and 4 and 6 add rows.
 use mathlib.Core.Path.{_≡_, refl, sym, _∙_}
-use mathlib.Core.Bool.{Bool, true, false, cond, _&&_, true≢false, false≢true}
+use mathlib.Core.Bool.{Bool, true, false, cond, _&&_, true≢false, false≢true, and-false}
 use Prim.Native.Nat.{ℕ, _+_, _*_, _-_, _≤_, _<_}
 use native.Mathlib.Omega.{arith}
 use mathlib.Core.List.{List, [], _∷_, append-assoc}
@@ -12,7 +12,7 @@ use Rattle.records.specs.Updates.{withReturned, withState}
 use Rattle.records.specs.AccountOperations.{checkReturned}
 use Rattle.lists.specs.Tests.{_is_}
 use Rattle.lists.specs.Lists.{sumBy, only}
-use Rattle.lists.proofs.TestLaws.{and-left, and-false, cond-either}
+use Rattle.lists.proofs.TestLaws.{and-left, cond-either}
 use Rattle.lists.proofs.SumLaws.{sumBy-set-same}
 use Rattle.lists.proofs.PairLaws.{Pairs, none, more, pairs-to, pairs-set, pairs-set-left, pairs-map, pairs-map-right, pairs-self, pairs-set-self, pairs-sum, pairs-length}
 use Rattle.rules.specs.Rows.{Row, Toll, Fee, Payment, Credit, Held, blank, newRow, withMark, withReference, withSettled, withDispute, rowNo, toll, heldToll, remaining, settleWhole, feeNaming}

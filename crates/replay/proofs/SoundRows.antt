@@ -1,7 +1,7 @@
 -- What soundness says of a row, in numbers.
 use mathlib.Core.Path.{_≡_, refl}
 use mathlib.Core.Bool.{Bool, true, false, not, _&&_, _||_, false≢true}
-use Prim.Native.Nat.{ℕ, zero, suc, _+_, _≤_, _<_}
+use Prim.Native.Nat.{ℕ, zero, suc, _≤_, _<_}
 use native.Mathlib.Omega.{arith}
 use mathlib.Core.List.{List}
 use native.Mathlib.Decide.{decLt}
@@ -14,8 +14,10 @@ use Rattle.rules.specs.Limits.{longestStage, highestFee}
 use Rattle.rules.specs.Schedule.{Schedule, scheduleFits, ratesFit}
 use Rattle.rules.specs.Rows.{Row, Toll, Fee, Payment, LastStage, Held, blank, rowNo, toll, heldToll, unsettled}
 use Rattle.rules.specs.Book.{Account, unused, Unused, Book, accountNo}
-use Rattle.rules.specs.Soundness.{settledFits, markFits, holdFits, accountUsed, names, referenceFits}
+use Rattle.rules.specs.Soundness.{markFits, holdFits, accountUsed, names, referenceFits}
 use Rattle.rules.proofs.SoundnessLaws.{Near}
+use Rattle.rules.proofs.StorableLaws.{settled-le}
+use Rattle.preservation.proofs.DisputeKept.{held-is}
 
 -- ---- a toll
 
@@ -24,24 +26,13 @@ pub record Holding (today : ℕ) (r : Row) : Type 0 where
   pub open-still : unsettled r ≡ true
 
 holding : (today L : ℕ) (r : Row) → holdFits today L r ≡ true → heldToll r ≡ true → Holding today r
-unfolding holdFits
 holding today L r f h =
-    let k : toll r ≡ true = and-left (toll r) (r .dispute is Held) h in
-    let d : r .dispute is Held ≡ true = and-right (toll r) (r .dispute is Held) h in
-    let a : Bool = leb 1 (r .hold) && leb today (r .hold + 29) in
-    let c : Bool = leb (r .due) (r .hold + L) in
-    let z : Bool = ltb (r .mark) LastStage implies ltb (r .hold) (r .due) in
-    let e : a && leb (r .hold) today && unsettled r && c && z ≡ true = rw (k, d) at f in
-    let p = and3 a (leb (r .hold) today) (unsettled r) (and-left (a && leb (r .hold) today && unsettled r) c (and-left (a && leb (r .hold) today && unsettled r && c) z e)) in
-    record { past = leb-true _ _ (p .1); open-still = p .2 }
+    let w = held-is today L r (eqb-true _ _ (and-left (toll r) (r .dispute is Held) h)) (eqb-true _ _ (and-right (toll r) (r .dispute is Held) h)) f in
+    record { past = w .begun; open-still = w .open-still }
 
 stage-by : (r : Row) → markFits r ≡ true → toll r ≡ true → r .mark ≤ LastStage
 unfolding markFits
 stage-by r f k = leb-true (r .mark) LastStage (rw k at f)
-
-settled-by : (r : Row) → settledFits r ≡ true → r .settled ≤ r .amount
-unfolding settledFits
-settled-by r f = leb-true (r .settled) (r .amount) (and-left (leb (r .settled) (r .amount)) _ f)
 
 -- ---- the row that a fee names, and a row's account
 
@@ -93,7 +84,7 @@ module _ (b : Book) (near : Near (b .day) b) where
       let v = near .shape k h in
       let w = near .live k h in
       record {
-        fits = settled-by r (w .settled);
+        fits = settled-le r (w .settled);
         stage = stage-by r (v .mark);
         holding = holding (b .day) (b .schedule .stage) r (w .hold);
         refers = refers (b .rows) (suc k) r (v .reference);

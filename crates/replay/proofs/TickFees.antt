@@ -1,7 +1,7 @@
 -- The replay's tick, by itself: a toll gains an open day where it is open, and exactly the fees of the stages that this day reaches.
 use mathlib.Core.Path.{_≡_, refl, sym, ap, ap₂, _∙_}
 use mathlib.Core.Logic.{_≢_}
-use mathlib.Core.Bool.{Bool, true, false, not, cond, _&&_, and-true}
+use mathlib.Core.Bool.{Bool, true, false, not, cond, _&&_, and-true, and-false}
 use Prim.Native.Nat.{ℕ, zero, suc, _+_, _-_, _≤_}
 use native.Mathlib.Omega.{arith}
 use mathlib.Core.List.{List, [], _++_, map, append-nil}
@@ -11,7 +11,7 @@ use borrow.Author.Tests.{eq-eqb, ne-eqb}
 use Rattle.records.specs.declared.Instruction.{Instruction}
 use Rattle.lists.specs.Tests.{_is_}
 use Rattle.lists.specs.Lists.{one, gather}
-use Rattle.lists.proofs.TestLaws.{and-false, cond-either}
+use Rattle.lists.proofs.TestLaws.{cond-either}
 use Rattle.lists.proofs.ListLaws.{map-at}
 use Rattle.lists.proofs.PairLaws.{Pairs, pairs-at, pairs-map-self, pairs-gather, pairs-append, pairs-one}
 use Rattle.lists.proofs.CollectLaws.{collect, collect-append, collect-pairs, collect-only}
@@ -80,8 +80,8 @@ module _ (p : Replay) (e : Instruction) where
   abbrev counted : List Entry
   counted = settleAllEntries (length (p .notes)) (map countDay xs)
 
-  abbrev night : List Entry
-  night = counted ++ fees
+  abbrev afterRaising : List Entry
+  afterRaising = counted ++ fees
 
   -- the fees are new entries, and so are the refunds
   fees-fresh : Pairs Fresh fees fees
@@ -97,8 +97,8 @@ module _ (p : Replay) (e : Instruction) where
       cond-either (λ (y : Entry). feeShare n x ≡ feeShare n y) (gains x) (withOpenDays (x .open-days + 1) x) _ (unfold feeOf in refl)
       (cond-either (λ (y : Entry). feeShare n x ≡ feeShare n y) (x .hold) (withHold (not (x .ticks + 1 is holdDays)) (withTicks (x .ticks + 1) x)) x (unfold feeOf in refl) refl)
 
-  night-fees : (n : ℕ) → 1 ≤ n → collect (feeShare n) night ≡ collect (feeShare n) xs ++ feesAt (p .schedule) (λ k. reaches (p .schedule .stage) k (entryNo xs n)) (λ k. today)
-  night-fees n h =
+  afterRaising-fees : (n : ℕ) → 1 ≤ n → collect (feeShare n) afterRaising ≡ collect (feeShare n) xs ++ feesAt (p .schedule) (λ k. reaches (p .schedule .stage) k (entryNo xs n)) (λ k. today)
+  afterRaising-fees n h =
       collect-append (feeShare n) counted fees
       ∙ ap₂ {C = List (ℕ × ℕ)} _++_
       (settle-steady (length (p .notes)) (map countDay xs) .fees n h ∙ sym (collect-pairs (pairs-map-self countDay (count-share n) xs)))
@@ -106,8 +106,8 @@ module _ (p : Replay) (e : Instruction) where
       (no-fees (p .schedule) today n noEntry (unfold gains in refl))
       ∙ rw (number-at xs n noEntry h) (own-fees (p .schedule) today n (entryNo xs n)))
 
-  night-opened : (n : ℕ) → entryNo night n .open-days ≡ entryNo xs n .open-days + cond (gains (entryNo xs n)) 1 0
-  night-opened n =
+  afterRaising-opened : (n : ℕ) → entryNo afterRaising n .open-days ≡ entryNo xs n .open-days + cond (gains (entryNo xs n)) 1 0
+  afterRaising-opened n =
       opened-append counted fees (λ k. pairs-at {R = Fresh} noEntry noEntry refl fees-fresh k) n
       ∙ settle-steady (length (p .notes)) (map countDay xs) .opened n ∙ go n
     where
@@ -116,16 +116,16 @@ module _ (p : Replay) (e : Instruction) where
       go (suc m) = ap (λ (y : Entry). y .open-days) (map-at countDay xs m noEntry (unfold countDay gains in refl)) ∙ count-open (getD xs m noEntry)
 
   -- the closings change neither
-  close-steady : Steady night (tickReplay p e .entries)
+  close-steady : Steady afterRaising (tickReplay p e .entries)
   unfolding tickReplay closeAll useMoney addRefund
   close-steady =
-      steady-then (steady-still (pairs-map-self (useMoney today (p .notes) night)
-      (λ x. cond-either (λ (y : Entry). Still x y) (isMoney x && closing today night (x .account) (noteNo (p .notes) (x .account))) (coverWhole x) x (record { kind = refl; toll = refl; amount = refl; day = refl; opened = refl }) (still-self x)) night))
-      (steady-append _ _ (pairs-gather (addRefund today night) (addRefund today night) noNote noNote 1 (p .notes) (p .notes) refl
-      (λ k n q l. pairs-one (closing today night n (getD (p .notes) k noNote) && ltb (moneyOut n night) (moneyIn n night)) _ _ (λ v. record { toll = refl; opened = refl }))))
+      steady-then (steady-still (pairs-map-self (useMoney today (p .notes) afterRaising)
+      (λ x. cond-either (λ (y : Entry). Still x y) (isMoney x && closing today afterRaising (x .account) (noteNo (p .notes) (x .account))) (coverWhole x) x (record { kind = refl; toll = refl; amount = refl; day = refl; opened = refl }) (still-self x)) afterRaising))
+      (steady-append _ _ (pairs-gather (addRefund today afterRaising) (addRefund today afterRaising) noNote noNote 1 (p .notes) (p .notes) refl
+      (λ k n q l. pairs-one (closing today afterRaising n (getD (p .notes) k noNote) && ltb (moneyOut n afterRaising) (moneyIn n afterRaising)) _ _ (λ v. record { toll = refl; opened = refl }))))
 
   pub tick-fees : (n : ℕ) → 1 ≤ n → collect (feeShare n) (tickReplay p e .entries) ≡ collect (feeShare n) xs ++ feesAt (p .schedule) (λ k. reaches (p .schedule .stage) k (entryNo xs n)) (λ k. today)
-  tick-fees n h = close-steady .fees n h ∙ night-fees n h
+  tick-fees n h = close-steady .fees n h ∙ afterRaising-fees n h
 
   pub tick-opened : (n : ℕ) → entryNo (tickReplay p e .entries) n .open-days ≡ entryNo xs n .open-days + cond (gains (entryNo xs n)) 1 0
-  tick-opened n = close-steady .opened n ∙ night-opened n
+  tick-opened n = close-steady .opened n ∙ afterRaising-opened n

@@ -1,6 +1,6 @@
 -- Event 9 keeps the relation: after the closings, the rows and the entries, the accounts and the notes are still alike.
 use mathlib.Core.Path.{_≡_, refl, sym, ap, subst, _∙_}
-use mathlib.Core.Bool.{Bool, true, false, cond, _&&_}
+use mathlib.Core.Bool.{Bool, true, false, cond, _&&_, and-false}
 use Prim.Native.Nat.{ℕ, suc, _+_, _-_, _≤_, _<_}
 use native.Mathlib.Omega.{arith}
 use native.Mathlib.Decide.{decLt}
@@ -11,7 +11,7 @@ use borrow.Author.Tests.{le-ltb, lt-ltb}
 use Rattle.records.specs.AccountOperations.{closed}
 use Rattle.lists.specs.Tests.{_is_}
 use Rattle.lists.specs.Lists.{one, gather}
-use Rattle.lists.proofs.TestLaws.{and-false, cond-either}
+use Rattle.lists.proofs.TestLaws.{cond-either}
 use Rattle.lists.proofs.ListLaws.{append-at}
 use Rattle.lists.proofs.PairLaws.{Pairs, none, pairs-in, pairs-length, pairs-map-in, pairs-map-self, pairs-gather, pairs-one, pairs-change-left}
 use Rattle.rules.specs.Rows.{Row, Fee, Refund, blank, newRow, source, settleWhole, remaining}
@@ -20,6 +20,7 @@ use Rattle.rules.specs.Book.{Account, unused, Instruction, Book, settled, accou
 use Rattle.rules.specs.Tick.{nextDay, endHolds, beforeRaising, rises, feeRow, raiseTolls, closes, closeIf, refundRow, useUp, closeAccounts, tick}
 use Rattle.rules.specs.Schedule.{stageFee}
 use Rattle.rules.proofs.SoundnessLaws.{Sound}
+use Rattle.preservation.proofs.TickSteps.{raise-keeps}
 use Rattle.replay.specs.Entries.{Entry, noEntry, newEntry, withCovered, coverWhole, isMoney, moneyIn, moneyOut}
 use Rattle.replay.specs.Replay.{Note, noNote, Replay, noteNo, closing, addRefund, useMoney, closeAll, tickReplay}
 use Rattle.replay.specs.Demand3.{tollNamed}
@@ -27,10 +28,9 @@ use Rattle.replay.proofs.Relation.{Match, Named, Noted, Rows, Alike, tr
 use Rattle.replay.proofs.Growing.{Referring, Kept, SameToll, grow}
 use Rattle.replay.proofs.RowEvents.{whole-match}
 use Rattle.replay.proofs.Idle.{money-least}
-use Rattle.replay.proofs.Raising.{raise-keeps}
-use Rattle.replay.proofs.RaisedFees.{raised, fees, raise-at, dusk-referring}
-use Rattle.replay.proofs.NightSums.{night, dusk-fits}
-use Rattle.replay.proofs.Closing.{nightEntries, closesNow, closingNow, rows, Judged, same, idle, judge}
+use Rattle.replay.proofs.RaisedFees.{raised, fees, raise-at, unraised-referring}
+use Rattle.replay.proofs.RaisedSums.{afterRaising, unraised-fits}
+use Rattle.replay.proofs.Closing.{raisedEntries, closesNow, closingNow, rows, Judged, same, idle, judge}
 
 -- ---- a row and a refund, however the book judges (v) and the replay (w)
 
@@ -91,48 +91,48 @@ module _ (b : Book) (p : Replay) (sound : Sound b) (a : Alike b p) where
   abbrev stage : ℕ
   stage = b .schedule .stage
 
-  abbrev duskRows : List Row
-  duskRows = beforeRaising b .rows
+  abbrev unraisedRows : List Row
+  unraisedRows = beforeRaising b .rows
 
   abbrev rowsNow : List Row
-  rowsNow = night b p sound a
+  rowsNow = afterRaising b p sound a
 
   abbrev entriesNow : List Entry
-  entriesNow = nightEntries b p sound a
+  entriesNow = raisedEntries b p sound a
 
   -- ---- the rows before the closings
 
-  night-is : rowsNow ≡ raised b p sound a ++ fees b p sound a
+  afterRaising-is : rowsNow ≡ raised b p sound a ++ fees b p sound a
   unfolding raiseTolls beforeRaising settled endHolds nextDay
-  night-is = refl
+  afterRaising-is = refl
 
-  night-day : bookNow .day ≡ today
+  afterRaising-day : bookNow .day ≡ today
   unfolding raiseTolls beforeRaising settled endHolds nextDay
-  night-day = refl
+  afterRaising-day = refl
 
   -- a fee row of this tick
   record Fresh (r : Row) : Type 0 where
     settled : r .settled ≡ 0
-    reference : r .reference ≤ length duskRows
+    reference : r .reference ≤ length unraisedRows
 
   fresh-fees : Pairs (λ r s. Fresh r) (fees b p sound a) (fees b p sound a)
   unfolding feeRow
-  fresh-fees = pairs-gather (feeRow (b .schedule) today) (feeRow (b .schedule) today) blank blank 1 duskRows duskRows refl
-      (λ k n q l. pairs-one (rises today (getD duskRows k blank) && ltb 0 (stageFee (b .schedule) (getD duskRows k blank .mark + 1))) _ _ (λ v. record { settled = refl; reference = omega arith }))
+  fresh-fees = pairs-gather (feeRow (b .schedule) today) (feeRow (b .schedule) today) blank blank 1 unraisedRows unraisedRows refl
+      (λ k n q l. pairs-one (rises today (getD unraisedRows k blank) && ltb 0 (stageFee (b .schedule) (getD unraisedRows k blank .mark + 1))) _ _ (λ v. record { settled = refl; reference = omega arith }))
 
-  length-raised : length (raised b p sound a) ≡ length duskRows
-  length-raised = length-map duskRows _
+  length-raised : length (raised b p sound a) ≡ length unraisedRows
+  length-raised = length-map unraisedRows _
 
-  night-fits : (k : ℕ) → k < length rowsNow → getD rowsNow k blank .settled ≤ getD rowsNow k blank .amount
-  night-fits = rw night-is (append-at (λ k r. r .settled ≤ r .amount) (raised b p sound a) (fees b p sound a) blank
-      (λ k h. rw (raise-at b p sound a k, raise-keeps (λ q. q .settled) (λ q v w. refl) (b .schedule) today (getD duskRows k blank), raise-keeps (λ q. q .amount) (λ q v w. refl) (b .schedule) today (getD duskRows k blank))
-      (dusk-fits b p sound a k (rw length-raised at h)))
+  afterRaising-fits : (k : ℕ) → k < length rowsNow → getD rowsNow k blank .settled ≤ getD rowsNow k blank .amount
+  afterRaising-fits = rw afterRaising-is (append-at (λ k r. r .settled ≤ r .amount) (raised b p sound a) (fees b p sound a) blank
+      (λ k h. rw (raise-at b p sound a k, raise-keeps (λ q. q .settled) (λ q v w. refl) (b .schedule) today (getD unraisedRows k blank), raise-keeps (λ q. q .amount) (λ q v w. refl) (b .schedule) today (getD unraisedRows k blank))
+      (unraised-fits b p sound a k (rw length-raised at h)))
       (λ k h. let f = pairs-in blank blank fresh-fees k h in omega (arith, f .settled)))
 
-  night-referring : Referring rowsNow
-  night-referring = rw night-is (append-at (λ k r. r .kind is Fee ≡ true → r .reference ≤ k) (raised b p sound a) (fees b p sound a) blank
-      (λ k h. rw (raise-at b p sound a k, raise-keeps (λ q. q .kind) (λ q v w. refl) (b .schedule) today (getD duskRows k blank), raise-keeps (λ q. q .reference) (λ q v w. refl) (b .schedule) today (getD duskRows k blank))
-      (dusk-referring b p sound a k (rw length-raised at h)))
+  afterRaising-referring : Referring rowsNow
+  afterRaising-referring = rw afterRaising-is (append-at (λ k r. r .kind is Fee ≡ true → r .reference ≤ k) (raised b p sound a) (fees b p sound a) blank
+      (λ k h. rw (raise-at b p sound a k, raise-keeps (λ q. q .kind) (λ q v w. refl) (b .schedule) today (getD unraisedRows k blank), raise-keeps (λ q. q .reference) (λ q v w. refl) (b .schedule) today (getD unraisedRows k blank))
+      (unraised-referring b p sound a k (rw length-raised at h)))
       (λ k h e. let f = pairs-in blank blank fresh-fees k h in omega (arith, f .reference, length-raised)))
 
   -- ---- money used up
@@ -161,7 +161,7 @@ module _ (b : Book) (p : Replay) (sound : Sound b) (a : Alike b p) where
       by (same t f) = use-same today stage r y m v (closingNow b p sound a y-account) (at-entry ∙ t)
       by (idle t z i) =
           use-idle today stage r y m v (closingNow b p sound a y-account) (at-entry ∙ t)
-          (λ e. let l : remaining r ≤ 0 = omega (arith, money-least rowsNow y-account k h (m .face .account) e) in omega (arith, night-fits k h))
+          (λ e. let l : remaining r ≤ 0 = omega (arith, money-least rowsNow y-account k h (m .face .account) e) in omega (arith, afterRaising-fits k h))
 
   -- ---- refunds
 
@@ -184,7 +184,7 @@ module _ (b : Book) (p : Replay) (sound : Sound b) (a : Alike b p) where
 
       pair : (m : ℕ) → S (f m) (g m)
       pair m = record {
-        is = record { face = record { kind = refl; account = refl; day = night-day; amount = refl; settled = refl; hold = refl }; track = track-other 0 today stage _ _ refl (λ q. refl) };
+        is = record { face = record { kind = refl; account = refl; day = afterRaising-day; amount = refl; settled = refl; hold = refl }; track = track-other 0 today stage _ _ refl (λ q. refl) };
         toll = refl;
       }
 
@@ -211,7 +211,7 @@ module _ (b : Book) (p : Replay) (sound : Sound b) (a : Alike b p) where
   close-rows : Rows (Match 0 today stage) (map (useUp bookNow) rowsNow ++ gather (refundRow bookNow) (b .accounts))
       (map (useMoney today (p .notes) entriesNow) entriesNow ++ gather (addRefund today entriesNow) (p .notes))
   close-rows =
-      grow rowsNow entriesNow night-referring (rows b p sound a) _ _
+      grow rowsNow entriesNow afterRaising-referring (rows b p sound a) _ _
       (pairs-map-self (useUp bookNow) use-kept rowsNow) (pairs-map-self (useMoney today (p .notes) entriesNow) use-toll entriesNow)
       (pairs-map-in (useUp bookNow) (useMoney today (p .notes) entriesNow) blank noEntry (rows b p sound a) (λ k h m. use-match k h (m .is)))
       _ _ (pairs-gather (refundRow bookNow) (addRefund today entriesNow) unused noNote 1 (b .accounts) (p .notes) (pairs-length (a .notes)) (refund-pairs _))

@@ -1,7 +1,7 @@
 -- Demand 3 (document 01, "What demand 3 counts"): one claim about any list of calls from an opening that gave 0.
 use mathlib.Core.Path.{_≡_}
-use mathlib.Core.Bool.{Bool, true, false, not, cond, _&&_}
-use Prim.Native.Nat.{ℕ, _+_, _*_, _/_, min}
+use mathlib.Core.Bool.{true, not, cond, _&&_}
+use Prim.Native.Nat.{ℕ, _*_, _/_, min}
 use mathlib.Core.List.{List, [], _∷_, _++_, map}
 use lib.Dec.{leb, ltb}
 use lib.IntN.{ℤ}

@@ -1,5 +1,5 @@
 -- The replay's entries (document 01, "What demand 3 counts"): their tests, their sums, and settlement among them.
-use mathlib.Core.Bool.{Bool, true, false, not, cond, _&&_, _||_}
+use mathlib.Core.Bool.{Bool, false, not, cond, _&&_, _||_}
 use Prim.Native.Nat.{ℕ, zero, suc, _+_, _-_, min}
 use mathlib.Core.List.{List, [], _∷_}
 use lib.ListN.{getD}

@@ -1,5 +1,5 @@
 -- The replay (document 01, "What demand 3 counts"): it knows no stage, due day, account state or journal.
-use mathlib.Core.Bool.{Bool, true, false, not, cond, _&&_, _||_}
+use mathlib.Core.Bool.{Bool, true, false, not, cond, _&&_}
 use Prim.Native.Nat.{ℕ, _+_, _*_, _-_}
 use mathlib.Core.List.{List, [], _∷_, _++_, map}
 use lib.ListN.{length, getD, set, replicate}
@@ -7,7 +7,7 @@ use lib.Dec.{leb, ltb}
 use Rattle.records.specs.Codes.{Yes}
 use Rattle.records.specs.declared.Instruction.{Instruction}
 use Rattle.lists.specs.Tests.{_is_}
-use Rattle.lists.specs.Lists.{sumBy, only, exists, one, gather, change}
+use Rattle.lists.specs.Lists.{sumBy, only, exists, one, gather}
 use Rattle.rules.specs.Limits.{returnFee, holdDays, closingDays}
 use Rattle.rules.specs.Schedule.{Schedule, class, rate, stageFee}
 use Rattle.replay.specs.Entries.{Entry, EntryTest, Toll, Fee, Reversal, Payment, Credit, Refund, newEntry, withCovered, withHold, withTicks, withOpenDays, withToll, entryNo, isMoney, isToll, uncovered, coveredWhole, coverWhole, feeOf, moneyIn, moneyOut, settleAllEntries}

@@ -1,5 +1,5 @@
 -- Laws of allocate: what an amount allocated over rows in row order does to each row and to every sum.
-use mathlib.Core.Path.{_≡_, refl, sym, ap, ap₂, _∙_}
+use mathlib.Core.Path.{_≡_, refl, ap, ap₂, _∙_}
 use mathlib.Core.Bool.{Bool, true, false, not, cond, _&&_, true≢false}
 use Prim.Native.Nat.{ℕ, zero, suc, _+_, _-_, _≤_, _<_, min}
 use native.Mathlib.Nat.{add-zero, add-assoc, min-zero, zero-sub, le-of-suc-le-suc, not-suc-le-zero}
@@ -228,11 +228,3 @@ apart-none t u a r n = go (t r) (u r) (a r)
     go true true e p q = absurd (true≢false e)
     go true false e p q = omega arith
     go false c e p q = omega arith
-
-pub only-le : (t : Test) (f : Row → ℕ) (r : Row) → only t f r ≤ f r
-unfolding only
-only-le t f r = go (t r)
-  where
-    go : (b : Bool) → cond b (f r) 0 ≤ f r
-    go true = omega arith
-    go false = omega arith

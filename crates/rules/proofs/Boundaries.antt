@@ -2,7 +2,6 @@
 use mathlib.Core.Path.{_≡_, refl}
 use Prim.Native.Nat.{ℕ}
 use mathlib.Core.List.{List, [], _∷_, _++_, map}
-use lib.ListN.{length}
 use lib.IntN.{negsuc}
 use Rattle.rules.specs.Book.{Instruction, Book, account, row, balance}
 use Rattle.rules.specs.Posting.{bookAfter, answersTo}

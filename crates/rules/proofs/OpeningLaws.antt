@@ -1,11 +1,10 @@
 -- Laws of opening: an opened book is sound, and so are its tables.
-use mathlib.Core.Path.{_≡_, refl, sym, ap, _∙_}
-use mathlib.Core.Bool.{Bool, true, false, not, cond, _&&_}
-use Prim.Native.Nat.{ℕ, zero, suc, _≤_, _<_}
+use mathlib.Core.Path.{_≡_}
+use mathlib.Core.Bool.{Bool, true, false, _&&_}
+use Prim.Native.Nat.{ℕ, zero, suc, _<_}
 use native.Mathlib.Omega.{arith}
-use mathlib.Core.List.{List, [], _∷_}
-use lib.ListN.{length, getD, replicate, length-replicate}
-use lib.Dec.{eqb}
+use mathlib.Core.List.{List}
+use lib.ListN.{length, getD, length-replicate}
 use lib.IntN.{ℤ}
 use borrow.Author.Tests.{le-leb, not-false, eq-eqb}
 use Rattle.records.specs.Layout.{openingWidth, firstDayPlace, openingSchedule}
@@ -16,11 +15,11 @@ use Rattle.lists.proofs.TestLaws.{and-left, and-right, first-fails}
 use Rattle.lists.proofs.ListLaws.{every-replicate}
 use Rattle.rules.specs.Schedule.{Schedule, scheduleFits}
 use Rattle.rules.specs.Settlement.{money, debt, used, paid, owed}
-use Rattle.rules.specs.Book.{unused, Book}
+use Rattle.rules.specs.Book.{unused}
 use Rattle.rules.specs.Opening.{opening, dayFits, sizesFit}
 use Rattle.rules.specs.Soundness.{sound, accountSound, stateFits, unusedZero, requestFits, topUpFits, declineFits, returnedFits, returnedOf, even, spent, closedClear}
 use Rattle.rules.specs.Tables.{Tables, accountsIn, roomIn, scheduleFrom, bookOf, tablesOf, wholeRecords, lengthsFit, soundTables}
-use Rattle.rules.specs.Calls.{Called, openRefusals, openedBook, openCall}
+use Rattle.rules.specs.Calls.{openRefusals, openedBook, openCall}
 use Rattle.rules.proofs.TableLaws.{bookOf-tablesOf, soundTables-tablesOf}
 
 unused-sound : (day : ℕ) (s : Schedule) (accounts room n : ℕ) → accountSound (opening day s accounts room) n unused ≡ true

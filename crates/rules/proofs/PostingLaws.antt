@@ -1,18 +1,21 @@
 -- Laws of posting: a refused event leaves the book and its tables as they were and the other answer words 0, for every refusal.
 use mathlib.Core.Path.{_≡_, refl, sym, ap, _∙_}
-use mathlib.Core.Bool.{Bool, true, false, cond, _&&_, _||_, true≢false}
-use Prim.Native.Nat.{ℕ, suc}
-use mathlib.Core.List.{List, [], _∷_, _++_, map}
+use mathlib.Core.Bool.{Bool, true, false, cond}
+use Prim.Native.Nat.{ℕ, suc, _*_, _≤_}
+use mathlib.Core.List.{List, [], _∷_, _++_}
 use lib.ListN.{length}
 use lib.Dec.{eqb}
 use lib.IntN.{ℤ}
+use borrow.Author.Tests.{le-ltb}
 use Rattle.lists.specs.Tests.{first}
 use Rattle.rules.specs.Book.{Instruction, Answer, Book}
 use Rattle.rules.specs.Refusals.{answerNumber, after}
 use Rattle.rules.specs.Posting.{acceptance, refusalBy, Posted, post, bookAfter, answersTo}
-use Rattle.rules.specs.Tables.{Tables, bookOf}
-use Rattle.rules.specs.Calls.{Called, Event, openRefusals, openCall, eventRefusals, eventCall, answered, batchRefusals, batchCall}
+use Rattle.rules.specs.Tables.{Tables, bookOf, soundTables}
+use Rattle.rules.specs.Calls.{Event, openRefusals, openCall, eventRefusals, eventCall, answered, batchRefusals, batchCall}
+use Rattle.rules.specs.Limits.{mostEvents}
 use Rattle.records.specs.Encoding.{instructionFrom}
+use Rattle.records.specs.Layout.{answerWidth}
 
 -- ---- post
 
@@ -80,6 +83,12 @@ pub batchCall-refused : (t : Tables) (es : List Event) (answers : List ℤ) → 
     → batchCall t es answers ≡ record { number = first (batchRefusals t es answers); tables = t; answers = answers }
 unfolding batchCall
 batchCall-refused t es answers q = rw q
+
+-- a batch on sound tables that is not too long and has room for its answers
+pub batchCall-runs : (t : Tables) (es : List Event) (answers : List ℤ) → soundTables t ≡ true → length es ≤ mostEvents → length es * answerWidth ≤ length answers
+    → first (batchRefusals t es answers) ≡ 0
+unfolding batchRefusals first
+batchCall-runs t es answers s m a = rw (s, le-ltb mostEvents (length es) m, le-ltb (length answers) (length es * answerWidth) a)
 
 pub openCall-refused : (t : Tables) (w : List ℤ) → eqb (first (openRefusals t w)) 0 ≡ false
     → openCall t w ≡ record { number = first (openRefusals t w); tables = t; answers = [] }

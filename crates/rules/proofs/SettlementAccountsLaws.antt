@@ -11,10 +11,10 @@ use lib.Dec.{eqb}
 use borrow.Author.Tests.{eqb-true, ne-eqb}
 use Rattle.lists.specs.Lists.{sumBy, only, count}
 use Rattle.lists.proofs.SumLaws.{sumBy-ext, sumBy-map}
-use Rattle.rules.specs.Rows.{Row, Test, blank, source, debit, held, rowNo, remaining, sourceOf, debitOf, payable}
+use Rattle.rules.specs.Rows.{Row, Test, blank, source, debit, held, heldToll, rowNo, remaining, sourceOf, debitOf, payable}
 use Rattle.rules.specs.Settlement.{allocate, money, debt, moved, pay, settle, settleAccounts, used, paid, owed}
 use Rattle.rules.proofs.AllocationLaws.{bare, Steady, Apart, other-allocate}
-use Rattle.rules.proofs.SettlementLaws.{payable-pay, money-settle, owed-settle, settle-spent, settle-same, settle-bare, settle-row, length-settle}
+use Rattle.rules.proofs.SettlementLaws.{payable-pay, money-settle, owed-settle, settle-spent, settle-same, settle-fair, settle-bare, settle-row, settle-held, length-settle}
 
 -- ---- another account's sums stay
 
@@ -102,10 +102,39 @@ unfolding settleAccounts
 length-settleAccounts zero rows = refl
 length-settleAccounts (suc n) rows = length-settle (suc n) (settleAccounts n rows) ∙ length-settleAccounts n rows
 
+-- what it does to one row
+pub record MoreSettled (r s : Row) : Type 0 where
+  pub kept : bare s ≡ bare r
+  pub grows : r .settled ≤ s .settled
+  pub fits : r .settled ≤ r .amount → s .settled ≤ s .amount
+
+pub settleAccounts-row : (n : ℕ) (rows : List Row) (i : ℕ) → MoreSettled (getD rows i blank) (getD (settleAccounts n rows) i blank)
+unfolding settleAccounts
+settleAccounts-row zero rows i = record { kept = refl; grows = omega arith; fits = λ h. h }
+settleAccounts-row (suc n) rows i =
+    let f = settleAccounts-row n rows i in
+    let g = settle-row (suc n) (settleAccounts n rows) i in
+    record { kept = g .kept ∙ f .kept; grows = omega (arith, f .grows, g .grows); fits = λ h. g .fits (f .fits h) }
+
 pub settleAccounts-bare : (n : ℕ) (rows : List Row) → map bare (settleAccounts n rows) ≡ map bare rows
 unfolding settleAccounts
 settleAccounts-bare zero rows = refl
 settleAccounts-bare (suc n) rows = settle-bare (suc n) (settleAccounts n rows) ∙ settleAccounts-bare n rows
+
+pub settleAccounts-held : (n : ℕ) (rows : List Row) (i : ℕ) → heldToll (getD rows i blank) ≡ true → getD (settleAccounts n rows) i blank ≡ getD rows i blank
+unfolding settleAccounts
+settleAccounts-held zero rows i h = refl
+settleAccounts-held (suc n) rows i h = let e = settleAccounts-held n rows i h in settle-held (suc n) (settleAccounts n rows) i (rw e h) ∙ e
+
+-- "used sources = settled debits"
+pub settleAccounts-even : (n : ℕ) (rows : List Row) (a : ℕ) → used a rows ≡ paid a rows → used a (settleAccounts n rows) ≡ paid a (settleAccounts n rows)
+unfolding settleAccounts
+settleAccounts-even zero rows a e = e
+settleAccounts-even (suc n) rows a e = go (ℕ-discrete (suc n) a) (settleAccounts-even n rows a e)
+  where
+    go : Dec (suc n ≡ a) → used a (settleAccounts n rows) ≡ paid a (settleAccounts n rows) → used a (settle (suc n) (settleAccounts n rows)) ≡ paid a (settle (suc n) (settleAccounts n rows))
+    go (yes q) ih = rw q (settle-fair a (settleAccounts n rows) ih)
+    go (no q) ih = used-other (suc n) a q (settleAccounts n rows) ∙ ih ∙ sym (paid-other (suc n) a q (settleAccounts n rows))
 
 -- of each account one side is spent
 pub settleAccounts-spent : (n : ℕ) (rows : List Row) (k : ℕ) → k < n → moved (suc k) (settleAccounts n rows) ≡ 0

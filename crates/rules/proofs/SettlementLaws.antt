@@ -1,16 +1,17 @@
 -- Laws of settlement: it keeps length and every field but settled, never lowers settled or passes amount, leaves other accounts
 -- alone, leaves no unused source beside an unsettled unheld debit, keeps used = settled, and is idempotent.
-use mathlib.Core.Path.{_≡_, refl, sym, ap, _∙_, fun-ext}
-use mathlib.Core.Bool.{Bool, true, false, not, cond, _&&_, _||_, true≢false}
-use Prim.Native.Nat.{ℕ, zero, suc, _+_, _-_, _≤_, _<_, min}
+use mathlib.Core.Path.{_≡_, refl, ap, _∙_, fun-ext}
+use mathlib.Core.Bool.{Bool, true, false, not, cond, _&&_, _||_, true≢false, and-false}
+use Prim.Native.Nat.{ℕ, zero, suc, _+_, _-_, _≤_, _<_}
 use native.Mathlib.Omega.{arith}
-use mathlib.Core.List.{List, [], _∷_, map}
+use mathlib.Core.List.{List, map}
 use lib.ListN.{length, getD}
 use lib.Dec.{eqb}
 use borrow.Author.Tests.{eqb-true}
-use Rattle.lists.specs.Lists.{sumBy, only}
+use Rattle.lists.specs.Lists.{only}
 use Rattle.lists.proofs.SumLaws.{sumBy-at-le}
-use Rattle.rules.specs.Rows.{Row, Test, blank, source, debit, heldToll, rowNo, held, sourceOf, debitOf, payable, remaining, settleMore}
+use Rattle.lists.proofs.TestLaws.{and-left}
+use Rattle.rules.specs.Rows.{Row, Test, blank, source, debit, heldToll, rowNo, held, sourceOf, debitOf, payable, remaining, settleMore, Toll}
 use Rattle.rules.specs.Settlement.{allocate, money, debt, moved, pay, settle, used, paid, owed}
 use Rattle.rules.proofs.AllocationLaws.{bare, Steady, Apart, Within, within-self, settleMore-zero, settleMore-settleMore, share, allocate-zero, allocate-allocate, allocate-comm, remaining-allocate, settled-allocate, other-allocate, map-allocate, length-allocate, allocate-at, apart-remaining, share-le, share-other}
 
@@ -53,6 +54,17 @@ source-payable rows a r = both-apart (eqb (r .account) a) (source r) (debit r) (
 
 pub payable-source : (rows : List Row) (a : ℕ) → Apart (payable rows a) (sourceOf a)
 payable-source rows a = apart-swap (sourceOf a) (payable rows a) (source-payable rows a)
+
+-- what is payable is a debit
+pub payable-le : (rows : List Row) (a : ℕ) (r : Row) → only (payable rows a) remaining r ≤ only (debitOf a) remaining r
+unfolding payable debitOf only
+payable-le rows a r = go (eqb (r .account) a) (debit r) (not (held rows r))
+  where
+    go : (x d h : Bool) → cond (x && (d && h)) (remaining r) 0 ≤ cond (x && d) (remaining r) 0
+    go true true true = omega arith
+    go true true false = omega arith
+    go true false h = omega arith
+    go false d h = omega arith
 
 -- what is held does not depend on what is settled
 named-allocate : (t : Test) (p : ℕ) (rows : List Row) (n : ℕ) → heldToll (rowNo (allocate t p rows) n) ≡ heldToll (rowNo rows n)
@@ -201,6 +213,24 @@ settle-row a rows i =
     rw settle-at (settleMore-settled a r (share s p rows i + share u p rows i)
     (omega (arith, apart-remaining s u (source-payable rows a) r))
     (λ o. omega (arith, other-source a r o, other-payable rows a r o)))
+
+-- a held toll takes and gives nothing
+pub held-source : (a : ℕ) (r : Row) → heldToll r ≡ true → only (sourceOf a) remaining r ≡ 0
+unfolding only sourceOf
+held-source a r e =
+    let k : r .kind ≡ Toll = eqb-true (r .kind) Toll (and-left (eqb (r .kind) Toll) _ e) in
+    rw (k, and-false (eqb (r .account) a))
+
+pub held-payable : (rows : List Row) (a : ℕ) (r : Row) → heldToll r ≡ true → only (payable rows a) remaining r ≡ 0
+unfolding only payable held
+held-payable rows a r e = rw (e, and-false (debit r), and-false (eqb (r .account) a))
+
+pub settle-held : (a : ℕ) (rows : List Row) (i : ℕ) → heldToll (getD rows i blank) ≡ true → getD (settle a rows) i blank ≡ getD rows i blank
+settle-held a rows i h =
+    let r : Row = getD rows i blank in
+    let z : share (sourceOf a) (moved a rows) rows i + share (payable rows a) (moved a rows) rows i ≡ 0 =
+    omega (arith, held-source a r h, held-payable rows a r h, share-le (sourceOf a) (moved a rows) rows i, share-le (payable rows a) (moved a rows) rows i) in
+    rw (settle-at a rows i, z, settleMore-zero r)
 
 -- ---- used and paid: they grow alike
 

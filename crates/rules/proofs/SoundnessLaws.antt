@@ -1,6 +1,6 @@
 -- Soundness as facts: a record for a row, an account and a book, equal to the test. The parts are split by what they read, so
 -- that each law of preservation touches few of them.
-use mathlib.Core.Path.{_≡_, refl}
+use mathlib.Core.Path.{_≡_}
 use mathlib.Core.Bool.{true}
 use Prim.Native.Nat.{ℕ, suc, _+_, _<_}
 use native.Mathlib.Omega.{arith}
@@ -8,7 +8,7 @@ use mathlib.Core.List.{List, [], _∷_}
 use lib.ListN.{length, getD}
 use lib.Dec.{leb}
 use Rattle.lists.specs.Tests.{allOf}
-use Rattle.lists.specs.Lists.{everyFrom, every}
+use Rattle.lists.specs.Lists.{every}
 use Rattle.lists.proofs.TestLaws.{allOf-at}
 use Rattle.lists.proofs.ListLaws.{every-at, every-all}
 use Rattle.rules.specs.Schedule.{scheduleFits}

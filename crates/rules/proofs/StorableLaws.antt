@@ -1,10 +1,10 @@
 -- In a sound book every word is one that a signed word holds.
 use mathlib.Core.Path.{_≡_, refl, sym, ap, _∙_}
-use mathlib.Core.Bool.{Bool, true, false, not, cond, _&&_, _||_, true≢false, false≢true}
-use Prim.Native.Nat.{ℕ, zero, suc, _+_, _-_, _^_, _≤_, _<_}
+use mathlib.Core.Bool.{Bool, true, false, cond, _&&_, _||_, true≢false}
+use Prim.Native.Nat.{ℕ, zero, suc, _+_, _≤_, _<_}
 use native.Mathlib.Omega.{arith}
 use native.Mathlib.Decide.{decLt}
-use mathlib.Core.List.{List, [], _∷_}
+use mathlib.Core.List.{List, _∷_}
 use lib.ListN.{length, getD, List·getD-eq-default}
 use lib.Dec.{eqb, leb, ltb}
 use borrow.Author.Tests.{leb-true, leb-false, ltb-true, eqb-true, eqb-false, not-true}
@@ -15,11 +15,11 @@ use Rattle.lists.proofs.TestLaws.{and-left, and-right}
 use Rattle.lists.proofs.SumLaws.{count-le}
 use Rattle.rules.specs.Limits.{finalDay, mostAccounts, mostRows, longestStage, highestFee, highestRate, highestRefund, highestPassage, highestTopUp, mostDeclines}
 use Rattle.rules.specs.Schedule.{Schedule, scheduleFits, ratesFit}
-use Rattle.rules.specs.Rows.{Row, blank, Toll, Fee, Reversal, Payment, Credit, Refund, rowNo, toll, unsettled}
+use Rattle.rules.specs.Rows.{Row, blank, Toll, Fee, Reversal, Payment, Credit, rowNo, toll, unsettled}
 use Rattle.rules.specs.Book.{Account, unused, accountNo, Book}
 use Rattle.rules.specs.Opening.{dayFits, sizesFit}
 use Rattle.rules.specs.Soundness.{kindFits, mostOf, amountFits, settledFits, markFits, tollWordsFit, noReference, rowDayFits, dueWithin, holdFits, accountUsed, names, referenceFits, stateFits, unusedZero, requestFits, topUpFits, declineFits, returnedOf, returnedFits}
-use Rattle.rules.proofs.SoundnessLaws.{Shape, Live, Standing, Counted, Near}
+use Rattle.rules.proofs.SoundnessLaws.{Near}
 
 -- ---- what the tests bound
 
@@ -44,6 +44,14 @@ mostOf-le (suc (suc (suc (suc (suc (suc (suc k))))))) = omega arith
 
 pub between-le : (lo hi n : ℕ) → n from lo to hi ≡ true → n ≤ hi
 between-le lo hi n e = leb-true n hi (and-right (leb lo n) (leb n hi) e)
+
+pub amount-le : (r : Row) → amountFits r ≡ true → r .amount ≤ highestRefund
+unfolding amountFits
+amount-le r e = omega (arith, between-le 1 (mostOf (r .kind)) (r .amount) e, mostOf-le (r .kind))
+
+pub settled-le : (r : Row) → settledFits r ≡ true → r .settled ≤ r .amount
+unfolding settledFits
+settled-le r e = leb-true (r .settled) (r .amount) (and-left (leb (r .settled) (r .amount)) _ e)
 
 pub mark-le : (r : Row) → markFits r ≡ true → r .mark ≤ 4
 unfolding markFits
@@ -269,14 +277,13 @@ module _ (past : ℕ) (b : Book) (n : Near past b) where
   -- ---- rows
 
   pub row-storable : (k : ℕ) → k < length (b .rows) → StorableRow (getD (b .rows) k blank)
-  unfolding kindFits amountFits settledFits rowDayFits accountUsed
+  unfolding kindFits rowDayFits accountUsed
   row-storable k h =
       let r : Row = getD (b .rows) k blank in
       let s = n .shape k h in
       let l = n .live k h in
-      let settled-le : r .settled ≤ r .amount = leb-true (r .settled) (r .amount) (and-left (leb (r .settled) (r .amount)) (r .kind is Refund implies r .settled is r .amount) (l .settled)) in
-      let amount-le : r .amount ≤ mostOf (r .kind) = between-le 1 (mostOf (r .kind)) (r .amount) (s .amount) in
-      let m = mostOf-le (r .kind) in
+      let part = settled-le r (l .settled) in
+      let whole = amount-le r (s .amount) in
       let d = day-le in
       let a = accounts-le in
       let q = room-le in

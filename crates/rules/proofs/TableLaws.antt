@@ -1,31 +1,27 @@
 -- Laws of the tables: the tables of a book read back as that book, and in sound tables the book that is read is written as them.
-use mathlib.Core.Path.{_≡_, refl, sym, ap, ap₂, _∙_}
-use mathlib.Core.Bool.{Bool, true, false, _&&_, false≢true}
-use Prim.Native.Nat.{ℕ, zero, suc, _+_, _*_, _-_, _/_, _%_, _^_, _≤_, _<_, min}
-use native.Mathlib.Nat.{le-of-suc-le-suc}
+use mathlib.Core.Path.{_≡_, refl, sym, ap₂, _∙_}
+use mathlib.Core.Bool.{Bool, true, _&&_, false≢true}
+use Prim.Native.Nat.{ℕ, _+_, _*_, _-_, _%_, _≤_, min}
 use native.Mathlib.Omega.{arith}
-use mathlib.Core.List.{List, [], _∷_, _++_}
+use mathlib.Core.List.{List, [], _∷_}
 use lib.ListN.{length, getD, take, drop, replicate, length-append, length-drop, length-replicate, take-append-drop}
 use lib.Seq.{take-all, drop-at}
 use lib.IntN.{ℤ, pos, negsuc}
-use lib.Dec.{eqb, leb}
 use borrow.Author.Tests.{leb-true, eqb-true, le-leb, eq-eqb}
 use Rattle.records.specs.Layout.{headerWidth, accountWidth, rowWidth}
-use Rattle.records.specs.Encoding.{natOf, word, accountFrom, rowFrom, accountsOf, rowsOf, accountWords, rowWords, writeAll, StorableAccount, StorableRow}
-use Rattle.records.proofs.EncodingLaws.{pos-natOf, length-writeAll, read-writeAll, read-writeAll-whole, writeAll-read, row-codec, account-codec}
-use Rattle.lists.specs.Tests.{_is_, _from_to_, allOf}
+use Rattle.records.specs.Encoding.{natOf, word, accountFrom, rowFrom, rowsOf, accountWords, rowWords, writeAll, StorableAccount, StorableRow}
+use Rattle.records.proofs.EncodingLaws.{length-writeAll, read-writeAll, read-writeAll-whole, writeAll-read, row-codec, account-codec, plain}
+use Rattle.lists.specs.Tests.{_is_, allOf}
 use Rattle.lists.specs.Lists.{everyFrom, tabulate}
-use Rattle.lists.proofs.TestLaws.{and-left, and-right, and-both, allOf-at}
+use Rattle.lists.proofs.TestLaws.{and-left, and-right, allOf-at}
 use Rattle.lists.proofs.ListLaws.{length-tabulate, tabulate-at, tabulate-getD, every-replicate}
-use Rattle.rules.specs.Limits.{finalDay, mostRows}
-use Rattle.rules.specs.Rows.{Row, blank}
-use Rattle.rules.specs.Schedule.{Schedule, scheduleFits}
-use Rattle.rules.specs.Book.{Account, unused, Book}
+use Rattle.rules.specs.Rows.{blank}
+use Rattle.rules.specs.Book.{unused, Book}
 use Rattle.rules.specs.Opening.{sizesFit}
 use Rattle.rules.specs.Soundness.{sound}
 use Rattle.rules.specs.Tables.{Tables, accountsIn, roomIn, rowsUsed, scheduleFrom, bookOf, scheduleWords, headerWords, tablesOf, wholeRecords, lengthsFit, usedFits, zeroWord, laterRowsZero, soundTables}
 use Rattle.rules.proofs.SoundnessLaws.{Near, Sound, sound-facts}
-use Rattle.rules.proofs.StorableLaws.{between-le, day-le, room-le, rows-le, row-storable, account-storable, StorableSchedule, schedule-storable}
+use Rattle.rules.proofs.StorableLaws.{day-le, room-le, rows-le, row-storable, account-storable, schedule-storable}
 
 -- ---- a book's tables, read back
 
@@ -79,18 +75,13 @@ zeros i (x ∷ xs) e =
     ap₂ {C = List ℤ} _∷_ (zero-word i x (and-left (zeroWord i x) (everyFrom zeroWord (i + 1) xs) e))
     (zeros (i + 1) xs (and-right (zeroWord i x) (everyFrom zeroWord (i + 1) xs) e))
 
--- a word below 2 ^ 63 at a place
-plain : (t : List ℤ) (k : ℕ) → word t k < 2 ^ 63 → pos (word t k) ≡ getD t k (pos 0)
-unfolding word
-plain t k h = pos-natOf (getD t k (pos 0)) h
-
 module _ (t : Tables) (h : soundTables t ≡ true) where
-  parts : (k : ℕ) → getD (lengthsFit t ∷ usedFits t ∷ laterRowsZero t ∷ sound (bookOf t) ∷ []) k true ≡ true
+  pub sound-part : (k : ℕ) → getD (lengthsFit t ∷ usedFits t ∷ laterRowsZero t ∷ sound (bookOf t) ∷ []) k true ≡ true
   unfolding soundTables
-  parts = allOf-at _ h
+  sound-part = allOf-at _ h
 
   pub sound-book : Sound (bookOf t)
-  sound-book = sound-facts (bookOf t) (parts 3)
+  sound-book = sound-facts (bookOf t) (sound-part 3)
 
   near : Near (bookOf t .day) (bookOf t)
   near = sound-book .near
@@ -106,7 +97,7 @@ module _ (t : Tables) (h : soundTables t ≡ true) where
 
   lengths : header-part && accounts-part && journal-part ≡ true
   unfolding lengthsFit wholeRecords
-  lengths = and-left (wholeRecords t) (sizesFit (accountsIn t) (roomIn t)) (parts 0)
+  lengths = and-left (wholeRecords t) (sizesFit (accountsIn t) (roomIn t)) (sound-part 0)
 
   pub header-length : length (t .header) ≡ headerWidth
   header-length = eqb-true _ _ (and-left header-part accounts-part (and-left (header-part && accounts-part) journal-part lengths))
@@ -123,7 +114,7 @@ module _ (t : Tables) (h : soundTables t ≡ true) where
 
   pub used-le : rowsUsed t ≤ roomIn t
   unfolding usedFits
-  used-le = leb-true (rowsUsed t) (roomIn t) (parts 1)
+  used-le = leb-true (rowsUsed t) (roomIn t) (sound-part 1)
 
   used-min : min (rowsUsed t) (roomIn t) ≡ rowsUsed t
   used-min = omega (arith, used-le)
@@ -190,7 +181,7 @@ module _ (t : Tables) (h : soundTables t ≡ true) where
       let e = journal-length in
       let u = used-le in
       let n : length (drop (rowsUsed t * rowWidth) (t .journal)) ≡ (roomIn t - rowsUsed t) * rowWidth = length-drop (rowsUsed t * rowWidth) (t .journal) ∙ omega arith in
-      sym (zeros 1 (drop (rowsUsed t * rowWidth) (t .journal)) (parts 2) ∙ rw n)
+      sym (zeros 1 (drop (rowsUsed t * rowWidth) (t .journal)) (sound-part 2) ∙ rw n)
 
   pub tablesOf-bookOf : tablesOf (bookOf t) ≡ t
   unfolding tablesOf

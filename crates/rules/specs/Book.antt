@@ -13,7 +13,7 @@ pub use Rattle.records.specs.Updates.{unused}
 use Rattle.lists.specs.Tests.{_is_}
 use Rattle.lists.specs.Lists.{sumBy, only}
 use Rattle.rules.specs.Schedule.{Schedule}
-use Rattle.rules.specs.Rows.{Row, blank, rowNo, sourceOf, debitOf}
+use Rattle.rules.specs.Rows.{Row, rowNo, sourceOf, debitOf}
 use Rattle.rules.specs.Settlement.{settleAccounts}
 
 pub record Book : Type 0 where

@@ -1,6 +1,6 @@
 -- The calls, on any tables and lengths: every answer word, value, part and table word afterwards (document 01, "Events" and
 -- "Questions, dates, listing").
-use mathlib.Core.Bool.{Bool, not, cond, _&&_, _||_}
+use mathlib.Core.Bool.{not, cond, _&&_, _||_}
 use Prim.Native.Nat.{ℕ, _*_, _-_}
 use mathlib.Core.List.{List, [], _∷_, _++_, map}
 use lib.ListN.{length, drop, take}

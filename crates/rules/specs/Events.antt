@@ -1,7 +1,7 @@
 -- Events 1 to 8 (document 01, "Events"): what each does to the book when it is accepted, before settlement.
 use mathlib.Core.Bool.{cond}
 use Prim.Native.Nat.{ℕ, _+_, _-_}
-use mathlib.Core.List.{List, map}
+use mathlib.Core.List.{map}
 use lib.ListN.{set}
 use Rattle.records.specs.Codes.{Card, CheckReturned, Ended, Upheld, Yes}
 use Rattle.records.specs.AccountOperations.{opened, checkReturned, declinedOn, topUpPaid, closeRequestedOn}

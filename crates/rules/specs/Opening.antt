@@ -3,7 +3,6 @@ use mathlib.Core.Bool.{Bool, _&&_}
 use Prim.Native.Nat.{ℕ}
 use mathlib.Core.List.{[]}
 use lib.ListN.{replicate}
-use lib.Dec.{leb}
 use Rattle.lists.specs.Tests.{_from_to_}
 use Rattle.rules.specs.Limits.{finalDay, mostAccounts, mostRows}
 use Rattle.rules.specs.Schedule.{Schedule}

@@ -1,5 +1,5 @@
 -- The refusals 2 to 14 (document 01, "Events" and its table of answers), each a test, as one table in checking order.
-use mathlib.Core.Bool.{Bool, true, false, not, cond, _&&_, _||_}
+use mathlib.Core.Bool.{Bool, false, not, cond, _&&_, _||_}
 use Prim.Native.Nat.{ℕ, _+_}
 use mathlib.Core.List.{[], _∷_}
 use lib.ListN.{length, getD, drop}
@@ -9,7 +9,7 @@ use Rattle.lists.specs.Tests.{_is_, _from_to_, _implies_, Cases, first}
 use Rattle.lists.specs.Lists.{exists}
 use Rattle.rules.specs.Limits
 use Rattle.rules.specs.Schedule.{class}
-use Rattle.rules.specs.Rows.{Row, Toll, Payment, Refund, toll, heldToll, unsettled}
+use Rattle.rules.specs.Rows.{Toll, Payment, Refund, toll, heldToll, unsettled}
 use Rattle.rules.specs.Book.{Unused, Pending, Closed, Instruction, Book, account, row, settled, topUpDue}
 use Rattle.rules.specs.Events.{Change, openAccount, postToll, postPayment, returnCheck, holdToll, decide, topUpResult, requestClose}
 use Rattle.rules.specs.Tick.{tick}

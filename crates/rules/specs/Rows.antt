@@ -1,5 +1,5 @@
 -- The journal's rows and the tests on a row (document 01, "The book").
-use mathlib.Core.Bool.{Bool, true, false, not, _&&_, _||_}
+use mathlib.Core.Bool.{Bool, not, _&&_, _||_}
 use Prim.Native.Nat.{ℕ, _+_, _-_}
 use mathlib.Core.List.{List, _∷_}
 use lib.ListN.{getD}

@@ -1,6 +1,6 @@
 -- Settlement (document 01, "Events"), in closed form: what the unused sources have and the payable debits want, the lesser of the
 -- two, allocated over each side in row order. SettlementSteps has the same in the text's own words.
-use Prim.Native.Nat.{ℕ, zero, suc, _+_, _-_, min}
+use Prim.Native.Nat.{ℕ, zero, suc, _-_, min}
 use mathlib.Core.List.{List, [], _∷_}
 use Rattle.lists.specs.Lists.{sumBy, only}
 use Rattle.rules.specs.Rows.{Row, Test, remaining, settleMore, sourceOf, debitOf, payable}

@@ -1,6 +1,6 @@
 -- A sound book (document 01, "A book is sound when"): each clause a named test, and their conjunction. What concerns the
 -- tables alone, their lengths and the rows past the used ones, is in Tables.
-use mathlib.Core.Bool.{Bool, true, false, not, cond, _&&_, _||_}
+use mathlib.Core.Bool.{Bool, not, cond, _&&_, _||_}
 use Prim.Native.Nat.{ℕ, _+_, _-_}
 use mathlib.Core.List.{List, [], _∷_}
 use lib.ListN.{length, getD}

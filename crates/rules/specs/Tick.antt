@@ -10,7 +10,7 @@ use Rattle.rules.specs.Limits.{holdDays, closingDays}
 use Rattle.rules.specs.Schedule.{Schedule, stageFee}
 use Rattle.rules.specs.Rows.{Row, Fee, Refund, LastStage, Test, newRow, withMark, withDue, withReference, toll, heldToll, unsettled, source, debitOf, settleWhole}
 use Rattle.rules.specs.Settlement.{money}
-use Rattle.rules.specs.Book.{Account, Pending, Instruction, Book, withDay, withAccounts, withRows, account, settled}
+use Rattle.rules.specs.Book.{Account, Pending, Book, withDay, withAccounts, withRows, account, settled}
 use Rattle.rules.specs.Events.{Change, release}
 
 -- ---- "the day rises by 1"
@@ -25,9 +25,13 @@ nextDay b = withDay (b .day + 1) b
 unfoldable pub holdEnds : ℕ → Test
 holdEnds today r = heldToll r && r .hold + holdDays is today
 
--- such tolls are released
+-- such a toll is released
+unfoldable pub endHold : ℕ → Row → Row
+endHold today r = cond (holdEnds today r) (release today r) r
+
+-- all of them are
 unfoldable pub endHolds : Book → Book
-endHolds b = withRows (map (λ r. cond (holdEnds (b .day) r) (release (b .day) r) r) (b .rows)) b
+endHolds b = withRows (map (endHold (b .day)) (b .rows)) b
 
 -- ---- "settlement": the book in which tolls are about to be raised
 

@@ -1,21 +1,20 @@
 -- The walk of settlement over the journal: what holds at each turn of its two loops.
-use mathlib.Core.Path.{_≡_, refl, sym, ap, _∙_}
+use mathlib.Core.Path.{_≡_, refl, sym, _∙_}
 use mathlib.Core.Logic.{_≢_, _⊎_, inr, ⊎-elim, ⊎-map}
-use Prim.Native.Nat.{ℕ, zero, suc, _+_, _-_, _*_, _^_, _≤_, _<_}
+use Prim.Native.Nat.{ℕ, _+_, _-_, _^_, _≤_, _<_}
 use native.Mathlib.Omega.{arith}
 use native.Mathlib.Decide.{ℕ-discrete}
 use native.Mathlib.Numerals.{add-one}
 use mathlib.Core.List.{List}
 use lib.IntN.{ℤ}
 use lib.ListN.{length, take, getD, set}
-use Rattle.records.specs.Layout.{rowWidth}
 use Rattle.records.specs.Encoding.{rowAt, rowsOf}
-use Rattle.lists.specs.Lists.{sumBy, only, tabulate}
+use Rattle.lists.specs.Lists.{sumBy, only}
 use Rattle.lists.proofs.ListLaws.{length-tabulate, tabulate-at}
-use Rattle.lists.proofs.SumLaws.{sumBy-take-skip, sumBy-at-le}
+use Rattle.lists.proofs.SumLaws.{sumBy-take-skip, sumBy-at-le, only-le}
 use Rattle.rules.specs.Rows.{Row, Test, blank, remaining, settleMore, sourceOf, payable}
 use Rattle.rules.specs.Settlement.{money, debt, moved, settle}
-use Rattle.rules.proofs.AllocationLaws.{only-le, apart-none}
+use Rattle.rules.proofs.AllocationLaws.{apart-none}
 use Rattle.rules.proofs.SettlementLaws.{payable-pay, source-payable, settle-same}
 use Rattle.tables.specs.Changes.{RowChanged}
 use Rattle.tables.proofs.ChangeLaws.{changed-rows}

@@ -8,19 +8,19 @@ use mathlib.Core.List.{List, [], _∷_, _++_}
 use lib.IntN.{ℤ, pos}
 use lib.ListN.{length, getD, take, drop, take-append-drop}
 use lib.Seq.{drop-drop, drop-length}
-use lib.Dec.{eqb, leb}
-use borrow.Author.Tests.{leb-true, eqb-true, eq-eqb, ne-eqb, lt-ltb, le-ltb, not-true}
-use Rattle.lists.specs.Tests.{_is_, _implies_, allOf}
-use Rattle.lists.proofs.TestLaws.{and-left, allOf-at}
+use lib.Dec.{eqb}
+use borrow.Author.Tests.{eqb-true, eq-eqb, ne-eqb, lt-ltb, le-ltb, not-true}
+use Rattle.lists.specs.Tests.{_implies_, allOf}
+use Rattle.lists.proofs.TestLaws.{allOf-at}
 use Rattle.lists.specs.Lists.{everyFrom, tabulate}
 use Rattle.lists.proofs.ListLaws.{tabulate-getD, length-tabulate}
 use Rattle.records.specs.Layout.{rowWidth}
 use Rattle.records.specs.Encoding.{word, rowFrom, rowAt, rowsOf, accountAt, accountsOf, StorableRow}
-use Rattle.rules.specs.Limits.{finalDay, longestStage, mostAccounts, mostRows, highestRefund}
-use Rattle.rules.specs.Rows.{Row, Toll, Fee, Reversal, Payment, Credit, Refund, rowNo}
+use Rattle.rules.specs.Limits.{finalDay, longestStage, mostAccounts, mostRows}
+use Rattle.rules.specs.Rows.{Row, Toll, Fee, Reversal, Payment, Credit, rowNo}
 use Rattle.rules.specs.Book.{Account}
-use Rattle.rules.specs.Soundness.{kindFits, mostOf, amountFits, settledFits, markFits, tollWordsFit, noReference, rowDayFits, dueFits, holdFits, accountUsed, names, referenceFits}
-use Rattle.rules.proofs.StorableLaws.{between-le, used-inside, mostOf-le, mark-le, due-le, dispute-le, hold-le, reference-le}
+use Rattle.rules.specs.Soundness.{kindFits, amountFits, settledFits, markFits, tollWordsFit, noReference, rowDayFits, dueFits, holdFits, accountUsed, names, referenceFits}
+use Rattle.rules.proofs.StorableLaws.{between-le, used-inside, amount-le, settled-le, mark-le, due-le, dispute-le, hold-le, reference-le}
 use Rattle.rules.specs.Tables.{zeroWord}
 use Rattle.tables.specs.Changes.{RowIn}
 use Rattle.plain_rows.specs.Alike.{AlikeRow}
@@ -67,8 +67,8 @@ stands-small xs rows today L n d l a m r e =
       kind = unfold kindFits in omega (arith, between-le 1 6 (r .kind) (alone 0));
       account = unfold accountUsed in omega (arith, used-inside xs (r .account) (not-true _ (part 1)));
       day = unfold rowDayFits in omega (arith, between-le 1 today (r .day) (own 3));
-      amount = omega (arith, amount-le);
-      settled = omega (arith, amount-le, settled-le);
+      amount = omega (arith, amount-le r (alone 1));
+      settled = omega (arith, amount-le r (alone 1), settled-le r (alone 2));
       mark = omega (arith, mark-le r (own 0));
       due = omega (arith, due-le r (own 1) today (today + L) (own 4));
       dispute = omega (arith, dispute-le r (own 1));
@@ -84,12 +84,6 @@ stands-small xs rows today L n d l a m r e =
 
     own : (i : ℕ) → getD (markFits r ∷ tollWordsFit r ∷ noReference r ∷ rowDayFits today r ∷ dueFits today L r ∷ holdFits today L r ∷ []) i true ≡ true
     own = unfold ownWords in allOf-at _ (alone 3)
-
-    amount-le : r .amount ≤ highestRefund
-    amount-le = unfold amountFits in omega (arith, between-le 1 (mostOf (r .kind)) (r .amount) (alone 1), mostOf-le (r .kind))
-
-    settled-le : r .settled ≤ r .amount
-    settled-le = unfold settledFits in leb-true _ _ (and-left (leb (r .settled) (r .amount)) (r .kind is Refund implies r .settled is r .amount) (alone 2))
 
 -- so it stands as it is read, and then it is the table's
 module _ (accounts journal : List ℤ) (f : Frame) (l : Bounds accounts journal f) (i : ℕ) (h : i < f .used) (r : Row) (a : AlikeRow r (rowAt journal i)) where

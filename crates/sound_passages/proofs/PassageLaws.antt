@@ -1,13 +1,12 @@
 -- Passage numbers differ just where no two tolls have one.
-use mathlib.Core.Path.{_≡_, refl, sym, ap, _∙_}
+use mathlib.Core.Path.{_≡_, refl, sym}
 use mathlib.Core.Logic.{_≢_}
 use mathlib.Core.Bool.{Bool, true, false, _&&_}
-use Prim.Native.Nat.{ℕ, _+_, _≤_, _<_}
+use Prim.Native.Nat.{ℕ, _≤_, _<_}
 use native.Mathlib.Omega.{arith}
-use native.Mathlib.Decide.{ℕ-discrete, decLt}
+use native.Mathlib.Decide.{decLt}
 use mathlib.Core.List.{List}
 use lib.IntN.{ℤ}
-use lib.Dec.{eqb}
 use borrow.Author.Tests.{eq-eqb, ne-eqb, eqb-true}
 use Rattle.lists.specs.Tests.{_is_, _implies_}
 use Rattle.lists.specs.Lists.{count}

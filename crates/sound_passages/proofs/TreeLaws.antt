@@ -1,10 +1,10 @@
 -- Laws of the trees: the way down to a passage number, and how they grow by a row.
-use Prim.Native.Nat.{ℕ, zero, suc, _+_, _*_, _-_, _/_, _%_, _^_, _≤_, _<_}
+use Prim.Native.Nat.{ℕ, _+_, _*_, _-_, _/_, _%_, _^_, _≤_, _<_}
 use native.Mathlib.Omega.{arith}
 use native.Mathlib.Nat.{mod-lt, div-lt-iff-lt-mul, mul-le-mul, mul-lt-mul-of-pos-right}
 use native.Mathlib.Decide.{ℕ-discrete}
 use mathlib.Core.Path.{_≡_, refl, sym, ap, _∙_}
-use mathlib.Core.Bool.{Bool, true, false}
+use mathlib.Core.Bool.{false}
 use mathlib.Core.List.{List}
 use lib.IntN.{ℤ}
 use lib.ListN.{length, getD, set, replicate, length-set, length-replicate}
@@ -13,7 +13,7 @@ use Rattle.lists.proofs.ListLaws.{zeros}
 use Rattle.records.specs.Encoding.{rowAt, rowsOf}
 use Rattle.rules.specs.Limits.{mostRows}
 use Rattle.sound_passages.specs.Trees.{passagesDiffer}
-use Rattle.sound_passages.specs.Trees.{mixOf, rootOf, IsToll, HasPassage, Leads, here, next, Kept, Grown, Spot, Planted}
+use Rattle.sound_passages.specs.Trees.{mixOf, rootOf, IsToll, HasPassage, Leads, here, next, Kept, Grown, Spot}
 use Rattle.sound_passages.proofs.PassageLaws.{clash-same}
 
 leads-zero : {space : ℕ} {cells : List ℕ} {j y c : ℕ} → Leads space cells j y c → getD cells c 0 ≡ 0 → ⊥

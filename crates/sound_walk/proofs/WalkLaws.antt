@@ -7,20 +7,19 @@ use native.Mathlib.Omega.{arith}
 use mathlib.Core.List.{List, [], _∷_}
 use lib.IntN.{ℤ}
 use lib.ListN.{getD}
-use lib.Dec.{eqb, leb}
+use lib.Dec.{eqb}
 use native.Mathlib.Decide.{decLt}
-use borrow.Author.Tests.{leb-true, not-true, ne-eqb, le-ltb}
+use borrow.Author.Tests.{not-true, ne-eqb, le-ltb}
 use borrow.Author.Count.{below-more}
-use Rattle.lists.specs.Tests.{_is_, _implies_}
-use Rattle.lists.proofs.TestLaws.{and-left, allOf-at}
+use Rattle.lists.proofs.TestLaws.{allOf-at}
 use Rattle.lists.proofs.ListLaws.{every-fails, length-tabulate}
 use Rattle.records.specs.Encoding.{rowAt, rowsOf, accountAt, accountsOf}
-use Rattle.rules.specs.Limits.{mostAccounts, highestRefund}
-use Rattle.rules.specs.Rows.{Row, Toll, Fee, Payment, Credit, Refund, rowNo, source, debit, heldToll, held}
-use Rattle.rules.specs.Soundness.{kindFits, mostOf, amountFits, settledFits, accountUsed, names, referenceFits}
-use Rattle.rules.proofs.StorableLaws.{mostOf-le, used-inside, between-le}
+use Rattle.rules.specs.Limits.{mostAccounts}
+use Rattle.rules.specs.Rows.{Row, Toll, Fee, Payment, Credit, rowNo, source, debit, heldToll, held}
+use Rattle.rules.specs.Soundness.{kindFits, amountFits, settledFits, accountUsed, names, referenceFits}
+use Rattle.rules.proofs.StorableLaws.{amount-le, settled-le, used-inside}
 use Rattle.sound_header.specs.declared.frame.Frame.{Frame}
-use Rattle.sound_header.specs.Clauses.{rowAlone, rowStands, rowsStand, standsIn}
+use Rattle.sound_header.specs.Clauses.{ownWords, rowAlone, rowStands, rowsStand, standsIn}
 use Rattle.sound_journal.proofs.JournalLaws.{stands-alike, stands-same}
 use Rattle.sound_passages.specs.Trees.{passagesDiffer, Grown}
 use Rattle.sound_fees.specs.Fees.{feesFew, Counted}
@@ -77,8 +76,8 @@ module _ (accounts journal : List ℤ) (f : Frame) where
       part : (k : ℕ) → getD (rowAlone (f .today) (f .stage) r ∷ accountUsed (accountsOf accounts (f .count)) r ∷ referenceFits (rowsOf journal (f .used)) (i + 1) r ∷ []) k true ≡ true
       part = unfold rowStands in allOf-at _ e
 
-      row-kind : kindFits r ≡ true
-      row-kind = unfold rowAlone in allOf-at _ (part 0) 0
+      alone : (k : ℕ) → getD (kindFits r ∷ amountFits r ∷ settledFits r ∷ ownWords (f .today) (f .stage) r ∷ []) k true ≡ true
+      alone = unfold rowAlone in allOf-at _ (part 0)
 
       -- a fee names an earlier row
       pub row-earlier : r .kind ≡ Fee → r .reference < i + 1
@@ -90,23 +89,15 @@ module _ (accounts journal : List ℤ) (f : Frame) where
           ]
 
       pub row-debit : source r ≡ false → debit r ≡ true
-      row-debit = no-source-debit r row-kind
+      row-debit = no-source-debit r (alone 0)
 
       pub row-addable : {sums : List ℕ} → Tallies journal (f .used) sums i → Addable sums r
-      row-addable w = addable journal (f .used) _ i w (omega (arith, t .inside, t .bounds .few)) r account-le amount-le settled-le
+      row-addable w = addable journal (f .used) _ i w (omega (arith, t .inside, t .bounds .few)) r account-le (amount-le r (alone 1)) (settled-le r (alone 2))
         where
           account-le : r .account ≤ mostAccounts
           account-le = unfold accountUsed in
               (let x = used-inside (accountsOf accounts (f .count)) (r .account) (not-true _ (part 1)) in
               omega (arith, t .bounds .fewer, length-tabulate (accountAt accounts) (f .count)))
-
-          amount-le : r .amount ≤ highestRefund
-          amount-le = unfold rowAlone amountFits in
-              omega (arith, between-le 1 (mostOf (r .kind)) (r .amount) (allOf-at _ (part 0) 1), mostOf-le (r .kind))
-
-          settled-le : r .settled ≤ r .amount
-          settled-le = unfold rowAlone settledFits in
-              leb-true _ _ (and-left (leb (r .settled) (r .amount)) (r .kind is Refund implies r .settled is r .amount) (allOf-at _ (part 0) 2))
 
       -- and is entered everywhere
       pub row-walks : {cells counts sums cells₁ counts₁ sums₁ : List ℕ} → Walked accounts journal f cells counts sums i

@@ -1,13 +1,13 @@
 -- What a store is to a list of records: laws over any record of a fixed width; rows and accounts are two such.
-use Prim.Native.Nat.{ℕ, zero, suc, _+_, _*_, _≤_, _<_}
+use Prim.Native.Nat.{ℕ, suc, _+_, _*_, _≤_, _<_}
 use native.Mathlib.Omega.{arith}
 use native.Mathlib.Nat.{mul-le-mul-right, suc-mul}
 use native.Mathlib.Decide.{ℕ-discrete, decLt}
-use mathlib.Core.Path.{_≡_, refl, sym, ap, _∙_}
+use mathlib.Core.Path.{_≡_, refl, ap, _∙_}
 use mathlib.Core.Logic.{_≢_}
 use mathlib.Core.List.{List, [], _∷_, _++_, map, append-assoc}
 use lib.IntN.{ℤ, pos}
-use lib.ListN.{length, getD, set, take, drop, length-set, length-take}
+use lib.ListN.{length, getD, set, take, drop, length-set}
 use lib.Seq.{getD-set-same, getD-set-other, sets, sets-eq, length-sets, length-take-le}
 use Rattle.lists.specs.Lists.{tabulate}
 use Rattle.lists.proofs.ListLaws.{tabulate-set, tabulate-same, tabulate-more, tabulate-map}
@@ -138,13 +138,13 @@ row-changed = words-changed rowWidth rowFrom row-local rowWords StorableRow row-
 pub account-changed : (t : List ℤ) (i : ℕ) (x : Account) → AccountIn t i → AccountChanged t (putAll t (i * accountWidth) 0 (accountWords x)) i x
 account-changed = words-changed accountWidth accountFrom account-local accountWords StorableAccount account-codec
 
--- ---- the settled word alone
+-- ---- one word
 
-word-same : (t : List ℤ) (k v : ℕ) → k < length t → word (set t k (pos v)) k ≡ v
+pub word-same : (t : List ℤ) (k v : ℕ) → k < length t → word (set t k (pos v)) k ≡ v
 unfolding word natOf
 word-same t k v h = rw getD-set-same
 
-word-other : (t : List ℤ) (k : ℕ) (z : ℤ) (m : ℕ) → m ≢ k → word (set t k z) m ≡ word t m
+pub word-other : (t : List ℤ) (k : ℕ) (z : ℤ) (m : ℕ) → m ≢ k → word (set t k z) m ≡ word t m
 unfolding word
 word-other t k z m q = ap natOf (getD-set-other t k m z (pos 0) q)
 

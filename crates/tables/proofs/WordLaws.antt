@@ -1,15 +1,13 @@
 -- A signed word read as a number, as the machine reads it back from its bits, and a difference that fits one.
-use Prim.Native.Nat.{ℕ, zero, suc, _+_, _-_, _^_, _≤_, _<_}
+use Prim.Native.Nat.{ℕ, zero, suc, _-_, _^_, _<_}
 use native.Mathlib.Omega.{arith}
 use mathlib.Core.Path.{_≡_, refl}
 use mathlib.Core.Bool.{Bool, true, false, cond, true≢false}
-use mathlib.Core.List.{List}
-use lib.Dec.{T, ltb}
+use lib.Dec.{ltb}
 use lib.IntN.{ℤ, pos, negsuc, natAbs, _-ℤ_}
-use lib.Signed.{mag, ltZ, nonNeg}
-use lib.ListN.{getD}
+use lib.Signed.{ltZ}
 use mir.Syntax.{w64}
-use mir.Val.{Fits, SFits}
+use mir.Val.{SFits}
 use borrow.Author.Tests.{ltb-true}
 use Rattle.records.specs.Encoding.{natOf}
 
@@ -17,10 +15,6 @@ pub is-negative : (z : ℤ) → ltZ z (pos 0) ≡ true → 2 ^ 63 ≡ natOf z
 unfolding natOf
 is-negative (pos n) h = omega (arith, ltb-true n 0 h)
 is-negative (negsuc n) h = refl
-
-pub cast-fits : (z : ℤ) → SFits w64 z → ltZ z (pos 0) ≡ false → T (nonNeg z) × Fits w64 (natAbs z)
-cast-fits (pos n) f h = (tt, omega arith)
-cast-fits (negsuc n) f h = absurd (true≢false h)
 
 pub not-negative : (z : ℤ) → ltZ z (pos 0) ≡ false → natAbs z ≡ natOf z
 unfolding natOf

@@ -1,27 +1,24 @@
 -- What a reader of the tables midway through a tick knows, and one step after another.
-use mathlib.Core.Path.{_≡_, refl, sym, ap, _∙_}
+use mathlib.Core.Path.{_≡_, ap, _∙_}
 use mathlib.Core.Bool.{Bool, true, false, _&&_}
-use Prim.Native.Nat.{ℕ, zero, suc, _+_, _*_, _-_, _/_, _%_, _^_, _≤_, _<_, min}
+use Prim.Native.Nat.{ℕ, _*_, _/_, _%_, _≤_, _<_, min}
 use native.Mathlib.Omega.{arith}
-use mathlib.Core.List.{List}
 use lib.ListN.{length, getD}
-use lib.Dec.{eqb, leb}
-use borrow.Author.Tests.{leb-true, eqb-true, le-leb, not-true}
+use lib.Dec.{eqb}
+use borrow.Author.Tests.{leb-true, eqb-true, not-true}
 use Rattle.lists.specs.Tests.{_is_}
 use Rattle.lists.proofs.TestLaws.{and-left, allOf-at}
 use Rattle.lists.proofs.ListLaws.{tabulate-at, length-tabulate}
-use Rattle.records.specs.Layout.{headerWidth, dayPlace, usedPlace, headerSchedule, rowWidth, accountWidth}
-use Rattle.records.specs.Encoding.{word, rowAt, rowsOf, accountAt, accountsOf}
+use Rattle.records.specs.Layout.{headerWidth, rowWidth, accountWidth}
+use Rattle.records.specs.Encoding.{rowAt, rowsOf, accountAt}
 use Rattle.rules.specs.Limits.{mostRows, mostAccounts, highestRefund}
 use Rattle.rules.specs.Rows.{Row, blank}
 use Rattle.rules.specs.Book.{Book, accountNo}
 use Rattle.rules.specs.Opening.{sizesFit}
-use Rattle.rules.specs.Soundness.{kindFits, mostOf, amountFits, accountUsed}
-use Rattle.rules.specs.Tables.{Tables, accountsIn, roomIn, rowsUsed, bookOf, wholeRecords, lengthsFit, usedFits, soundTables, scheduleFrom}
-use Rattle.rules.proofs.SoundnessLaws.{Near}
-use Rattle.rules.proofs.StorableLaws.{between-le, mostOf-le, used-inside, accounts-le, room-le}
+use Rattle.rules.specs.Soundness.{kindFits, accountUsed}
+use Rattle.rules.specs.Tables.{Tables, accountsIn, roomIn, rowsUsed, bookOf, wholeRecords, lengthsFit, usedFits, soundTables}
+use Rattle.rules.proofs.StorableLaws.{amount-le, settled-le, used-inside, accounts-le, room-le}
 use Rattle.rules.proofs.TableLaws.{sound-book}
-use Rattle.preservation.proofs.SettledLaws.{settled-le}
 use Rattle.posting_laws.proofs.WrittenLaws.{Written}
 use Rattle.account_sums.specs.Tallies.{Countable}
 use Rattle.tick_base.specs.Midway.{Midway}
@@ -98,19 +95,12 @@ module _ (past : ℕ) (t : Tables) (m : Midway past t) where
       let e : eqb (accountNo (bookOf t .accounts) (getD (bookOf t .rows) k blank .account) .state) 0 ≡ false = not-true _ (m .near .shape k h .account) in
       omega (arith, used-inside (bookOf t .accounts) (getD (bookOf t .rows) k blank .account) e, accounts-le past (bookOf t) (m .near))
 
-  amount-small : (k : ℕ) → k < length (bookOf t .rows) → getD (bookOf t .rows) k blank .amount ≤ highestRefund
-  unfolding amountFits
-  amount-small k h =
-      let r : Row = getD (bookOf t .rows) k blank in
-      let a : r .amount ≤ mostOf (r .kind) = between-le 1 (mostOf (r .kind)) (r .amount) (m .near .shape k h .amount) in
-      omega (arith, mostOf-le (r .kind))
-
   pub midway-countable : Countable (t .journal) (rowsUsed t)
   midway-countable = record {
     room = midway-room;
     few = midway-few;
     kind = midway-each (λ r. kindFits r ≡ true) (λ k h. m .near .shape k h .kind);
     account = midway-each (λ r. r .account ≤ mostAccounts) account-small;
-    amount = midway-each (λ r. r .amount ≤ highestRefund) amount-small;
+    amount = midway-each (λ r. r .amount ≤ highestRefund) (λ k h. amount-le (getD (bookOf t .rows) k blank) (m .near .shape k h .amount));
     settled = midway-each (λ r. r .settled ≤ r .amount) (λ k h. settled-le (getD (bookOf t .rows) k blank) (m .near .live k h .settled));
   }

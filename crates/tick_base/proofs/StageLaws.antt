@@ -1,6 +1,6 @@
 -- Laws of the tests of a tick: the fees of a header, days counted back, a row that is no source.
 use mathlib.Core.Path.{_≡_, refl, sym}
-use mathlib.Core.Bool.{Bool, true, false, not, _&&_}
+use mathlib.Core.Bool.{Bool, true, false, not, _&&_, and-false}
 use Prim.Native.Nat.{ℕ, zero, suc, _+_, _-_, _≤_, _<_}
 use native.Mathlib.Omega.{arith}
 use native.Mathlib.Decide.{decLt, ℕ-discrete}
@@ -9,7 +9,6 @@ use lib.IntN.{ℤ}
 use lib.Dec.{eqb, leb, ltb}
 use borrow.Author.Tests.{eq-eqb, ne-eqb, le-leb, lt-leb}
 use Rattle.lists.specs.Tests.{_is_}
-use Rattle.lists.proofs.TestLaws.{and-false}
 use Rattle.records.specs.Layout.{headerSchedule, fee2Place}
 use Rattle.records.specs.Encoding.{word}
 use Rattle.rules.specs.Limits.{holdDays, closingDays}
@@ -19,7 +18,7 @@ use Rattle.rules.specs.Soundness.{kindFits}
 use Rattle.rules.specs.Book.{Account, Pending}
 use Rattle.rules.specs.Tick.{holdEnds, rises}
 use Rattle.rules.specs.Tables.{scheduleFrom}
-use Rattle.preservation.proofs.TollsRaised.{rising}
+use Rattle.preservation.proofs.TickSteps.{rising}
 use Rattle.account_sums.proofs.SumsLaws.{source-no-debit, no-source-debit}
 use Rattle.tick_base.specs.Remainders.{daysOver}
 

@@ -1,6 +1,6 @@
 -- Laws of one row and one account at the closings, and of the accounts one after the other.
 use mathlib.Core.Path.{_≡_, refl, _∙_}
-use mathlib.Core.Bool.{Bool, true, false, true≢false, false≢true}
+use mathlib.Core.Bool.{Bool, true, false, true≢false, false≢true, and-false}
 use Prim.Native.Nat.{ℕ, _+_, _-_, _/_, _<_}
 use native.Mathlib.Omega.{arith}
 use mathlib.Core.List.{List, [], _∷_, _++_, append-assoc, append-nil}
@@ -8,7 +8,6 @@ use lib.ListN.{length, getD, length-append}
 use lib.IntN.{ℤ}
 use borrow.Author.Tests.{lt-ltb}
 use Rattle.lists.specs.Lists.{tabulate, gatherFrom, changeFrom}
-use Rattle.lists.proofs.TestLaws.{and-false}
 use Rattle.lists.proofs.ListLaws.{length-tabulate}
 use Rattle.lists.proofs.GatherLaws.{gather-tabulate, length-gather-tabulate, length-gather-le, change-tabulate}
 use Rattle.records.specs.Layout.{usedPlace, rowWidth, accountWidth}

@@ -20,15 +20,16 @@ use Rattle.rules.specs.Rows.{Row, blank, heldToll}
 use Rattle.rules.specs.Events.{release}
 use Rattle.rules.specs.Settlement.{settle}
 use Rattle.rules.specs.Book.{Book, settled}
-use Rattle.rules.specs.Tick.{holdEnds}
+use Rattle.rules.specs.Tick.{holdEnds, endHold}
 use Rattle.rules.specs.Tables.{Tables, accountsIn, rowsUsed, bookOf, soundTables}
 use Rattle.rules.proofs.AllocationLaws.{bare}
 use Rattle.rules.proofs.SettlementLaws.{settle-row}
 use Rattle.rules.proofs.TableLaws.{sound-book, sound-rows}
 use Rattle.rules.proofs.StorableLaws.{row-storable, day-le, stage-le}
 use Rattle.preservation.proofs.DisputeKept.{HeldToll, held-is}
+use Rattle.preservation.proofs.TickSteps.{ended, ended-rows, endHold-keeps}
 use Rattle.tick_rules.specs.Ticks.{freed, settleThose}
-use Rattle.tick_rules.proofs.FreedLaws.{atDawn, dawn, dawn-rows, freed-settled, none-ended}
+use Rattle.tick_rules.proofs.FreedLaws.{freed-settled, none-ended}
 use Rattle.tables.specs.Changes.{RowsMapped}
 use Rattle.tables.proofs.ChangeLaws.{mapped-all}
 use Rattle.settlement.specs.Settling.{Journal, Settled}
@@ -36,7 +37,7 @@ use Rattle.account_sums.specs.Tallies.{Tallied}
 use Rattle.account_sums.proofs.SumsLaws.{Share}
 use Rattle.posting.proofs.BookLaws.{day-read, used-read, count-read, used-room}
 use Rattle.tick_base.proofs.MidwayLaws.{sound-midway, midway-row}
-use Rattle.tick_holds.specs.Holds.{endsOf, Dawning, Ends, RowsBecome, SettledThose, DuskRows}
+use Rattle.tick_holds.specs.Holds.{endsOf, EndingRows, Ends, RowsBecome, SettledThose, UnraisedRows}
 
 -- ---- the share of a row
 
@@ -84,8 +85,8 @@ module _ (t : Tables) (s : soundTables t ≡ true) where
           reference = v .reference;
         }
 
-  pub sound-dawning : Dawning (t .journal) (rowsUsed t) (word (t .header) dayPlace + 1)
-  sound-dawning =
+  pub sound-ending : EndingRows (t .journal) (rowsUsed t) (word (t .header) dayPlace + 1)
+  sound-ending =
       let m = sound-midway t s in
       let each : (k : ℕ) → k < rowsUsed t → getD (b .rows) k blank ≡ rowAt (t .journal) k = midway-row (b .day) t m in
       let d : word (t .header) dayPlace ≡ b .day = day-read t s in
@@ -121,13 +122,11 @@ settled-journal ends n t u used j s =
           rw a (j .amounts k h);
     }
 
-pub mapped-journal : (today : ℕ) (t u : List ℤ) (used : ℕ) → Journal t used → RowsMapped (atDawn today) t u used → Journal u used
-unfolding release
-mapped-journal today t u used j m = record { room = rw (m .size) (j .room); amounts = λ k h. rw (m .done k h) (go k (holdEnds today (rowAt t k)) (j .amounts k h)) }
-  where
-    go : (k : ℕ) (v : Bool) → rowAt t k .amount < 2 ^ 63 → cond v (release today (rowAt t k)) (rowAt t k) .amount < 2 ^ 63
-    go k true h = h
-    go k false h = h
+pub mapped-journal : (today : ℕ) (t u : List ℤ) (used : ℕ) → Journal t used → RowsMapped (endHold today) t u used → Journal u used
+mapped-journal today t u used j m = record {
+  room = rw (m .size) (j .room);
+  amounts = λ k h. rw (m .done k h, endHold-keeps (λ r. r .amount) (λ r d. unfold release in refl) today (rowAt t k)) (j .amounts k h);
+}
 
 -- ---- one account more
 
@@ -147,7 +146,7 @@ settled-more ends n t u v used f g = record {
 -- ---- both steps
 
 module _ (t : Tables) (s : soundTables t ≡ true) (ends : List ℕ) (u v : List ℤ) (c : Tallied (endsOf (word (t .header) dayPlace + 1)) 257 (t .journal) ends (rowsUsed t))
-    (m : RowsMapped (atDawn (word (t .header) dayPlace + 1)) (t .journal) u (rowsUsed t)) (d : SettledThose ends (accountsIn t) u v (rowsUsed t)) (few : accountsIn t ≤ 256) where
+    (m : RowsMapped (endHold (word (t .header) dayPlace + 1)) (t .journal) u (rowsUsed t)) (d : SettledThose ends (accountsIn t) u v (rowsUsed t)) (few : accountsIn t ≤ 256) where
   -- the counts tell which accounts have a hold that ended
   freed-counted : (n : ℕ) → n ≤ accountsIn t → ltb 0 (getD ends n 0) ≡ freed (bookOf t .day + 1) (bookOf t .rows) n
   unfolding freed exists count endsOf
@@ -158,20 +157,20 @@ module _ (t : Tables) (s : soundTables t ≡ true) (ends : List ℕ) (u v : List
   same-those f g zero rows e = refl
   same-those f g (suc n) rows e = rw (same-those f g n rows (λ k h. e k (omega arith)), e (suc n) (omega arith))
 
-  dawn-written : rowsOf u (rowsUsed t) ≡ dawn (bookOf t)
-  dawn-written = mapped-all rowAt (atDawn (word (t .header) dayPlace + 1)) (t .journal) u (rowsUsed t) m ∙ rw (dawn-rows (bookOf t), sound-rows t s, day-read t s)
+  ended-written : rowsOf u (rowsUsed t) ≡ ended (bookOf t)
+  ended-written = mapped-all rowAt (endHold (word (t .header) dayPlace + 1)) (t .journal) u (rowsUsed t) m ∙ rw (ended-rows (bookOf t), sound-rows t s, day-read t s)
 
-  pub dusk-written : DuskRows t v
-  dusk-written = record {
+  pub unraised-written : UnraisedRows t v
+  unraised-written = record {
     size = d .size ∙ m .size;
-    rows = d .rows ∙ rw dawn-written (same-those (λ a. ltb 0 (getD ends a 0)) (freed (bookOf t .day + 1) (bookOf t .rows)) (accountsIn t) (dawn (bookOf t)) freed-counted
+    rows = d .rows ∙ rw ended-written (same-those (λ a. ltb 0 (getD ends a 0)) (freed (bookOf t .day + 1) (bookOf t .rows)) (accountsIn t) (ended (bookOf t)) freed-counted
         ∙ rw (count-read t s) (sym (freed-settled (bookOf t) (sound-book t s))));
     rest = λ k h. d .rest k h ∙ m .left k h;
   }
 
 -- where no hold ends, the journal is as it was
-pub dusk-same : (t : Tables) (ending : Bool) → Ends t ending → ending ≡ false → DuskRows t (t .journal)
-dusk-same t ending e z =
+pub unraised-same : (t : Tables) (ending : Bool) → Ends t ending → ending ≡ false → UnraisedRows t (t .journal)
+unraised-same t ending e z =
     let r : rowsOf (t .journal) (rowsUsed t) ≡ bookOf t .rows = sym (sound-rows t (e .sound)) in
     record { size = refl; rows = r ∙ sym (none-ended (bookOf t) (sound-book t (e .sound)) (sym (e .told) ∙ z)); rest = λ k h. refl }
 

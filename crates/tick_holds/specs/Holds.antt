@@ -1,7 +1,7 @@
 -- What the end of holds and the settlement after it leave of the journal.
 use mathlib.Core.Path.{_≡_}
 use mathlib.Core.Bool.{Bool, true, cond, _&&_}
-use Prim.Native.Nat.{ℕ, _+_, _*_, _-_, _≤_, _<_}
+use Prim.Native.Nat.{ℕ, _+_, _*_, _≤_, _<_}
 use mathlib.Core.List.{List}
 use lib.Dec.{ltb}
 use lib.IntN.{ℤ}
@@ -27,7 +27,7 @@ pub record Ending (today : ℕ) (r : Row) : Type 0 where
   pub free : holdEnds today r ≡ true → StorableRow (release today r)
 
 -- used rows of which each can
-pub record Dawning (t : List ℤ) (used today : ℕ) : Type 0 where
+pub record EndingRows (t : List ℤ) (used today : ℕ) : Type 0 where
   pub room : used * rowWidth ≤ length t
   pub each : (k : ℕ) → k < used → Ending today (rowAt t k)
 
@@ -51,5 +51,5 @@ abbrev pub SettledThose : List ℕ → ℕ → List ℤ → List ℤ → ℕ →
 SettledThose ends n t u used = RowsBecome t u used (settleThose (λ a. ltb 0 (getD ends a 0)) n (rowsOf t used))
 
 -- the rows that tolls are raised in
-abbrev pub DuskRows : Tables → List ℤ → Type 0
-DuskRows t u = RowsBecome (t .journal) u (rowsUsed t) (beforeRaising (bookOf t) .rows)
+abbrev pub UnraisedRows : Tables → List ℤ → Type 0
+UnraisedRows t u = RowsBecome (t .journal) u (rowsUsed t) (beforeRaising (bookOf t) .rows)

@@ -18,12 +18,12 @@ use tick_base::days::hold_ends;
 ghost use Prim.Native.Nat.{_+_, _≤_, _<_};
 ghost use Rattle.records.specs.Encoding.{rowAt};
 ghost use Rattle.rules.specs.Limits.{mostAccounts};
-ghost use Rattle.tick_rules.proofs.FreedLaws.{atDawn};
+ghost use Rattle.rules.specs.Tick.{endHold};
 ghost use Rattle.tables.specs.Changes.{RowIn, RowChanged, RowsMapped};
 ghost use Rattle.account_sums.specs.Tallies.{Tallied, Countable};
 ghost use Rattle.settlement.specs.Settling.{Journal};
 ghost use Rattle.posting.specs.Posts.{tablesAt};
-ghost use Rattle.tick_holds.specs.Holds.{endsOf, Ending, Dawning, Ends, SettledIf, SettledThose, DuskRows};
+ghost use Rattle.tick_holds.specs.Holds.{endsOf, Ending, EndingRows, Ends, SettledIf, SettledThose, UnraisedRows};
 
 // Row i, where its hold ends, is counted at its account. Few rows are in dispute, so that is read first and alone, here and below.
 fn count_end(journal: &[i64], used: usize, i: usize, today: u64, ends: &mut [u64; SEATS])
@@ -52,7 +52,7 @@ fn count_ends(journal: &[i64], used: usize, today: u64, ends: &mut [u64; SEATS])
 // Row i, released where its hold ends.
 fn end_hold(journal: &mut [i64], i: usize, today: u64)
     requires { ⌜ RowIn (now journal) i × Ending today (rowAt (now journal) i) ⌝ }
-    ensures { λ _. ⌜ RowChanged (now (journal .entry)) (now (journal .exit)) i (atDawn today (rowAt (now (journal .entry)) i)) ⌝ }
+    ensures { λ _. ⌜ RowChanged (now (journal .entry)) (now (journal .exit)) i (endHold today (rowAt (now (journal .entry)) i)) ⌝ }
 {
     if dispute_at(journal, i) != HELD {
         return;
@@ -65,8 +65,8 @@ fn end_hold(journal: &mut [i64], i: usize, today: u64)
 
 // The used rows, those whose hold ends released.
 fn end_holds(journal: &mut [i64], used: usize, today: u64)
-    requires { ⌜ Dawning (now journal) used today ⌝ }
-    ensures { λ _. ⌜ RowsMapped (atDawn today) (now (journal .entry)) (now (journal .exit)) used ⌝ }
+    requires { ⌜ EndingRows (now journal) used today ⌝ }
+    ensures { λ _. ⌜ RowsMapped (endHold today) (now (journal .entry)) (now (journal .exit)) used ⌝ }
 {
     let mut i = 0;
     while i < used {
@@ -101,7 +101,7 @@ fn settle_freed(journal: &mut [i64], used: usize, count: usize, ends: &[u64; SEA
 // The holds that end at the tick to the next day, and the settlement that they allow. On most days none ends, and nothing changes.
 pub fn free_and_settle(header: &[i64], accounts: &[i64], journal: &mut [i64], ending: bool)
     requires { ⌜ Ends (tablesAt (now header) (now accounts) (now journal)) ending ⌝ }
-    ensures { λ _. ⌜ DuskRows (tablesAt (now (header .entry)) (now (accounts .entry)) (now (journal .entry))) (now (journal .exit)) ⌝ }
+    ensures { λ _. ⌜ UnraisedRows (tablesAt (now (header .entry)) (now (accounts .entry)) (now (journal .entry))) (now (journal .exit)) ⌝ }
 {
     if !ending {
         return;

@@ -1,7 +1,7 @@
 -- The fourth step of a tick, turn after turn: the rows used after each, and the book at the end.
 use mathlib.Core.Path.{_≡_, refl, sym, _∙_}
 use mathlib.Core.Bool.{Bool, true, false, cond}
-use Prim.Native.Nat.{ℕ, _+_, _*_, _-_, _≤_, _<_}
+use Prim.Native.Nat.{ℕ, _+_, _*_, _≤_, _<_}
 use native.Mathlib.Omega.{arith}
 use mathlib.Core.List.{List}
 use lib.ListN.{length}
@@ -20,7 +20,7 @@ use Rattle.rules.specs.Tick.{rises, raise, feeRow, raiseTolls}
 use Rattle.rules.specs.Tables.{Tables, rowsUsed, roomIn, bookOf}
 use Rattle.rules.proofs.StorableLaws.{day-le, stage-le, row-storable}
 use Rattle.preservation.proofs.FeeLaws.{schedule-parts, stageFee-le}
-use Rattle.preservation.proofs.TollsRaised.{rising}
+use Rattle.preservation.proofs.TickSteps.{rising}
 use Rattle.posting.specs.Posts.{tablesAt}
 use Rattle.posting_laws.proofs.WrittenLaws.{Written}
 use Rattle.posting_laws.proofs.UsedRowsLaws.{UsedRows, rows-before, rows-row, rows-schedule, rows-written}

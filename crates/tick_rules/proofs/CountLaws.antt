@@ -1,17 +1,16 @@
 -- How many rows a tick adds, told from the book before it; and that no refund is above the ceiling.
 use mathlib.Core.Path.{_≡_, refl, sym, ap, _∙_}
 use mathlib.Core.Logic.{_≢_}
-use mathlib.Core.Bool.{Bool, true, false, not, cond, _&&_, _||_, true≢false}
-use Prim.Native.Nat.{ℕ, zero, suc, _+_, _-_, _*_, _≤_, _<_}
-use native.Mathlib.Nat.{mul-le-mul-right}
+use mathlib.Core.Bool.{Bool, true, false, _&&_, _||_, true≢false}
+use Prim.Native.Nat.{ℕ, zero, suc, _+_, _*_, _≤_, _<_}
 use native.Mathlib.Omega.{arith}
-use mathlib.Core.List.{List, _++_, map}
+use mathlib.Core.List.{map}
 use lib.ListN.{length, getD, drop, length-append, length-map, length-drop}
 use lib.Seq.{getD-drop}
-use lib.Dec.{eqb, leb, ltb}
+use lib.Dec.{eqb, ltb}
 use borrow.Author.Tests.{eqb-true, le-ltb}
 use Rattle.lists.specs.Tests.{_is_}
-use Rattle.lists.specs.Lists.{count, exists, one, gather}
+use Rattle.lists.specs.Lists.{count, one, gather}
 use Rattle.lists.proofs.TestLaws.{and-right}
 use Rattle.lists.proofs.SumLaws.{sumBy-only-le, count-le}
 use Rattle.lists.proofs.ExistsLaws.{none-exists}
@@ -19,17 +18,18 @@ use Rattle.lists.proofs.GatherLaws.{gather-each, grown-each, length-gather-same
 use Rattle.rules.specs.Limits.{finalDay, highestCredit, highestRefund}
 use Rattle.rules.specs.Rows.{Row, Test, Refund, blank, remaining, source, sourceOf}
 use Rattle.rules.specs.Settlement.{money}
-use Rattle.rules.specs.Book.{Account, unused, Instruction, Book, settled}
+use Rattle.rules.specs.Book.{unused, Instruction, Book, settled}
 use Rattle.rules.specs.Soundness.{mostOf, amountFits}
 use Rattle.rules.specs.Tick.{nextDay, endHolds, beforeRaising, feeRow, raiseTolls, closes, refundRow, useUp, closeAccounts, tick}
 use Rattle.rules.specs.Refusals.{changeOf, after, ceiling}
-use Rattle.rules.proofs.SoundnessLaws.{Near, Sound}
+use Rattle.rules.proofs.SoundnessLaws.{Sound}
 use Rattle.rules.proofs.StorableLaws.{between-le, room-le, rows-le}
 use Rattle.preservation.proofs.SettledLaws.{length-settled}
 use Rattle.preservation.proofs.HoldsEnded.{beforeRaising-near}
 use Rattle.preservation.proofs.ClosingLaws.{keeps, up-blank, refunds, refund, rows′}
+use Rattle.preservation.proofs.TickSteps.{unraised, unraised-length}
 use Rattle.tick_rules.specs.Ticks.{willRefund, feesAdded, refundsAdded}
-use Rattle.tick_rules.proofs.RisingLaws.{dusk, dusk-length, fees-same}
+use Rattle.tick_rules.proofs.RisingLaws.{fees-same}
 use Rattle.tick_rules.proofs.LateLaws.{fees, late, late-length, money-late, added-each}
 use Rattle.tick_rules.proofs.RefundLaws.{refund-told}
 use Rattle.tick_rules.proofs.QuietLaws.{after-tick}
@@ -65,7 +65,7 @@ module _ (b : Book) (s : Sound b) (ne : b .day ≢ finalDay) where
 
   -- the rows of the book in which tolls are raised
   late-count : length (late (beforeRaising b)) ≡ length (b .rows) + feesAdded b
-  late-count = late-length (beforeRaising b) ∙ omega (arith, fees-length, dusk-length b s)
+  late-count = late-length (beforeRaising b) ∙ omega (arith, fees-length, unraised-length b)
 
   closed-count : length (closeAccounts lateBook .rows) ≡ length (b .rows) + feesAdded b + refundsAdded b
   unfolding closeAccounts
@@ -82,12 +82,12 @@ module _ (b : Book) (s : Sound b) (ne : b .day ≢ finalDay) where
 
   -- ---- no refund is above the ceiling: 8,192 sources of at most 1,300,000 each
 
-  source-small : (m k : ℕ) → k < length (dusk b s) → sourceOf m (getD (dusk b s) k blank) ≡ true → remaining (getD (dusk b s) k blank) ≤ highestCredit
+  source-small : (m k : ℕ) → k < length (unraised b) → sourceOf m (getD (unraised b) k blank) ≡ true → remaining (getD (unraised b) k blank) ≤ highestCredit
   unfolding sourceOf
   source-small m k l e = go (eqb (r .kind) 4) refl (and-right (eqb (r .account) m) (source r) e)
     where
       r : Row
-      r = getD (dusk b s) k blank
+      r = getD (unraised b) k blank
 
       fits : r .amount ≤ mostOf (r .kind)
       fits = unfold amountFits in (between-le 1 (mostOf (r .kind)) (r .amount) (beforeRaising-near b (s .near) ne .shape k l .amount))
@@ -102,12 +102,12 @@ module _ (b : Book) (s : Sound b) (ne : b .day ≢ finalDay) where
   money-small : (m : ℕ) → money m (late (beforeRaising b)) ≤ highestRefund
   money-small m =
       let f = sum-small in
-      let c = count-le (sourceOf m) (dusk b s) in
-      let few : length (dusk b s) ≤ 8192 = omega (arith, dusk-length b s, rows-le (b .day) b (s .near), room-le (b .day) b (s .near)) in
+      let c = count-le (sourceOf m) (unraised b) in
+      let few : length (unraised b) ≤ 8192 = omega (arith, unraised-length b, rows-le (b .day) b (s .near), room-le (b .day) b (s .near)) in
       omega (arith, money-late (beforeRaising b) m)
     where
-      sum-small : money m (dusk b s) ≤ count (sourceOf m) (dusk b s) * highestCredit
-      sum-small = unfold money in (sumBy-only-le (sourceOf m) remaining highestCredit blank (dusk b s) (source-small m))
+      sum-small : money m (unraised b) ≤ count (sourceOf m) (unraised b) * highestCredit
+      sum-small = unfold money in (sumBy-only-le (sourceOf m) remaining highestCredit blank (unraised b) (source-small m))
 
   abbrev above : Test
   above r = r .kind is Refund && ltb highestRefund (r .amount)
@@ -117,7 +117,7 @@ module _ (b : Book) (s : Sound b) (ne : b .day ≢ finalDay) where
   low-row k l h =
       grown-each (useUp lateBook) blank (up-blank lateBook) (lateBook .rows) (refunds lateBook) k (λ r. above r ≡ false) h
       (λ q. keeps lateBook (λ r. above r) (λ r v. refl) (getD (lateBook .rows) k blank)
-      ∙ added-each (beforeRaising b) (λ r. above r ≡ false) (λ n i z e. refl) k (omega (arith, dusk-length b s)) q)
+      ∙ added-each (beforeRaising b) (λ r. above r ≡ false) (λ n i z e. refl) k (omega (arith, unraised-length b)) q)
       (λ j e q. each j q)
     where
       go : (n : ℕ) (v : Bool) (j : ℕ) → j < length (one v (refund lateBook n)) → above (getD (one v (refund lateBook n)) j blank) ≡ false

@@ -1,26 +1,24 @@
 -- The settlement after holds have ended: only accounts of which a hold ended can have something to move.
 use mathlib.Core.Path.{_≡_, refl, sym, ap, _∙_}
-use mathlib.Core.Bool.{Bool, true, false, cond, _&&_}
+use mathlib.Core.Bool.{Bool, true, false, cond, _&&_, and-false}
 use Prim.Native.Nat.{ℕ, zero, suc, _+_, _≤_, _<_}
 use native.Mathlib.Omega.{arith}
-use mathlib.Core.List.{List, map}
-use lib.ListN.{length, getD, length-map}
+use mathlib.Core.List.{List}
+use lib.ListN.{length, getD}
 use lib.Seq.{ext-getD}
 use lib.Dec.{eqb}
 use borrow.Author.Tests.{eq-eqb}
-use Rattle.lists.specs.Lists.{only, exists}
-use Rattle.lists.proofs.TestLaws.{and-false}
+use Rattle.lists.specs.Lists.{exists}
 use Rattle.lists.proofs.ExistsLaws.{exists-none, none-exists}
-use Rattle.lists.proofs.GatherLaws.{map-at}
 use Rattle.rules.specs.Rows.{Row, blank}
 use Rattle.rules.specs.Settlement.{moved, settle, settleAccounts}
 use Rattle.rules.specs.Book.{Book, settled}
-use Rattle.rules.specs.Events.{release}
 use Rattle.rules.specs.Tick.{nextDay, holdEnds, endHolds, beforeRaising}
 use Rattle.rules.proofs.SettlementLaws.{settle-same}
 use Rattle.rules.proofs.SettlementAccountsLaws.{settleAccounts-none}
 use Rattle.rules.proofs.SoundnessLaws.{Near, Sound}
 use Rattle.preservation.proofs.NamedLaws.{sound-moved}
+use Rattle.preservation.proofs.TickSteps.{today, ended, ended-length, ended-at, ended-account, endHold-goes-on}
 use Rattle.tick_rules.specs.Ticks.{freed, settleThose}
 use Rattle.tick_rules.proofs.KeptLaws.{gist, Kept, money-kept, debt-kept}
 
@@ -35,74 +33,37 @@ settleThose-all t (suc n) rows z = rw (settleThose-all t n rows (λ m l h. z m l
     go true e = refl
     go false e = sym (settle-same (suc n) (settleAccounts n rows) (settleAccounts-none (suc n) n rows (z (suc n) (omega arith) (omega arith) e)))
 
--- ---- a row after holds have ended
-
-abbrev pub atDawn : ℕ → Row → Row
-atDawn today r = cond (holdEnds today r) (release today r) r
-
-pub dawn-blank : (today : ℕ) → atDawn today blank ≡ blank
-unfolding holdEnds
-dawn-blank today = refl
-
--- what does not look at due day, dispute and hold
-pub dawn-keeps : {B : Type 0} (g : Row → B) (today : ℕ) → ((r : Row) → g (release today r) ≡ g r) → (r : Row) → g (atDawn today r) ≡ g r
-dawn-keeps g today f r = go (holdEnds today r)
-  where
-    go : (v : Bool) → g (cond v (release today r) r) ≡ g r
-    go true = f r
-    go false = refl
+-- ---- the book after holds have ended
 
 module _ (b : Book) where
-  abbrev pub today : ℕ
-  today = b .day + 1
-
-  -- the rows after holds have ended
-  abbrev pub dawn : List Row
-  dawn = endHolds (nextDay b) .rows
-
-  pub dawn-rows : dawn ≡ map (atDawn today) (b .rows)
-  unfolding endHolds nextDay
-  dawn-rows = refl
-
-  pub dawn-length : length dawn ≡ length (b .rows)
-  dawn-length = rw dawn-rows (length-map (b .rows) (atDawn today))
-
-  pub dawn-at : (k : ℕ) → getD dawn k blank ≡ atDawn today (getD (b .rows) k blank)
-  dawn-at k = rw dawn-rows (map-at (atDawn today) blank (dawn-blank today) (b .rows) (b .rows) k)
-
-  pub dawn-account : (k : ℕ) → getD dawn k blank .account ≡ getD (b .rows) k blank .account
-  unfolding release
-  dawn-account k = rw (dawn-at k) (dawn-keeps (λ r. r .account) today (λ r. refl) (getD (b .rows) k blank))
-
   -- ---- an account of which no hold ends keeps its rows
 
-  module _ (m : ℕ) (f : freed today (b .rows) m ≡ false) where
-    stays : (k : ℕ) → k < length (b .rows) → getD (b .rows) k blank .account ≡ m → getD dawn k blank ≡ getD (b .rows) k blank
+  module _ (m : ℕ) (f : freed (today b) (b .rows) m ≡ false) where
+    stays : (k : ℕ) → k < length (b .rows) → getD (b .rows) k blank .account ≡ m → getD (ended b) k blank ≡ getD (b .rows) k blank
     unfolding freed
     stays k l e =
-        let z : eqb (getD (b .rows) k blank .account) m && holdEnds today (getD (b .rows) k blank) ≡ false = exists-none (λ r. eqb (r .account) m && holdEnds today r) (b .rows) blank f k l in
-        let w : holdEnds today (getD (b .rows) k blank) ≡ false = rw (eq-eqb (getD (b .rows) k blank .account) m e) at z in
-        rw (dawn-at k, w)
+        let z : eqb (getD (b .rows) k blank .account) m && holdEnds (today b) (getD (b .rows) k blank) ≡ false = exists-none (λ r. eqb (r .account) m && holdEnds (today b) r) (b .rows) blank f k l in
+        ended-at b k ∙ endHold-goes-on (today b) (getD (b .rows) k blank) (rw (eq-eqb (getD (b .rows) k blank .account) m e) at z)
 
-    kept-dawn : Kept m (b .rows) dawn
-    kept-dawn = record {
-      longer = omega (arith, dawn-length);
+    kept-ended : Kept m (b .rows) (ended b)
+    kept-ended = record {
+      longer = omega (arith, ended-length b);
       mine = λ k l e. ap gist (stays k l e);
-      others = λ k l ne e. ne (sym (dawn-account k) ∙ e);
+      others = λ k l ne e. ne (sym (ended-account b k) ∙ e);
     }
 
-    pub moved-dawn : Near (b .day) b → moved m dawn ≡ moved m (b .rows)
+    pub moved-ended : Near (b .day) b → moved m (ended b) ≡ moved m (b .rows)
     unfolding moved
-    moved-dawn s =
+    moved-ended s =
         rw (
-          money-kept m (b .rows) dawn kept-dawn (λ k l h. absurd (omega (arith, dawn-length))),
-          debt-kept (b .day) b s m dawn kept-dawn (λ k l h. absurd (omega (arith, dawn-length))),
+          money-kept m (b .rows) (ended b) kept-ended (λ k l h. absurd (omega (arith, ended-length b))),
+          debt-kept (b .day) b s m (ended b) kept-ended (λ k l h. absurd (omega (arith, ended-length b))),
         )
 
-  pub freed-settled : Sound b → beforeRaising b .rows ≡ settleThose (freed today (b .rows)) (length (b .accounts)) dawn
+  pub freed-settled : Sound b → beforeRaising b .rows ≡ settleThose (freed (today b) (b .rows)) (length (b .accounts)) (ended b)
   unfolding beforeRaising settled endHolds nextDay
   freed-settled s =
-      sym (settleThose-all (freed today (b .rows)) (length (b .accounts)) dawn (λ m l h f. moved-dawn m f (s .near) ∙ sound-moved b s m l h))
+      sym (settleThose-all (freed (today b) (b .rows)) (length (b .accounts)) (ended b) (λ m l h f. moved-ended m f (s .near) ∙ sound-moved b s m l h))
 
 -- ---- where no hold ends, nothing changes
 
@@ -115,8 +76,8 @@ module _ (b : Book) (s : Sound b) (z : exists (holdEnds (b .day + 1)) (b .rows) 
   goes-on : (k : ℕ) → k < length (b .rows) → holdEnds (today b) (getD (b .rows) k blank) ≡ false
   goes-on = exists-none (holdEnds (today b)) (b .rows) blank z
 
-  dawn-same : dawn b ≡ b .rows
-  dawn-same = ext-getD blank (dawn b) (b .rows) (dawn-length b) (λ k l. dawn-at b k ∙ rw (goes-on k (rw (dawn-length b) at l)))
+  ended-same : ended b ≡ b .rows
+  ended-same = ext-getD blank (ended b) (b .rows) (ended-length b) (λ k l. ended-at b k ∙ endHold-goes-on (today b) (getD (b .rows) k blank) (goes-on k (rw (ended-length b) at l)))
 
   none-freed : (m : ℕ) → freed (today b) (b .rows) m ≡ false
   unfolding freed
@@ -124,4 +85,4 @@ module _ (b : Book) (s : Sound b) (z : exists (holdEnds (b .day + 1)) (b .rows) 
       none-exists (λ r. eqb (r .account) m && holdEnds (today b) r) (b .rows) blank (λ k l. rw (goes-on k l) (and-false (eqb (getD (b .rows) k blank .account) m)))
 
   pub none-ended : beforeRaising b .rows ≡ b .rows
-  none-ended = freed-settled b s ∙ settleThose-none (freed (today b) (b .rows)) none-freed (length (b .accounts)) (dawn b) ∙ dawn-same
+  none-ended = freed-settled b s ∙ settleThose-none (freed (today b) (b .rows)) none-freed (length (b .accounts)) (ended b) ∙ ended-same

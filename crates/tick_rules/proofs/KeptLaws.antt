@@ -1,7 +1,7 @@
 -- What stays of an account's sums where its own rows keep all that settlement looks at.
 use mathlib.Core.Path.{_≡_, refl, sym, ap, _∙_}
 use mathlib.Core.Logic.{_≢_}
-use mathlib.Core.Bool.{Bool, true, false, not, cond, _&&_, _||_}
+use mathlib.Core.Bool.{Bool, true, false, _&&_, _||_}
 use Prim.Native.Nat.{ℕ, zero, suc, _≤_, _<_}
 use native.Mathlib.Omega.{arith}
 use native.Mathlib.Decide.{ℕ-discrete}
@@ -11,10 +11,11 @@ use lib.Dec.{eqb}
 use borrow.Author.Tests.{eqb-true, ne-eqb}
 use Rattle.lists.specs.Lists.{sumBy, only}
 use Rattle.lists.proofs.SumLaws.{sumBy-longer}
-use Rattle.rules.specs.Rows.{Row, Test, blank, rowNo, withMark, withDue, withHold, remaining, debit, held, heldToll, sourceOf, debitOf, payable}
+use Rattle.rules.specs.Rows.{Row, blank, rowNo, withMark, withDue, withHold, remaining, held, heldToll, sourceOf, debitOf, payable}
 use Rattle.rules.specs.Settlement.{money, debt, owed}
 use Rattle.rules.specs.Book.{Book}
 use Rattle.rules.proofs.SoundnessLaws.{Near}
+use Rattle.rules.proofs.SettlementLaws.{payable-le}
 use Rattle.preservation.proofs.FeeLaws.{Named, fee-at}
 
 -- a row but for its mark, due day and hold start, which settlement does not look at
@@ -44,17 +45,6 @@ module _ (m : ℕ) (rows rows′ : List Row) (c : Kept m rows rows′) where
   pub owed-kept : ((k : ℕ) → length rows ≤ k → k < length rows′ → only (debitOf m) remaining (getD rows′ k blank) ≡ 0) → owed m rows′ ≡ owed m rows
   unfolding owed only debitOf
   owed-kept = sum-kept (only (debitOf m) remaining) (λ r. refl) (λ r e. rw (ne-eqb (r .account) m e))
-
--- what is payable is a debit
-pub payable-le : (rows : List Row) (m : ℕ) (r : Row) → only (payable rows m) remaining r ≤ only (debitOf m) remaining r
-unfolding only payable debitOf
-payable-le rows m r = go (eqb (r .account) m) (debit r) (not (held rows r))
-  where
-    go : (x d h : Bool) → cond (x && (d && h)) (remaining r) 0 ≤ cond (x && d) (remaining r) 0
-    go true true true = omega arith
-    go true true false = omega arith
-    go true false h = omega arith
-    go false d h = omega arith
 
 -- what the account's debits want: its fees name tolls of its own
 module _ (past : ℕ) (b : Book) (s : Near past b) (m : ℕ) (rows′ : List Row) (c : Kept m (b .rows) rows′) where

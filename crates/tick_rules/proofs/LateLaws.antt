@@ -1,27 +1,26 @@
--- The book after tolls are raised, in which accounts are about to close: its sums beside those at dusk.
+-- The book after tolls are raised, in which accounts are about to close: its sums beside those before.
 use mathlib.Core.Path.{_≡_, refl, sym, ap, _∙_}
 use mathlib.Core.Logic.{_≢_}
-use mathlib.Core.Bool.{Bool, true, false, not, cond, _&&_}
+use mathlib.Core.Bool.{Bool, true, false, cond, _&&_, and-false}
 use Prim.Native.Nat.{ℕ, zero, suc, _+_, _≤_, _<_, min}
 use native.Mathlib.Omega.{arith}
 use mathlib.Core.List.{List, _++_, map}
 use lib.ListN.{length, getD, length-append, length-map}
-use lib.Dec.{eqb, ltb}
-use borrow.Author.Tests.{eq-eqb, ne-eqb, ltb-true}
+use lib.Dec.{eqb}
+use borrow.Author.Tests.{ne-eqb, ltb-true}
 use Rattle.lists.specs.Lists.{sumBy, only, one, gather}
-use Rattle.lists.proofs.TestLaws.{and-left, and-false}
 use Rattle.lists.proofs.SumLaws.{sumBy-at-le, sumBy-append, sumBy-le, sumBy-map, sumBy-ext}
 use Rattle.lists.proofs.GatherLaws.{gather-each, grown-at, grown-each}
-use Rattle.rules.specs.Limits.{finalDay}
 use Rattle.rules.specs.Schedule.{Schedule, stageFee}
-use Rattle.rules.specs.Rows.{Row, Fee, blank, newRow, withMark, withDue, withReference, remaining, unsettled, heldToll, sourceOf, debitOf, payable}
+use Rattle.rules.specs.Rows.{Row, Fee, blank, newRow, withMark, withDue, withReference, remaining, sourceOf, debitOf, payable}
 use Rattle.rules.specs.Settlement.{money, debt, moved, owed}
-use Rattle.rules.specs.Book.{Book, settled}
-use Rattle.rules.specs.Tick.{nextDay, endHolds, beforeRaising, rises, raise, feeRow, raiseTolls}
-use Rattle.rules.proofs.SoundnessLaws.{Near, Sound}
-use Rattle.preservation.proofs.TollsRaised.{Rising, rising}
-use Rattle.tick_rules.proofs.KeptLaws.{gist, Kept, money-kept, owed-kept, debt-kept, payable-le}
-use Rattle.tick_rules.proofs.RisingLaws.{open-wants}
+use Rattle.rules.specs.Book.{Book}
+use Rattle.rules.specs.Tick.{rises, raise, feeRow, raiseTolls}
+use Rattle.rules.proofs.SoundnessLaws.{Near}
+use Rattle.rules.proofs.SettlementLaws.{payable-le}
+use Rattle.preservation.proofs.TickSteps.{rising}
+use Rattle.preservation.proofs.OpenTolls.{open-wants}
+use Rattle.tick_rules.proofs.KeptLaws.{gist, Kept, money-kept, owed-kept, debt-kept}
 
 -- ---- one row raised
 

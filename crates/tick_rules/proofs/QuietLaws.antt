@@ -1,15 +1,15 @@
 -- Nothing is left to settle at the end of a tick: raising and closing leave every account with one side spent.
 use mathlib.Core.Path.{_≡_, refl, sym, ap, _∙_}
 use mathlib.Core.Logic.{_≢_}
-use mathlib.Core.Bool.{Bool, true, false, cond, _&&_}
-use Prim.Native.Nat.{ℕ, zero, suc, _+_, _≤_, _<_, min}
+use mathlib.Core.Bool.{Bool, true, false, _&&_, and-false}
+use Prim.Native.Nat.{ℕ, zero, suc, _≤_, _<_, min}
 use native.Mathlib.Omega.{arith}
 use native.Mathlib.Decide.{decLt}
-use mathlib.Core.List.{List, _++_, map}
+use mathlib.Core.List.{List, map}
 use lib.ListN.{length, getD, length-append, length-map, List·getD-eq-default}
-use lib.Dec.{eqb, ltb}
-use Rattle.lists.specs.Lists.{only, one, gather, change}
-use Rattle.lists.proofs.TestLaws.{and-false, cond-zero}
+use lib.Dec.{ltb}
+use Rattle.lists.specs.Lists.{only, one}
+use Rattle.lists.proofs.TestLaws.{cond-zero}
 use Rattle.lists.proofs.GatherLaws.{gather-each, grown-at, grown-each, length-change}
 use Rattle.rules.specs.Limits.{finalDay}
 use Rattle.rules.specs.Rows.{Row, blank, remaining, source, debitOf}
@@ -19,13 +19,12 @@ use Rattle.rules.specs.Tick.{nextDay, endHolds, beforeRaising, raiseTolls, clos
 use Rattle.rules.specs.Refusals.{changeOf, after}
 use Rattle.rules.proofs.SettlementAccountsLaws.{settleAccounts-spent, settleAccounts-same}
 use Rattle.rules.proofs.SoundnessLaws.{Near, Sound}
-use Rattle.preservation.proofs.SettledLaws.{settled-le}
+use Rattle.rules.proofs.StorableLaws.{settled-le}
 use Rattle.preservation.proofs.HoldsEnded.{beforeRaising-near}
 use Rattle.preservation.proofs.TollsRaised.{raiseTolls-near}
 use Rattle.preservation.proofs.ClosingLaws.{keeps, up-blank, refunds, refund, rows′, money-closed}
+use Rattle.preservation.proofs.TickSteps.{ended, unraised-day, unraised-room, unraised-rows}
 use Rattle.tick_rules.proofs.KeptLaws.{gist, Kept, debt-kept}
-use Rattle.tick_rules.proofs.FreedLaws.{dawn}
-use Rattle.tick_rules.proofs.RisingLaws.{dusk-rows}
 use Rattle.tick_rules.proofs.LateLaws.{late, moved-late}
 
 -- ---- any book whose accounts close
@@ -83,32 +82,24 @@ module _ (b : Book) (s : Sound b) (ne : b .day ≢ finalDay) (room : length (lat
   abbrev lateBook : Book
   lateBook = raiseTolls (beforeRaising b)
 
-  one-more : beforeRaising b .day ≡ b .day + 1
-  unfolding beforeRaising settled endHolds nextDay
-  one-more = refl
-
-  same-room : beforeRaising b .room ≡ b .room
-  unfolding beforeRaising settled endHolds nextDay
-  same-room = refl
-
   same-accounts : lateBook .accounts ≡ b .accounts
   unfolding raiseTolls beforeRaising settled endHolds nextDay
   same-accounts = refl
 
   pub near-late : Near (beforeRaising b .day) lateBook
-  near-late = raiseTolls-near (b .day) (beforeRaising b) (beforeRaising-near b (s .near) ne) one-more (omega (arith, same-room))
+  near-late = raiseTolls-near (b .day) (beforeRaising b) (beforeRaising-near b (s .near) ne) (unraised-day b) (omega (arith, unraised-room b))
 
-  moved-night : (j : ℕ) → j < length (b .accounts) → moved (suc j) (late (beforeRaising b)) ≡ 0
-  moved-night j h =
+  moved-afterRaising : (j : ℕ) → j < length (b .accounts) → moved (suc j) (late (beforeRaising b)) ≡ 0
+  moved-afterRaising j h =
       moved-late (beforeRaising b) (b .day) (beforeRaising-near b (s .near) ne) (suc j)
-      (rw (dusk-rows b s) (settleAccounts-spent (length (b .accounts)) (dawn b) j h))
+      (rw (unraised-rows b) (settleAccounts-spent (length (b .accounts)) (ended b) j h))
 
   moved-end : (m : ℕ) → 1 ≤ m → m ≤ length (closeAccounts lateBook .accounts) → moved m (closeAccounts lateBook .rows) ≡ 0
   unfolding closeAccounts
   moved-end zero l h = absurd (omega arith)
   moved-end (suc j) l h =
       let q : j < length (b .accounts) = rw (length-change (closeIf lateBook) 1 (lateBook .accounts), same-accounts) at h in
-      moved-closed lateBook (beforeRaising b .day) near-late j (rw same-accounts q) (moved-night j q)
+      moved-closed lateBook (beforeRaising b .day) near-late j (rw same-accounts q) (moved-afterRaising j q)
 
   pub after-tick : (e : Instruction) → e .kind ≡ 9 → after b e ≡ closeAccounts lateBook
   unfolding after changeOf tick settled

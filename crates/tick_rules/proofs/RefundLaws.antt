@@ -2,7 +2,7 @@
 -- tolls stays held, and its money exceeds what it owes.
 use mathlib.Core.Path.{_≡_, refl, sym, ap, _∙_}
 use mathlib.Core.Logic.{_≢_}
-use mathlib.Core.Bool.{Bool, true, false, not, cond, _&&_, _||_, true≢false, false≢true}
+use mathlib.Core.Bool.{Bool, true, false, not, cond, _&&_, _||_, true≢false, false≢true, and-false}
 use Prim.Native.Nat.{ℕ, zero, suc, _+_, _≤_, _<_, min}
 use native.Mathlib.Omega.{arith}
 use native.Mathlib.Decide.{ℕ-discrete}
@@ -11,7 +11,7 @@ use lib.ListN.{length, getD}
 use lib.Dec.{eqb, leb, ltb}
 use borrow.Author.Tests.{eqb-true, eq-eqb, ne-eqb, lt-ltb, le-leb, ltb-true, not-true}
 use Rattle.lists.specs.Lists.{only, exists}
-use Rattle.lists.proofs.TestLaws.{and-left, and-right, and-false}
+use Rattle.lists.proofs.TestLaws.{and-left, and-right}
 use Rattle.lists.proofs.SumLaws.{sumBy-at-le, sumBy-ext, sumBy-ext-at, sumBy-map}
 use Rattle.lists.proofs.ExistsLaws.{exists-none, none-exists}
 use Rattle.rules.specs.Limits.{closingDays, finalDay}
@@ -19,7 +19,7 @@ use Rattle.rules.specs.Rows.{Row, blank, rowNo, remaining, debit, held, heldTol
 use Rattle.rules.specs.Settlement.{money, debt, moved, owed}
 use Rattle.rules.specs.Book.{Account, Pending, Book, settled}
 use Rattle.rules.specs.Events.{release}
-use Rattle.rules.specs.Tick.{nextDay, holdEnds, endHolds, beforeRaising, raiseTolls, closes}
+use Rattle.rules.specs.Tick.{nextDay, holdEnds, endHold, endHolds, beforeRaising, raiseTolls, closes}
 use Rattle.rules.proofs.AllocationLaws.{bare}
 use Rattle.rules.proofs.SettlementAccountsLaws.{Remains, settleAccounts-remains}
 use Rattle.rules.proofs.SoundnessLaws.{Near, Sound}
@@ -27,9 +27,8 @@ use Rattle.preservation.proofs.FeeLaws.{Named, fee-at}
 use Rattle.preservation.proofs.DisputeKept.{HeldToll, held-is}
 use Rattle.preservation.proofs.HoldsEnded.{endHolds-near, beforeRaising-near}
 use Rattle.preservation.proofs.ClosingLaws.{none-owed}
+use Rattle.preservation.proofs.TickSteps.{endHold-keeps, endHold-goes-on, today, ended, ended-rows, ended-length, ended-at, ended-account, money-ended, unraised, unraised-rows, unraised-row, unraised-length}
 use Rattle.tick_rules.specs.Ticks.{staysHeld, willRefund, willClose}
-use Rattle.tick_rules.proofs.FreedLaws.{atDawn, dawn-keeps, today, dawn, dawn-rows, dawn-length, dawn-at, dawn-account}
-use Rattle.tick_rules.proofs.RisingLaws.{settleAccounts-row, money-dawn, dusk, dusk-rows, dusk-length}
 use Rattle.tick_rules.proofs.LateLaws.{late, money-late, owed-grows, clear-late}
 
 -- a debit of account n that is unsettled is owed
@@ -56,49 +55,49 @@ module _ (b : Book) (s : Sound b) (ne : b .day ≢ finalDay) (j : ℕ) (h : j < 
   abbrev n : ℕ
   n = suc j
 
-  owed-dawn : owed n (dawn b) ≡ owed n (b .rows)
+  owed-ended : owed n (ended b) ≡ owed n (b .rows)
   unfolding owed only debitOf release
-  owed-dawn =
+  owed-ended =
       let f : Row → ℕ = only (debitOf n) remaining in
-      rw (dawn-rows b) (sumBy-map f (atDawn (today b)) (b .rows) ∙ sumBy-ext (λ r. f (atDawn (today b) r)) f (b .rows) (dawn-keeps f (today b) (λ r. refl)))
+      rw (ended-rows b) (sumBy-map f (endHold (today b)) (b .rows) ∙ sumBy-ext (λ r. f (endHold (today b) r)) f (b .rows) (endHold-keeps f (λ r t. refl) (today b)))
 
   -- settlement takes as much from both sides
-  remains : Remains n (dawn b) (dusk b s) (moved n (dawn b))
-  remains = rw (dusk-rows b s) (settleAccounts-remains (length (b .accounts)) (dawn b) j h)
+  remains : Remains n (ended b) (unraised b) (moved n (ended b))
+  remains = rw (unraised-rows b) (settleAccounts-remains (length (b .accounts)) (ended b) j h)
 
   abbrev settledBook : Book
   settledBook = beforeRaising b
 
-  near-dusk : Near (b .day) settledBook
-  near-dusk = beforeRaising-near b (s .near) ne
+  near-unraised : Near (b .day) settledBook
+  near-unraised = beforeRaising-near b (s .near) ne
 
   -- ---- from the late book to the one before
 
-  -- a toll that stays held is held and unsettled at dusk
-  held-owes : (k : ℕ) → k < length (b .rows) → staysHeld (today b) n (getD (b .rows) k blank) ≡ true → 0 < owed n (dusk b s)
+  -- a toll that stays held is held and unsettled before tolls are raised
+  held-owes : (k : ℕ) → k < length (b .rows) → staysHeld (today b) n (getD (b .rows) k blank) ≡ true → 0 < owed n (unraised b)
   unfolding staysHeld
   held-owes k l e =
       let r : Row = getD (b .rows) k blank in
-      let z : Row = getD (dusk b s) k blank in
+      let z : Row = getD (unraised b) k blank in
       let a : r .account ≡ n = eqb-true (r .account) n (and-left (eqb (r .account) n) _ e) in
       let f = and-right (eqb (r .account) n) (heldToll r && not (holdEnds (today b) r)) e in
       let ht : heldToll r ≡ true = and-left (heldToll r) (not (holdEnds (today b) r)) f in
       let stays : holdEnds (today b) r ≡ false = not-true _ (and-right (heldToll r) (not (holdEnds (today b) r)) f) in
-      let d : getD (dawn b) k blank ≡ r = dawn-at b k ∙ rw stays in
-      let same : bare z ≡ bare r = rw (← d, dusk-rows b s) (settleAccounts-row (length (b .accounts)) (dawn b) k .kept) in
-      let lz : k < length (dusk b s) = omega (arith, dusk-length b s) in
+      let d : getD (ended b) k blank ≡ r = ended-at b k ∙ endHold-goes-on (today b) r stays in
+      let same : bare z ≡ bare r = rw (← d) (unraised-row b k .kept) in
+      let lz : k < length (unraised b) = omega (arith, unraised-length b) in
       let hz : heldToll z ≡ true = ap (λ (x : Row). heldToll x) same ∙ ht in
       let kind : z .kind ≡ 1 = eqb-true (z .kind) 1 (and-left (eqb (z .kind) 1) (eqb (z .dispute) 1) hz) in
       let disp : z .dispute ≡ 1 = eqb-true (z .dispute) 1 (and-right (eqb (z .kind) 1) (eqb (z .dispute) 1) hz) in
-      let w : HeldToll (settledBook .day) (settledBook .schedule .stage) z = held-is (settledBook .day) (settledBook .schedule .stage) z kind disp (near-dusk .live k lz .hold) in
+      let w : HeldToll (settledBook .day) (settledBook .schedule .stage) z = held-is (settledBook .day) (settledBook .schedule .stage) z kind disp (near-unraised .live k lz .hold) in
       let acc : z .account ≡ n = ap (λ (x : Row). x .account) same ∙ a in
-      owes n (dusk b s) k lz (toll-debit n z acc kind) (w .open-still)
+      owes n (unraised b) k lz (toll-debit n z acc kind) (w .open-still)
 
   abbrev lateRows : List Row
   lateRows = late settledBook
 
-  -- where nothing is owed at dusk, no toll stays held
-  none-stays : owed n (dusk b s) ≡ 0 → not (exists (staysHeld (today b) n) (b .rows)) ≡ true
+  -- where nothing is owed then, no toll stays held
+  none-stays : owed n (unraised b) ≡ 0 → not (exists (staysHeld (today b) n) (b .rows)) ≡ true
   none-stays z = rw (none-exists (staysHeld (today b) n) (b .rows) blank (λ k l. none k l (staysHeld (today b) n (getD (b .rows) k blank)) refl))
     where
       none : (k : ℕ) → k < length (b .rows) → (v : Bool) → staysHeld (today b) n (getD (b .rows) k blank) ≡ v → v ≡ false
@@ -109,16 +108,16 @@ module _ (b : Book) (s : Sound b) (ne : b .day ≢ finalDay) (j : ℕ) (h : j < 
       → (not (exists (staysHeld (today b) n) (b .rows)) ≡ true) × (ltb (owed n (b .rows)) (money n (b .rows)) ≡ true)
   told-after q m =
       let o : owed n lateRows ≡ 0 = none-owed n lateRows q in
-      let z : owed n (dusk b s) ≡ 0 = omega (arith, owed-grows settledBook n) in
-      let p : 0 < money n (dusk b s) = omega (arith, money-late settledBook n, ltb-true 0 (money n lateRows) m) in
-      (none-stays z, lt-ltb (owed n (b .rows)) (money n (b .rows)) (omega (arith, remains .money, remains .owed, owed-dawn, money-dawn b n)))
+      let z : owed n (unraised b) ≡ 0 = omega (arith, owed-grows settledBook n) in
+      let p : 0 < money n (unraised b) = omega (arith, money-late settledBook n, ltb-true 0 (money n lateRows) m) in
+      (none-stays z, lt-ltb (owed n (b .rows)) (money n (b .rows)) (omega (arith, remains .money, remains .owed, owed-ended, money-ended b n)))
 
   -- an account that closes was to close
   told-closing : not (exists (λ r. debitOf n r && unsettled r) lateRows) ≡ true
       → (not (exists (staysHeld (today b) n) (b .rows)) ≡ true) × (leb (owed n (b .rows)) (money n (b .rows)) ≡ true)
   told-closing q =
-      let z : owed n (dusk b s) ≡ 0 = omega (arith, owed-grows settledBook n, none-owed n lateRows q) in
-      (none-stays z, le-leb (owed n (b .rows)) (money n (b .rows)) (omega (arith, remains .money, remains .owed, owed-dawn, money-dawn b n)))
+      let z : owed n (unraised b) ≡ 0 = omega (arith, owed-grows settledBook n, none-owed n lateRows q) in
+      (none-stays z, le-leb (owed n (b .rows)) (money n (b .rows)) (omega (arith, remains .money, remains .owed, owed-ended, money-ended b n)))
 
   pub none-closing : (x : Account) → willClose b n x ≡ false → closes (raiseTolls settledBook) n x ≡ false
   unfolding closes willClose raiseTolls beforeRaising settled endHolds nextDay
@@ -132,10 +131,10 @@ module _ (b : Book) (s : Sound b) (ne : b .day ≢ finalDay) (j : ℕ) (h : j < 
   -- ---- from the book before to the late one
 
   module _ (q : not (exists (staysHeld (today b) n) (b .rows)) ≡ true) where
-    -- no toll of the account is held at dawn
-    free-dawn : (k : ℕ) → k < length (b .rows) → getD (b .rows) k blank .account ≡ n → heldToll (getD (dawn b) k blank) ≡ false
-    unfolding staysHeld
-    free-dawn k l a = rw (dawn-at b k) (go (holdEnds (today b) (getD (b .rows) k blank)) (heldToll (getD (b .rows) k blank)) refl refl)
+    -- no toll of the account is held once holds have ended
+    free-ended : (k : ℕ) → k < length (b .rows) → getD (b .rows) k blank .account ≡ n → heldToll (getD (ended b) k blank) ≡ false
+    unfolding staysHeld endHold
+    free-ended k l a = rw (ended-at b k) (go (holdEnds (today b) (getD (b .rows) k blank)) (heldToll (getD (b .rows) k blank)) refl refl)
       where
         r : Row
         r = getD (b .rows) k blank
@@ -147,28 +146,28 @@ module _ (b : Book) (s : Sound b) (ne : b .day ≢ finalDay) (j : ℕ) (h : j < 
             absurd (true≢false (rw (eq-eqb (r .account) n a, e, f) at x))
         go false false e f = f
 
-    free-number : (i : ℕ) → i ≤ length (b .rows) → rowNo (dawn b) i .account ≡ n → heldToll (rowNo (dawn b) i) ≡ false
+    free-number : (i : ℕ) → i ≤ length (b .rows) → rowNo (ended b) i .account ≡ n → heldToll (rowNo (ended b) i) ≡ false
     free-number zero l e = refl
-    free-number (suc k) l e = free-dawn k l (sym (dawn-account b k) ∙ e)
+    free-number (suc k) l e = free-ended k l (sym (ended-account b k) ∙ e)
 
     -- so all its debits are payable
-    all-payable : (k : ℕ) → k < length (dawn b) → only (payable (dawn b) n) remaining (getD (dawn b) k blank) ≡ only (debitOf n) remaining (getD (dawn b) k blank)
+    all-payable : (k : ℕ) → k < length (ended b) → only (payable (ended b) n) remaining (getD (ended b) k blank) ≡ only (debitOf n) remaining (getD (ended b) k blank)
     unfolding only payable debitOf held
-    all-payable k l = go (ℕ-discrete (getD (dawn b) k blank .account) n)
+    all-payable k l = go (ℕ-discrete (getD (ended b) k blank .account) n)
       where
         r : Row
-        r = getD (dawn b) k blank
+        r = getD (ended b) k blank
 
-        free : r .account ≡ n → heldToll r || eqb (r .kind) 2 && heldToll (rowNo (dawn b) (r .reference)) ≡ false
-        free a = rw (free-dawn k (omega (arith, dawn-length b)) (sym (dawn-account b k) ∙ a)) (fee (eqb (r .kind) 2) refl)
+        free : r .account ≡ n → heldToll r || eqb (r .kind) 2 && heldToll (rowNo (ended b) (r .reference)) ≡ false
+        free a = rw (free-ended k (omega (arith, ended-length b)) (sym (ended-account b k) ∙ a)) (fee (eqb (r .kind) 2) refl)
           where
-            fee : (v : Bool) → eqb (r .kind) 2 ≡ v → v && heldToll (rowNo (dawn b) (r .reference)) ≡ false
+            fee : (v : Bool) → eqb (r .kind) 2 ≡ v → v && heldToll (rowNo (ended b) (r .reference)) ≡ false
             fee true e =
-                let f : Named (dawn b) (suc k) r = fee-at (b .day) (endHolds (nextDay b)) (endHolds-near b (s .near) ne) k l (eqb-true (r .kind) 2 e) in
-                free-number (r .reference) (omega (arith, f .before, dawn-length b)) (f .account ∙ a)
+                let f : Named (ended b) (suc k) r = fee-at (b .day) (endHolds (nextDay b)) (endHolds-near b (s .near) ne) k l (eqb-true (r .kind) 2 e) in
+                free-number (r .reference) (omega (arith, f .before, ended-length b)) (f .account ∙ a)
             fee false e = refl
 
-        go : Dec (r .account ≡ n) → cond (eqb (r .account) n && (debit r && not (heldToll r || eqb (r .kind) 2 && heldToll (rowNo (dawn b) (r .reference))))) (remaining r) 0 ≡ cond (eqb (r .account) n && debit r) (remaining r) 0
+        go : Dec (r .account ≡ n) → cond (eqb (r .account) n && (debit r && not (heldToll r || eqb (r .kind) 2 && heldToll (rowNo (ended b) (r .reference))))) (remaining r) 0 ≡ cond (eqb (r .account) n && debit r) (remaining r) 0
         go (yes a) = rw (free a) (rest (eqb (r .account) n) (debit r))
           where
             rest : (x d : Bool) → cond (x && (d && true)) (remaining r) 0 ≡ cond (x && d) (remaining r) 0
@@ -177,17 +176,17 @@ module _ (b : Book) (s : Sound b) (ne : b .day ≢ finalDay) (j : ℕ) (h : j < 
             rest false d = refl
         go (no a) = rw (ne-eqb (r .account) n a)
 
-    debt-dawn : debt n (dawn b) ≡ owed n (dawn b)
+    debt-ended : debt n (ended b) ≡ owed n (ended b)
     unfolding debt owed
-    debt-dawn = sumBy-ext-at (only (payable (dawn b) n) remaining) (only (debitOf n) remaining) blank (dawn b) all-payable
+    debt-ended = sumBy-ext-at (only (payable (ended b) n) remaining) (only (debitOf n) remaining) blank (ended b) all-payable
 
     told-before : ltb (owed n (b .rows)) (money n (b .rows)) ≡ true → (not (exists (λ r. debitOf n r && unsettled r) lateRows) ≡ true) × (ltb 0 (money n lateRows) ≡ true)
     unfolding moved
     told-before m =
         let l = ltb-true (owed n (b .rows)) (money n (b .rows)) m in
-        let v : min (money n (dawn b)) (debt n (dawn b)) ≡ owed n (b .rows) = omega (arith, debt-dawn, owed-dawn, money-dawn b n) in
-        let z : owed n (dusk b s) ≡ 0 = omega (arith, remains .owed, owed-dawn) in
-        let p : 0 < money n (dusk b s) = omega (arith, remains .money, money-dawn b n) in (
+        let v : min (money n (ended b)) (debt n (ended b)) ≡ owed n (b .rows) = omega (arith, debt-ended, owed-ended, money-ended b n) in
+        let z : owed n (unraised b) ≡ 0 = omega (arith, remains .owed, owed-ended) in
+        let p : 0 < money n (unraised b) = omega (arith, remains .money, money-ended b n) in (
           rw (none-unsettled n lateRows (clear-late settledBook n z)),
           lt-ltb 0 (money n lateRows) (omega (arith, money-late settledBook n)),
         )

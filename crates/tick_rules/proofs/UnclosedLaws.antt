@@ -1,6 +1,6 @@
 -- Where no account closes, no refund is added and the closings change nothing.
 use mathlib.Core.Path.{_≡_, refl, _∙_}
-use mathlib.Core.Bool.{Bool, true, false, not, _&&_}
+use mathlib.Core.Bool.{Bool, true, false, not, _&&_, and-false}
 use Prim.Native.Nat.{ℕ, zero, suc, _+_, _≤_, _<_}
 use native.Mathlib.Omega.{arith}
 use mathlib.Core.List.{List, [], _∷_, map, append-nil}
@@ -9,8 +9,7 @@ use lib.Seq.{ext-getD}
 use lib.Dec.{eqb, leb, ltb}
 use borrow.Author.Tests.{leb-false, le-ltb}
 use Rattle.lists.specs.Lists.{exists, one, gather, gatherFrom, change}
-use Rattle.lists.proofs.TestLaws.{and-false}
-use Rattle.lists.proofs.GatherLaws.{map-at, length-change, change-at}
+use Rattle.lists.proofs.GatherLaws.{length-change, change-at}
 use Rattle.rules.specs.Limits.{closingDays}
 use Rattle.rules.specs.Rows.{Row, blank, source}
 use Rattle.rules.specs.Settlement.{money, owed}
@@ -18,6 +17,7 @@ use Rattle.rules.specs.Book.{Account, Pending, unused, Book, account}
 use Rattle.rules.specs.Tick.{closes, closeIf, refundRow, useUp, closeAccounts}
 use Rattle.preservation.proofs.ClosingLaws.{up-blank}
 use Rattle.tick_rules.specs.Ticks.{staysHeld, willRefund, willClose, NoneCloses, refundsAdded}
+use Rattle.lists.proofs.ListLaws.{map-at}
 
 gather-empty : {A B : Type 0} (h : ℕ → A → List B) (i : ℕ) (xs : List A) (d : A) → ((n k : ℕ) → n ≡ i + k → k < length xs → h n (getD xs k d) ≡ []) → gatherFrom h i xs ≡ []
 unfolding gatherFrom
@@ -67,7 +67,7 @@ module _ (b : Book) (inside : (k : ℕ) → k < length (b .rows) → (1 ≤ getD
       ext-getD blank (map (useUp b) (b .rows)) (b .rows) (length-map (b .rows) (useUp b)) (λ k l.
       let r : Row = getD (b .rows) k blank in
       let i = inside k (rw (length-map (b .rows) (useUp b)) at l) in
-      map-at (useUp b) blank (up-blank b) (b .rows) (b .rows) k ∙ rw (stays-open (r .account) (i .0) (i .1), and-false (source r)))
+      map-at (useUp b) (b .rows) k blank (up-blank b) ∙ rw (stays-open (r .account) (i .0) (i .1), and-false (source r)))
 
   refunds-none : gather (refundRow b) (b .accounts) ≡ []
   unfolding refundRow

@@ -1,6 +1,7 @@
 -- `top_up_due` meets its contract.
 use borrow.Author.Needs.{needs}
 use borrow.Author.Tests.{not-true, not-false}
+use mathlib.Core.Path.{sym, _∙_}
 use native.Mathlib.Omega.{arith}
 use Rattle.rules.proofs.TableLaws.{header-length}
 use Rattle.posting.proofs.BookLaws.{journal-summable}
@@ -14,30 +15,35 @@ account-numbered-requires c κs = search needs
 get-requires : tie.Need-get-requires
 get-requires c κs = omega (arith, header-length _ (c .before .pre))
 
+may-top-up-requires : tie.Need-may-top-up-requires
+may-top-up-requires c κs = search needs
+
 returns : tie.Need-returns
 returns c =
-    let a = c .before .before .before .before .before in
-    not-due _ (a .before .pre) _ _ (a .account-numbered .ensures) _ (c .before .before .before .before .get .ensures) (not-true _ (c .if1 .taken))
+    let m = c .before in
+    let a = m .before .before in
+    not-due _ (a .before .pre) _ _ (a .account-numbered .ensures) _ (m .before .get .ensures) (sym (m .may-top-up .ensures) ∙ not-true _ (c .if1 .taken))
 
 get-requires-2 : tie.Need-get-requires-2
-get-requires-2 c κs = omega (arith, header-length _ (c .before .before .before .before .before .before .pre))
+get-requires-2 c κs = omega (arith, header-length _ (c .before .before .before .before .pre))
 
 sums-of-requires : tie.Need-sums-of-requires
-sums-of-requires c κs = rw (c .get2 .ensures) (journal-summable _ (c .before .before .before .before .before .before .before .pre))
+sums-of-requires c κs = rw (c .get2 .ensures) (journal-summable _ (c .before .before .before .before .before .pre))
 
-add-limit : tie.Need-add-limit
-add-limit c =
-    let d = c .before .before in
-    let a = d .before .before .before .before .before .before .before in
-    omega (arith, debits-fit _ (a .before .pre) _ _ (a .account-numbered .ensures) _ _ (d .before .get2 .ensures) (d .sums-of .ensures))
+is-low-requires : tie.Need-is-low-requires
+is-low-requires c κs =
+    let a = c .before .before .before .before .before in
+    debits-fit _ (a .before .pre) _ _ (a .account-numbered .ensures) _ _ (c .before .get2 .ensures) (c .sums-of .ensures)
 
 returns-2 : tie.Need-returns-2
 returns-2 c =
-    let d = c .before .before .before in
+    let d = c .before in
     let i = d .before .before in
-    let a = i .before .before .before .before .before in
-    due-by-balance _ (a .before .pre) _ _ (a .account-numbered .ensures) _ _ (d .before .get2 .ensures) (d .sums-of .ensures) _
-    (i .before .before .before .before .get .ensures) (not-false _ (i .if1 .left))
+    let m = i .before in
+    let a = m .before .before in
+    c .is-low .ensures
+    ∙ due-by-balance _ (a .before .pre) _ _ (a .account-numbered .ensures) _ _ (d .before .get2 .ensures) (d .sums-of .ensures) _
+    (m .before .get .ensures) (sym (m .may-top-up .ensures) ∙ not-false _ (i .if1 .left))
 
 pub top-up-due-spec : {M : Type 1} → statement M
 top-up-due-spec =
@@ -45,8 +51,9 @@ top-up-due-spec =
     (tie.spec
     account-numbered-requires
     get-requires
+    may-top-up-requires
     returns
     get-requires-2
     sums-of-requires
-    add-limit
+    is-low-requires
     returns-2)

@@ -2,7 +2,6 @@
 use Rattle.batch_index.proofs.IndexLaws.{spot-stands, looks-up-by, charged-fits, due-by-seat}
 use Rattle.rules.proofs.TableLaws.{header-length}
 use Rattle.posting.proofs.BookLaws.{used-room, used-small}
-use mathlib.Core.Path.{_∙_}
 use native.Mathlib.Omega.{arith}
 use borrow.Author.Needs.{needs}
 use Rattle.batch_index.proofs.look_up_indexed.Statement.{statement}
@@ -47,18 +46,26 @@ seat-word-requires-4 c κs = search needs
 get-requires-2 : tie.Need-get-requires-2
 get-requires-2 c κs = omega (arith, header-length _ (c .before .before .before .before .before .before .before .before .before .pre .0))
 
-due-by-requires : tie.Need-due-by-requires
-due-by-requires c κs =
-    let s = c .before .before .before .before .before .before .before .before .before .before in
-    charged-fits _ (s .pre .0) _ _ (s .pre .1) _ _ (c .before .before .before .account-numbered .ensures) _ (c .before .seat-word4 .ensures)
+may-top-up-requires : tie.Need-may-top-up-requires
+may-top-up-requires c κs = search needs
+
+is-low-requires : tie.Need-is-low-requires
+is-low-requires c κs =
+    let d = c .before .before in
+    let a = d .before .before in
+    let s = a .before .before .before .before .before .before .before in
+    charged-fits _ (s .pre .0) _ _ (s .pre .1) _ _ (a .account-numbered .ensures) _ (d .seat-word4 .ensures)
 
 returns-2 : tie.Need-returns-2
 returns-2 c =
-    let a = c .before .before .before .before in
-    let f = c .before .before .before .before .before .before .before .before .before in
+    let m = c .before in
+    let d = m .before .before in
+    let a = d .before .before in
+    let f = a .before .before .before .before .before in
     let s = f .before .before in
-    looks-up-by _ _ _ (s .pre .1) _ _ _ _ _ (f .before .seat-word .ensures) (f .seat-word2 .ensures) (λ k. absurd (c .before .before .before .before .before .before .before .if1 .left k))
-    (λ k. c .due-by .ensures ∙ due-by-seat _ (s .pre .0) _ _ (s .pre .1) _ _ (a .account-numbered .ensures) _ (c .before .before .seat-word4 .ensures) _ _ (c .before .before .before .seat-word3 .ensures) (c .before .get2 .ensures))
+    looks-up-by _ _ _ (s .pre .1) _ _ _ _ _ (f .before .seat-word .ensures) (f .seat-word2 .ensures) (λ k. absurd (a .before .before .before .if1 .left k))
+    (λ k. rw (m .may-top-up .ensures, c .is-low .ensures)
+    (due-by-seat _ (s .pre .0) _ _ (s .pre .1) _ _ (a .account-numbered .ensures) _ (d .seat-word4 .ensures) _ _ (d .before .seat-word3 .ensures) (m .before .get2 .ensures)))
 
 returns-3 : tie.Need-returns-3
 returns-3 c =
@@ -81,6 +88,7 @@ look-up-indexed-spec =
     add-seat-word-2
     seat-word-requires-4
     get-requires-2
-    due-by-requires
+    may-top-up-requires
+    is-low-requires
     returns-2
     returns-3)

@@ -1,7 +1,6 @@
 -- `seat_word` meets its contract.
 use Rattle.batch_index.specs.Index.{seatWord}
 use borrow.Author.Tests.{lt-ltb, le-ltb}
-use native.Mathlib.Omega.{arith}
 use borrow.Author.Needs.{needs}
 use Rattle.batch_index.proofs.seat_word.Statement.{statement}
 use Rattle.batch_index.proofs.seat_word.Tie as tie

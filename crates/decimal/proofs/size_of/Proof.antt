@@ -10,9 +10,10 @@ use mir.Facts.{toZ-ofZ}
 use mir.Val.{Fits, SFits, toZ, ofZ}
 use mir.Syntax.{w64}
 use Rattle.decimal.specs.Decimal.{sizeOf}
-use Rattle.decimal.proofs.SignLaws.{less-one, size-below, size-above, cast-fits}
+use Rattle.decimal.proofs.SignLaws.{less-one, size-below, size-above}
 use Rattle.decimal.proofs.size_of.Statement.{statement}
 use Rattle.decimal.proofs.size_of.Tie as tie
+use Rattle.lists.proofs.SignLaws.{cast-fits}
 
 -- minus one less a number below 0, read from its bits
 module _ (z : ℤ) (f : SFits w64 z) (h : ltZ (toZ w64 (ofZ w64 z)) (pos 0) ≡ true) where

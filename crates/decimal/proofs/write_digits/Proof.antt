@@ -1,7 +1,6 @@
 -- `write_digits` meets its contract: the kit's digits, the fewest that hold the number, are copied to their place.
 use native.Mathlib.Omega.{arith}
 use mathlib.Core.Path.{ap, _∙_}
-use Prim.Native.Nat.{_-_}
 use lib.ListN.{take}
 use borrow.Author.Needs.{needs}
 use Rattle.decimal.specs.Decimal.{written}

@@ -2,11 +2,9 @@
 use borrow.Author.Needs.{needs}
 use borrow.Author.Tests.{eq-eqb, ne-eqb, not-true, not-false}
 use native.Mathlib.Omega.{arith}
-use mathlib.Core.Path.{_≡_, refl, sym, ap, _∙_}
+use mathlib.Core.Path.{refl, sym, _∙_}
 use mathlib.Core.Bool.{true, false}
-use Prim.Native.Nat.{ℕ, _+_}
 use Rattle.lists.specs.Tests.{first}
-use Rattle.rules.specs.Book.{Account}
 use Rattle.rules.proofs.TableLaws.{header-length}
 use Rattle.posting.proofs.BookLaws.{account-read}
 use Rattle.posting_laws.proofs.RefusalLaws.{rows-lack, rows-suffice}

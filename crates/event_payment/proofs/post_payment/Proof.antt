@@ -2,7 +2,7 @@
 use borrow.Author.Needs.{needs}
 use borrow.Author.Tests.{ne-eqb}
 use native.Mathlib.Omega.{arith}
-use mathlib.Core.Path.{_≡_, refl, sym, ap, _∙_}
+use mathlib.Core.Path.{refl, sym, _∙_}
 use lib.ListN.{length-set}
 use Rattle.rules.proofs.TableLaws.{header-length, journal-length}
 use Rattle.posting.proofs.BookLaws.{day-read, used-small}

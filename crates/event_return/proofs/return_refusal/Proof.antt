@@ -8,7 +8,8 @@ use Rattle.lists.specs.Tests.{first}
 use Rattle.rules.proofs.TableLaws.{header-length}
 use Rattle.posting.proofs.BookLaws.{account-read, used-small, used-room}
 use Rattle.posting_laws.proofs.RefusalLaws.{rows-lack, rows-suffice}
-use Rattle.event_return.proofs.ReturnLaws.{answer-by, row-read-by}
+use Rattle.posting_laws.proofs.PutRowLaws.{row-read-by}
+use Rattle.event_return.proofs.ReturnLaws.{answer-by}
 use Rattle.event_return.proofs.return_refusal.Statement.{statement}
 use Rattle.event_return.proofs.return_refusal.Tie as tie
 

@@ -3,7 +3,7 @@ use borrow.Author.Needs.{needs}
 use native.Mathlib.Omega.{arith}
 use Rattle.rules.proofs.TableLaws.{header-length}
 use Rattle.posting.proofs.BookLaws.{day-small, used-small}
-use Rattle.event_tick.proofs.StepLaws.{dusk-midway, dusk-room, late-closing, end-header, end-longer, tick-posts}
+use Rattle.event_tick.proofs.StepLaws.{unraised-midway, unraised-room, late-closing, end-header, end-longer, tick-posts}
 use Rattle.event_tick.proofs.carry_out.Statement.{statement}
 use Rattle.event_tick.proofs.carry_out.Tie as tie
 
@@ -12,8 +12,8 @@ use Rattle.event_tick.proofs.carry_out.Tie as tie
 abbrev start : tie.After-free-and-settle → tie.Start
 start f = f .before .before .before .before .before .before
 
-abbrev dusk : tie.After-put → tie.After-free-and-settle
-dusk p = p .before .before .before .before .before
+abbrev unraised : tie.After-put → tie.After-free-and-settle
+unraised p = p .before .before .before .before .before
 
 -- ---- the needs
 
@@ -37,17 +37,17 @@ put-requires c κs =
 raise-tolls-requires : tie.Need-raise-tolls-requires
 raise-tolls-requires c κs =
     let p = c .before .before .before .before in
-    let a = start (dusk p) .pre in
-    let d = dusk p .free-and-settle .ensures in
+    let a = start (unraised p) .pre in
+    let d = unraised p .free-and-settle .ensures in
     let h = rw (p .before .get2 .ensures) at (p .put .ensures) in
-    (rw h (dusk-midway _ (a .sound) _ (a .kind) (a .taken) _ d), rw h (dusk-room _ (a .sound) _ (a .kind) (a .taken) _ d))
+    (rw h (unraised-midway _ (a .sound) _ (a .kind) (a .taken) _ d), rw h (unraised-room _ (a .sound) _ (a .kind) (a .taken) _ d))
 
 close-accounts-requires : tie.Need-close-accounts-requires
 close-accounts-requires c κs =
     let r = c .before .before .before .before .before in
     let p = r .before .before .before .before .before in
-    let a = start (dusk p) .pre in
-    let d = dusk p .free-and-settle .ensures in
+    let a = start (unraised p) .pre in
+    let d = unraised p .free-and-settle .ensures in
     let h = rw (p .before .get2 .ensures) at (p .put .ensures) in
     let w = rw h at (r .raise-tolls .ensures .1) in
     late-closing _ (a .sound) _ (a .kind) (a .taken) _ d _ w _ (a .plan)
@@ -57,17 +57,17 @@ get-requires-3 c κs =
     let x = c .before .before .before .before in
     let r = x .before .before .before .before .before .before in
     let p = r .before .before .before .before .before in
-    let a = start (dusk p) .pre in
+    let a = start (unraised p) .pre in
     let h = rw (p .before .get2 .ensures) at (p .put .ensures) in
     let w = rw h at (r .raise-tolls .ensures .1) in
-    omega (arith, end-header _ (a .sound) _ (a .kind) (a .taken) _ (dusk p .free-and-settle .ensures) _ w _ (x .close-accounts .ensures))
+    omega (arith, end-header _ (a .sound) _ (a .kind) (a .taken) _ (unraised p .free-and-settle .ensures) _ w _ (x .close-accounts .ensures))
 
 sub-posted : tie.Need-sub-posted
 sub-posted c =
     let x = c .before .before .before .before .before in
     let r = x .before .before .before .before .before .before in
     let p = r .before .before .before .before .before in
-    let f = dusk p in
+    let f = unraised p in
     let a = start f .pre in
     let h = rw (p .before .get2 .ensures) at (p .put .ensures) in
     let w = rw h at (r .raise-tolls .ensures .1) in
@@ -76,7 +76,7 @@ sub-posted c =
 posted-requires : tie.Need-posted-requires
 posted-requires c κs =
     let x = c .before .before .before .before .before in
-    let f = dusk (x .before .before .before .before .before .before .before .before .before .before .before) in
+    let f = unraised (x .before .before .before .before .before .before .before .before .before .before .before) in
     let u = f .before .before .before .before .get .ensures in
     omega (arith, used-small _ (start f .pre .sound))
 
@@ -94,7 +94,7 @@ returns c =
     let x = c .before .before .before .before .before .before in
     let r = x .before .before .before .before .before .before in
     let p = r .before .before .before .before .before in
-    let f = dusk p in
+    let f = unraised p in
     let a = start f .pre in
     let h = rw (p .before .get2 .ensures) at (p .put .ensures) in
     let w = rw h at (r .raise-tolls .ensures .1) in

@@ -1,7 +1,6 @@
 -- `look_up` meets its contract: it searches for a toll's passage number and asks for a top-up, and passes over no row.
 use borrow.Author.Needs.{needs}
 use native.Mathlib.Omega.{arith}
-use mathlib.Core.Path.{_≡_, sym, _∙_}
 use Rattle.rules.proofs.TableLaws.{header-length, sound-rows}
 use Rattle.posting.proofs.BookLaws.{used-room}
 use Rattle.lookups.proofs.LookupLaws.{looks-up-all}

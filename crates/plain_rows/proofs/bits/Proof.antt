@@ -1,10 +1,11 @@
 -- `bits` meets its contract: a negative word's bits are past every limit, and another's are the word.
 use Rattle.plain_rows.proofs.AlikeLaws.{below-is, below-fits, alike-negative, alike-same}
-use Rattle.tables.proofs.WordLaws.{cast-fits, not-negative}
+use Rattle.tables.proofs.WordLaws.{not-negative}
 use mir.Facts.{toZ-ofZ}
 use native.Mathlib.Omega.{arith}
 use Rattle.plain_rows.proofs.bits.Statement.{statement}
 use Rattle.plain_rows.proofs.bits.Tie as tie
+use Rattle.lists.proofs.SignLaws.{cast-fits}
 
 sub-result : tie.Need-sub-result
 sub-result c =

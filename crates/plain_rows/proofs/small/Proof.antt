@@ -1,9 +1,10 @@
 -- `small` meets its contract: a word that reads as a small number is not negative.
 use Rattle.plain_rows.proofs.AlikeLaws.{not-below}
-use Rattle.tables.proofs.WordLaws.{cast-fits, not-negative}
+use Rattle.tables.proofs.WordLaws.{not-negative}
 use mir.Facts.{toZ-ofZ}
 use Rattle.plain_rows.proofs.small.Statement.{statement}
 use Rattle.plain_rows.proofs.small.Tie as tie
+use Rattle.lists.proofs.SignLaws.{cast-fits}
 
 cast-result : tie.Need-cast-result
 cast-result c = rw (toZ-ofZ (c .fits .x)) (cast-fits (c .args .x) (c .fits .x) (not-below (c .args .x) (c .pre)))

@@ -2,7 +2,7 @@
 use Rattle.questions.proofs.QuestionLaws.{refusal-unsound, refusal-by}
 use borrow.Author.Tests.{eq-eqb, ne-eqb, not-true, not-false}
 use mathlib.Core.Bool.{true, false}
-use mathlib.Core.Path.{_≡_, sym, _∙_}
+use mathlib.Core.Path.{sym, _∙_}
 use borrow.Author.Needs.{needs}
 use Rattle.questions.proofs.question_refusal.Statement.{statement}
 use Rattle.questions.proofs.question_refusal.Tie as tie

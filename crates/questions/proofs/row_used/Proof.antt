@@ -2,7 +2,7 @@
 use Rattle.rules.proofs.TableLaws.{header-length}
 use borrow.Author.Tests.{not-true, not-false}
 use native.Mathlib.Omega.{arith}
-use mathlib.Core.Path.{_≡_, sym, _∙_}
+use mathlib.Core.Path.{sym, _∙_}
 use borrow.Author.Needs.{needs}
 use Rattle.questions.proofs.row_used.Statement.{statement}
 use Rattle.questions.proofs.row_used.Tie as tie

@@ -7,7 +7,7 @@ use Rattle.rules.specs.Tables.{Tables, soundTables}
 use Rattle.posting.specs.Posts.{tablesAt}
 use mir.Facts.{toZ-ofZ}
 use lib.IntN.{pos}
-use mathlib.Core.Bool.{true, false, cond}
+use mathlib.Core.Bool.{true, cond}
 use mathlib.Core.Path.{_≡_, sym, ap, _∙_}
 use borrow.Author.Needs.{needs}
 use Rattle.questions.proofs.top_up_due.Statement.{statement}

@@ -1,9 +1,6 @@
 -- `settlement::add_settled` meets its contract.
 use borrow.Author.Needs.{needs}
 use native.Mathlib.Omega.{arith}
-use mathlib.Core.Path.{ap}
-use Prim.Native.Nat.{ℕ}
-use Rattle.rules.specs.Rows.{Row}
 use Rattle.settlement.proofs.add_settled.Statement.{statement}
 use Rattle.settlement.proofs.add_settled.Tie as tie
 

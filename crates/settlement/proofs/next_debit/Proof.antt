@@ -1,12 +1,11 @@
 -- `settlement::next_debit` meets its contract: every row passed wants nothing.
-use Prim.Native.Nat.{ℕ, _+_, _-_, _≤_, _<_}
+use Prim.Native.Nat.{ℕ, _-_, _≤_, _<_}
 use native.Mathlib.Omega.{arith}
 use native.Mathlib.Decide.{ℕ-discrete}
-use mathlib.Core.Path.{_≡_, sym, ap, _∙_}
+use mathlib.Core.Path.{_≡_}
 use Rattle.records.specs.Encoding.{rowAt, rowsOf}
 use Rattle.lists.specs.Lists.{only}
-use Rattle.rules.specs.Rows.{Row, remaining, payable}
-use Rattle.settlement.specs.Settling.{NextDebit}
+use Rattle.rules.specs.Rows.{remaining, payable}
 use Rattle.settlement.proofs.next_debit.Statement.{statement}
 use Rattle.settlement.proofs.next_debit.Tie as tie
 

@@ -1,14 +1,12 @@
 -- `settlement::settle_from` meets its contract: at each turn the walk of WalkLaws.
-use Prim.Native.Nat.{ℕ, _+_, _-_, _≤_, _<_, min}
+use Prim.Native.Nat.{_-_, min}
 use native.Mathlib.Omega.{arith}
-use mathlib.Core.Path.{_≡_, sym, ap, _∙_}
+use mathlib.Core.Path.{_≡_, sym}
 use mathlib.Core.List.{List}
 use lib.IntN.{ℤ}
-use lib.ListN.{length}
 use Rattle.records.specs.Encoding.{rowAt, rowsOf}
 use Rattle.lists.specs.Lists.{only}
-use Rattle.rules.specs.Rows.{Row, remaining, sourceOf, payable}
-use Rattle.settlement.specs.Settling.{NextDebit}
+use Rattle.rules.specs.Rows.{remaining, sourceOf, payable}
 use Rattle.settlement.proofs.WalkLaws.{Walking, walking-start, walking-debit, walking-source, walking-pay, source-left, no-source-left, no-debit-left, Turn, source-fits, debit-fits}
 use Rattle.settlement.proofs.settle_from.Statement.{statement}
 use Rattle.settlement.proofs.settle_from.Tie as tie

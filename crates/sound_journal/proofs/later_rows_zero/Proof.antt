@@ -5,10 +5,10 @@ use Rattle.plain_rows.proofs.AlikeLaws.{alike-test}
 use Rattle.sound_header.specs.Clauses.{emptyRow, restZero}
 use Rattle.records.specs.Encoding.{rowAt}
 use borrow.Author.Tests.{not-true, not-false}
-use mathlib.Core.Bool.{true, false, _&&_}
+use mathlib.Core.Bool.{true, false}
 use mathlib.Core.Path.{_≡_, refl, sym, _∙_}
 use native.Mathlib.Omega.{arith}
-use Prim.Native.Nat.{ℕ, _+_, _*_, _-_, _≤_, _<_}
+use Prim.Native.Nat.{_+_, _-_, _≤_}
 use Rattle.sound_journal.proofs.later_rows_zero.Statement.{statement}
 use Rattle.sound_journal.proofs.later_rows_zero.Tie as tie
 

@@ -3,7 +3,7 @@ use Rattle.sound_header.specs.Clauses.{rowStands}
 use Rattle.lists.specs.Tests.{allOf}
 use borrow.Author.Tests.{not-true, not-false}
 use mathlib.Core.Bool.{and-true, and-false}
-use mathlib.Core.Path.{_≡_, sym, _∙_}
+use mathlib.Core.Path.{sym, _∙_}
 use borrow.Author.Needs.{needs}
 use Rattle.sound_journal.proofs.other_stands.Statement.{statement}
 use Rattle.sound_journal.proofs.other_stands.Tie as tie

@@ -4,12 +4,9 @@ use Rattle.sound_header.specs.Clauses.{tablesAt, restZero}
 use Rattle.sound_header.proofs.LengthLaws.{Lengths, lengths-known}
 use Rattle.rules.specs.Tables.{bookOf, usedFits, laterRowsZero, rowsUsed, roomIn}
 use Rattle.rules.specs.Opening.{dayFits}
-use Rattle.records.specs.Encoding.{word}
 use borrow.Author.Tests.{not-true, not-false, lt-leb}
-use mathlib.Core.Bool.{true, false}
-use mathlib.Core.Path.{_≡_, refl, sym, ap, _∙_}
+use mathlib.Core.Path.{refl, sym, ap, _∙_}
 use native.Mathlib.Omega.{arith}
-use Prim.Native.Nat.{_≤_, _<_}
 use borrow.Author.Needs.{needs}
 use Rattle.soundness.proofs.sound.Statement.{statement}
 use Rattle.soundness.proofs.sound.Tie as tie

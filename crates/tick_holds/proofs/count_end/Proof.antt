@@ -1,5 +1,5 @@
 -- `count_end` meets its contract: the count takes the row's share.
-use mathlib.Core.Path.{_≡_, refl, sym, _∙_}
+use mathlib.Core.Path.{_≡_, _∙_}
 use mathlib.Core.Bool.{cond}
 use Rattle.rules.specs.Tick.{holdEnds}
 use Rattle.account_sums.proofs.SumsLaws.{one-small, share-skipped, share-asked, share-added}

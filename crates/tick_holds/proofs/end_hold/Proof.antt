@@ -1,6 +1,5 @@
 -- `end_hold` meets its contract.
-use native.Mathlib.Omega.{arith}
-use mathlib.Core.Path.{_≡_, refl, sym, _∙_}
+use mathlib.Core.Path.{refl, sym, _∙_}
 use Rattle.tables.proofs.ChangeLaws.{unchanged}
 use Rattle.tick_base.proofs.StageLaws.{no-end}
 use Rattle.tick_holds.proofs.HoldLaws.{release-due}
@@ -8,6 +7,7 @@ use Rattle.records.specs.Encoding.{rowAt}
 use borrow.Author.Needs.{needs}
 use Rattle.tick_holds.proofs.end_hold.Statement.{statement}
 use Rattle.tick_holds.proofs.end_hold.Tie as tie
+use Rattle.preservation.proofs.TickSteps.{endHold-ends, endHold-goes-on}
 
 dispute-at-requires : tie.Need-dispute-at-requires
 dispute-at-requires c κs = search needs
@@ -18,7 +18,8 @@ same-length c = search needs
 returns : tie.Need-returns
 returns c =
     let a = c .before .before .before .args in
-    rw (no-end (a .today) (rowAt (a .journal .now) (a .i)) (λ e. c .if1 .taken (c .before .dispute-at .ensures ∙ e))) (unchanged rowAt _ _ _ refl)
+    let r = rowAt (a .journal .now) (a .i) in
+    rw (endHold-goes-on (a .today) r (no-end (a .today) r (λ e. c .if1 .taken (c .before .dispute-at .ensures ∙ e)))) (unchanged rowAt _ _ _ refl)
 
 read-row-requires : tie.Need-read-row-requires
 read-row-requires c κs = search needs
@@ -47,7 +48,7 @@ returns-2 : tie.Need-returns-2
 returns-2 c =
     let r = c .before .before .before .before .before .before .read-row .ensures in
     let e = rw r at (sym (c .before .before .before .before .before .hold-ends .ensures) ∙ c .before .before .before .before .if2 .taken) in
-    rw e (rw (c .before .before .released .ensures, r) at (c .before .write-row .ensures))
+    rw (endHold-ends _ _ e) (rw (c .before .before .released .ensures, r) at (c .before .write-row .ensures))
 
 same-length-3 : tie.Need-same-length-3
 same-length-3 c = search needs
@@ -56,7 +57,7 @@ returns-3 : tie.Need-returns-3
 returns-3 c =
     let r = c .before .before .read-row .ensures in
     let e = rw r at (sym (c .before .hold-ends .ensures) ∙ c .if2 .left) in
-    rw e (unchanged rowAt _ _ _ refl)
+    rw (endHold-goes-on _ _ e) (unchanged rowAt _ _ _ refl)
 
 pub end-hold-spec : {M : Type 1} → statement M
 end-hold-spec =

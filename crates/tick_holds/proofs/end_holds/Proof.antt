@@ -1,17 +1,16 @@
 -- `end_holds` meets its contract: the rows passed are mapped.
 use native.Mathlib.Omega.{arith}
-use mathlib.Core.Path.{_≡_, refl, sym, _∙_}
+use mathlib.Core.Path.{_≡_}
 use Prim.Native.Nat.{_-_, _≤_}
-use lib.ListN.{length}
 use Rattle.records.specs.Encoding.{rowAt}
 use Rattle.tables.specs.Changes.{RowsMapped}
 use Rattle.tables.proofs.ChangeLaws.{mapped-none, mapped-more}
-use Rattle.tick_rules.proofs.FreedLaws.{atDawn}
+use Rattle.rules.specs.Tick.{endHold}
 use Rattle.tick_holds.proofs.end_holds.Statement.{statement}
 use Rattle.tick_holds.proofs.end_holds.Tie as tie
 
 abbrev Inv-loop : tie.InvT-loop
-Inv-loop journal₀ used today i₀ journal i = (i ≤ used) × RowsMapped (atDawn today) journal₀ journal i
+Inv-loop journal₀ used today i₀ journal i = (i ≤ used) × RowsMapped (endHold today) journal₀ journal i
 
 abbrev μ-loop : tie.MeasureT-loop
 μ-loop journal₀ used today i₀ journal i = used - i

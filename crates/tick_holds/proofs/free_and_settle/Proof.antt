@@ -6,13 +6,13 @@ use Rattle.posting.proofs.BookLaws.{day-small, count-small, journal-settles}
 use Rattle.account_sums.proofs.TallyLaws.{tallied-none}
 use Rattle.tick_base.proofs.MidwayLaws.{sound-midway, midway-countable}
 use Rattle.tick_holds.specs.Holds.{endsOf}
-use Rattle.tick_holds.proofs.HoldLaws.{sound-dawning, mapped-journal, dusk-written, dusk-same}
+use Rattle.tick_holds.proofs.HoldLaws.{sound-ending, mapped-journal, unraised-written, unraised-same}
 use borrow.Author.Needs.{needs}
 use Rattle.tick_holds.proofs.free_and_settle.Statement.{statement}
 use Rattle.tick_holds.proofs.free_and_settle.Tie as tie
 
 returns : tie.Need-returns
-returns c = dusk-same _ _ (c .before .pre) (not-true _ (c .if1 .taken))
+returns c = unraised-same _ _ (c .before .pre) (not-true _ (c .if1 .taken))
 
 get-requires : tie.Need-get-requires
 get-requires c κs = omega (arith, header-length _ (c .before .pre .sound))
@@ -27,7 +27,7 @@ count-ends-requires : tie.Need-count-ends-requires
 count-ends-requires c κs = (rw (c .before .before .before .get .ensures) (midway-countable _ _ (sound-midway _ (c .before .before .before .before .before .pre .sound))), tallied-none (endsOf _) 257 _)
 
 end-holds-requires : tie.Need-end-holds-requires
-end-holds-requires c κs = rw (c .before .before .before .before .before .get .ensures, c .before .before .before .before .get2 .ensures) (sound-dawning _ (c .before .before .before .before .before .before .before .pre .sound))
+end-holds-requires c κs = rw (c .before .before .before .before .before .get .ensures, c .before .before .before .before .get2 .ensures) (sound-ending _ (c .before .before .before .before .before .before .before .pre .sound))
 
 settle-freed-requires : tie.Need-settle-freed-requires
 settle-freed-requires c κs =
@@ -43,7 +43,7 @@ returns-2 c =
     let s = c .before .before .before .before .before .before .before .before .before .before .before .before .before .pre .sound in
     let u = c .before .before .before .before .before .before .before .before .before .before .before .get .ensures in
     let d = c .before .before .before .before .before .before .before .before .before .before .get2 .ensures in
-    dusk-written _ s _ _ _ (rw (u, d) at (c .before .before .before .before .before .before .before .count-ends .ensures)) (rw (u, d) at (c .before .before .before .before .before .end-holds .ensures)) (rw u at (c .before .settle-freed .ensures)) (count-small _ s)
+    unraised-written _ s _ _ _ (rw (u, d) at (c .before .before .before .before .before .before .before .count-ends .ensures)) (rw (u, d) at (c .before .before .before .before .before .end-holds .ensures)) (rw u at (c .before .settle-freed .ensures)) (count-small _ s)
 
 pub free-and-settle-spec : {M : Type 1} → statement M
 free-and-settle-spec =

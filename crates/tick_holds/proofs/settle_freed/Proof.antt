@@ -1,6 +1,6 @@
 -- `settle_freed` meets its contract: of the accounts passed those are settled of which a hold has ended.
 use native.Mathlib.Omega.{arith}
-use mathlib.Core.Path.{_≡_, refl, sym, _∙_}
+use mathlib.Core.Path.{_≡_}
 use Prim.Native.Nat.{_-_, _≤_}
 use Rattle.tick_holds.specs.Holds.{SettledThose}
 use Rattle.tick_holds.proofs.HoldLaws.{settled-journal, settled-none, settled-more}

@@ -1,5 +1,4 @@
 -- `settle_if` meets its contract.
-use mathlib.Core.Path.{_≡_, refl, sym, _∙_}
 use Rattle.tick_holds.proofs.HoldLaws.{settled-one, settled-not}
 use borrow.Author.Needs.{needs}
 use Rattle.tick_holds.proofs.settle_if.Statement.{statement}

@@ -2,10 +2,9 @@
 use borrow.Author.Needs.{needs}
 use Rattle.sound_passages.specs.Trees.{IsToll}
 use Rattle.sound_passages.proofs.TreeLaws.{Way, root-fits, root-low, way-start, way-row, way-next, way-taken, way-free}
-use lib.ListN.{getD}
-use mathlib.Core.Path.{_≡_, refl, sym, ap, _∙_}
+use mathlib.Core.Path.{_≡_, sym, _∙_}
 use native.Mathlib.Omega.{arith}
-use Prim.Native.Nat.{ℕ, _+_, _*_, _-_, _/_, _%_, _<_}
+use Prim.Native.Nat.{_+_, _*_, _-_, _<_}
 use Rattle.sound_passages.proofs.passages.spot.Statement.{statement}
 use Rattle.sound_passages.proofs.passages.spot.Tie as tie
 

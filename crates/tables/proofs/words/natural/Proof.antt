@@ -1,8 +1,9 @@
 -- `natural` meets its contract: each way through the test is the definition's; a signed local is its bits, read back.
-use Rattle.tables.proofs.WordLaws.{is-negative, not-negative, cast-fits}
+use Rattle.tables.proofs.WordLaws.{is-negative, not-negative}
 use mir.Facts.{toZ-ofZ}
 use Rattle.tables.proofs.words.natural.Statement.{statement}
 use Rattle.tables.proofs.words.natural.Tie as tie
+use Rattle.lists.proofs.SignLaws.{cast-fits}
 
 cast-result : tie.Need-cast-result
 cast-result c = rw (toZ-ofZ (c .before .fits .x)) (cast-fits _ (c .before .fits .x) (rw (toZ-ofZ (c .before .fits .x)) at (c .if1 .left)))

@@ -1,6 +1,5 @@
 -- `days::days_over` meets its contract.
 use native.Mathlib.Omega.{arith}
-use mathlib.Core.Path.{_≡_, refl, sym, _∙_}
 use borrow.Author.Tests.{ne-eqb}
 use Rattle.tick_base.specs.Remainders.{daysOver}
 use Rattle.tick_base.proofs.StageLaws.{over-before, over-at}

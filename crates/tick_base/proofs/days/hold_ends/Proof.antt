@@ -1,6 +1,6 @@
 -- `days::hold_ends` meets its contract.
 use native.Mathlib.Omega.{arith}
-use mathlib.Core.Path.{_≡_, refl, sym, _∙_}
+use mathlib.Core.Path.{_≡_, sym, _∙_}
 use borrow.Author.Tests.{not-true, not-false}
 use mathlib.Core.Bool.{false}
 use Rattle.rules.specs.Rows.{heldToll}

@@ -1,7 +1,7 @@
 -- `stages::fee_due` meets its contract.
 use borrow.Author.Needs.{needs}
 use native.Mathlib.Omega.{arith}
-use mathlib.Core.Path.{_≡_, refl, sym, _∙_}
+use mathlib.Core.Path.{sym, _∙_}
 use Rattle.tick_base.proofs.StageLaws.{riser-low}
 use Rattle.tick_base.proofs.stages.fee_due.Statement.{statement}
 use Rattle.tick_base.proofs.stages.fee_due.Tie as tie

@@ -1,7 +1,7 @@
 -- `stages::fee_of_stage` meets its contract: the fees stand stage by stage.
 use borrow.Author.Needs.{needs}
 use native.Mathlib.Omega.{arith}
-use mathlib.Core.Path.{_≡_, _∙_}
+use mathlib.Core.Path.{_∙_}
 use Rattle.tick_base.proofs.StageLaws.{fee-low, fee-high, fee-place}
 use Rattle.tick_base.proofs.stages.fee_of_stage.Statement.{statement}
 use Rattle.tick_base.proofs.stages.fee_of_stage.Tie as tie

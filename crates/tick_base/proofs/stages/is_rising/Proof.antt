@@ -1,6 +1,5 @@
 -- `stages::is_rising` meets its contract.
 use borrow.Author.Needs.{needs}
-use mathlib.Core.Path.{_≡_, refl}
 use Rattle.rules.specs.Tick.{rises}
 use Rattle.tick_base.proofs.stages.is_rising.Statement.{statement}
 use Rattle.tick_base.proofs.stages.is_rising.Tie as tie

@@ -1,6 +1,6 @@
 -- `fees::fee_rows` meets its contract.
 use native.Mathlib.Omega.{arith}
-use mathlib.Core.Path.{_≡_, refl, sym, _∙_}
+use mathlib.Core.Path.{_≡_, refl, _∙_}
 use mathlib.Core.Bool.{false}
 use Rattle.records.specs.Encoding.{rowAt}
 use Rattle.rules.specs.Tick.{rises}

@@ -1,8 +1,6 @@
 -- `refunds::refund_rows` meets its contract.
 use borrow.Author.Needs.{needs}
 use native.Mathlib.Omega.{arith}
-use mathlib.Core.Bool.{true, false}
-use mathlib.Core.Path.{_≡_, refl, sym, _∙_}
 use Rattle.tick_plan.specs.Plans.{refundBy}
 use Rattle.tick_plan.proofs.refunds.refund_rows.Statement.{statement}
 use Rattle.tick_plan.proofs.refunds.refund_rows.Tie as tie

@@ -1,8 +1,8 @@
 -- `refunds::refunds_added` meets its contract: n rows are brought by the accounts passed, at most one by each.
-use Prim.Native.Nat.{_+_, _-_, _≤_}
+use Prim.Native.Nat.{_-_, _≤_}
 use native.Mathlib.Omega.{arith}
-use mathlib.Core.Path.{_≡_, refl, _∙_}
-use lib.ListN.{length, getD}
+use mathlib.Core.Path.{_≡_, refl}
+use lib.ListN.{length}
 use Rattle.lists.specs.Lists.{gather, gatherFrom, tabulate}
 use Rattle.lists.proofs.GatherLaws.{length-gather-tabulate}
 use Rattle.records.specs.Encoding.{accountAt, accountsOf}

@@ -1,6 +1,6 @@
 -- A tick's first steps keep the relation: the day rises, old holds end, open days and ticks are counted, and settlement follows.
 use mathlib.Core.Path.{_≡_, refl, sym, ap, _∙_}
-use mathlib.Core.Bool.{Bool, true, false, not, cond, _&&_, true≢false, false≢true}
+use mathlib.Core.Bool.{Bool, true, false, not, cond, _&&_, true≢false, false≢true, and-false}
 use Prim.Native.Nat.{ℕ, suc, _+_, _*_, _≤_}
 use native.Mathlib.Omega.{arith}
 use mathlib.Core.List.{List, map}
@@ -8,14 +8,15 @@ use lib.ListN.{length}
 use lib.Dec.{eqb, ltb}
 use borrow.Author.Tests.{eqb-true, eqb-false}
 use Rattle.lists.specs.Tests.{_is_}
-use Rattle.lists.proofs.TestLaws.{and-false, cond-either}
+use Rattle.lists.proofs.TestLaws.{cond-either}
 use Rattle.lists.proofs.PairLaws.{pairs-map-in, pairs-map-self, pairs-length}
 use Rattle.rules.specs.Limits.{holdDays}
 use Rattle.rules.specs.Rows.{Row, blank, toll, heldToll, unsettled}
 use Rattle.rules.specs.Book.{Book, settled}
 use Rattle.rules.specs.Events.{release}
-use Rattle.rules.specs.Tick.{nextDay, holdEnds, endHolds, beforeRaising}
+use Rattle.rules.specs.Tick.{nextDay, holdEnds, endHold, endHolds, beforeRaising}
 use Rattle.rules.proofs.SoundnessLaws.{Near}
+use Rattle.preservation.proofs.TickSteps.{endHold-keeps}
 use Rattle.replay.specs.Entries.{Entry, noEntry, isToll, withHold, withTicks, withOpenDays, settleAllEntries}
 use Rattle.replay.specs.Replay.{Replay, gains, countTick, countDay}
 use Rattle.replay.proofs.Relation.{Face, Track, Match, Rows, Alike}
@@ -24,10 +25,7 @@ use Rattle.replay.proofs.Settling.{settleAll-pairs}
 use Rattle.replay.proofs.Growing.{referring, SameToll, regrow, match-keep}
 use Rattle.replay.proofs.RowEvents.{release-match}
 
--- ---- a row and its entry at dawn
-
-unfoldable pub dawn : ℕ → Row → Row
-dawn today r = cond (holdEnds today r) (release today r) r
+-- ---- a row whose hold may end, and its entry
 
 -- "neither covered whole nor held"
 pub gains-same : (r : Row) (x : Entry) → Face r x → gains x ≡ (toll r && unsettled r && not (heldToll r))
@@ -46,9 +44,9 @@ module _ (today L : ℕ) (r : Row) (x : Entry) (m : Match 0 today L r x) where
   t = m .track
 
   -- a held toll: its ticks are counted, and its hold ends by the thirtieth
-  held-dawn : heldToll r ≡ true → r .hold ≤ today → Match 1 (today + 1) L (dawn (today + 1) r) (countDay x)
-  unfolding dawn holdEnds countDay countTick f t
-  held-dawn h l =
+  held-ended : heldToll r ≡ true → r .hold ≤ today → Match 1 (today + 1) L (endHold (today + 1) r) (countDay x)
+  unfolding endHold holdEnds countDay countTick f t
+  held-ended h l =
       let held : x .hold ≡ true = sym (f .hold) ∙ h in
       let g : gains x ≡ false = gains-same r x f ∙ rw h (and-false (toll r && unsettled r)) in
       let c : x .ticks + r .hold ≡ today = t .ticks h in
@@ -78,9 +76,9 @@ module _ (today L : ℕ) (r : Row) (x : Entry) (m : Match 0 today L r x) where
       go false false p q = counted
 
   -- one that is not held
-  free-dawn : heldToll r ≡ false → Match 1 (today + 1) L (dawn (today + 1) r) (countDay x)
-  unfolding dawn holdEnds countDay f t
-  free-dawn h =
+  free-ended : heldToll r ≡ false → Match 1 (today + 1) L (endHold (today + 1) r) (countDay x)
+  unfolding endHold holdEnds countDay f t
+  free-ended h =
       let free : x .hold ≡ false = sym (f .hold) ∙ h in
       let e : countDay x ≡ cond (gains x) (withOpenDays (x .open-days + 1) x) x =
       ap {B = Entry} (λ (v : Bool). cond (gains x) (withOpenDays (x .open-days + 1) x) (cond v (countTick x) x)) free in
@@ -108,18 +106,13 @@ module _ (today L : ℕ) (r : Row) (x : Entry) (m : Match 0 today L r x) where
         };
       }
 
-pub dawn-match : (today L accounts : ℕ) (rows : List Row) (n : ℕ) (r : Row) (x : Entry) → SoundRow today accounts rows n r → Match 0 today L r x
-    → Match 1 (today + 1) L (dawn (today + 1) r) (countDay x)
-dawn-match today L accounts rows n r x s m = go (heldToll r) refl
+pub ended-match : (today L accounts : ℕ) (rows : List Row) (n : ℕ) (r : Row) (x : Entry) → SoundRow today accounts rows n r → Match 0 today L r x
+    → Match 1 (today + 1) L (endHold (today + 1) r) (countDay x)
+ended-match today L accounts rows n r x s m = go (heldToll r) refl
   where
-    go : (v : Bool) → heldToll r ≡ v → Match 1 (today + 1) L (dawn (today + 1) r) (countDay x)
-    go true h = held-dawn today L r x m h (s .holding h .past)
-    go false h = free-dawn today L r x m h
-
--- what dawn does not touch
-pub dawn-keeps : {B : Type 0} (g : Row → B) → ((r : Row) (today : ℕ) → g (release today r) ≡ g r) → (today : ℕ) (r : Row) → g (dawn today r) ≡ g r
-unfolding dawn
-dawn-keeps g f today r = cond-either (λ (s : Row). g s ≡ g r) (holdEnds today r) (release today r) r (f r today) refl
+    go : (v : Bool) → heldToll r ≡ v → Match 1 (today + 1) L (endHold (today + 1) r) (countDay x)
+    go true h = held-ended today L r x m h (s .holding h .past)
+    go false h = free-ended today L r x m h
 
 day-toll : (x : Entry) → SameToll x (countDay x)
 unfolding countDay countTick
@@ -130,19 +123,19 @@ day-toll x =
 -- ---- all rows, settled
 
 module _ (b : Book) (p : Replay) (near : Near (b .day) b) (a : Alike b p) where
-  pub dawn-rows : Rows (Match 1 (b .day + 1) (b .schedule .stage)) (map (dawn (b .day + 1)) (b .rows)) (map countDay (p .entries))
-  dawn-rows =
+  pub ended-alike : Rows (Match 1 (b .day + 1) (b .schedule .stage)) (map (endHold (b .day + 1)) (b .rows)) (map countDay (p .entries))
+  ended-alike =
       regrow (b .rows) (p .entries) (referring b near) (a .rows) _ _
-      (pairs-map-self (dawn (b .day + 1)) (λ r. record {
-        kind = dawn-keeps (λ s. s .kind) (λ s today. unfold release in refl) (b .day + 1) r;
-        reference = dawn-keeps (λ s. s .reference) (λ s today. unfold release in refl) (b .day + 1) r;
+      (pairs-map-self (endHold (b .day + 1)) (λ r. record {
+        kind = endHold-keeps (λ s. s .kind) (λ s today. unfold release in refl) (b .day + 1) r;
+        reference = endHold-keeps (λ s. s .reference) (λ s today. unfold release in refl) (b .day + 1) r;
       }) (b .rows))
       (pairs-map-self countDay day-toll (p .entries))
-      (pairs-map-in (dawn (b .day + 1)) countDay blank noEntry (a .rows)
-      (λ k h m. dawn-match (b .day) (b .schedule .stage) (length (b .accounts)) (b .rows) (suc k) _ _ (sound-row b near k h) (m .is)))
+      (pairs-map-in (endHold (b .day + 1)) countDay blank noEntry (a .rows)
+      (λ k h m. ended-match (b .day) (b .schedule .stage) (length (b .accounts)) (b .rows) (suc k) _ _ (sound-row b near k h) (m .is)))
 
-  pub dusk-rows : Rows (Match 1 (b .day + 1) (b .schedule .stage)) (beforeRaising b .rows) (settleAllEntries (length (p .notes)) (map countDay (p .entries)))
-  unfolding beforeRaising settled endHolds nextDay dawn
-  dusk-rows =
+  pub unraised-alike : Rows (Match 1 (b .day + 1) (b .schedule .stage)) (beforeRaising b .rows) (settleAllEntries (length (p .notes)) (map countDay (p .entries)))
+  unfolding beforeRaising settled endHolds nextDay
+  unraised-alike =
       rw (← (pairs-length (a .notes)))
-      (settleAll-pairs (Match 1 (b .day + 1) (b .schedule .stage)) (λ r x m. m .face) (match-keep 1 (b .day + 1) (b .schedule .stage)) (length (b .accounts)) dawn-rows)
+      (settleAll-pairs (Match 1 (b .day + 1) (b .schedule .stage)) (λ r x m. m .face) (match-keep 1 (b .day + 1) (b .schedule .stage)) (length (b .accounts)) ended-alike)
