@@ -20,8 +20,8 @@ use Rattle.rules.specs.Book.{Account, unused, Instruction, account, accountNo, 
 use Rattle.rules.specs.Tables.{Tables, accountsIn, rowsUsed, bookOf, soundTables}
 use Rattle.rules.proofs.TableLaws.{sound-book, sound-rows}
 use Rattle.posting.proofs.BookLaws.{account-read, day-read, count-small, count-read, account-holds}
-use Rattle.sound_passages.specs.Trees.{passagesDiffer, Grown, Spot, Planted}
-use Rattle.sound_passages.proofs.TreeLaws.{grown-none}
+use Rattle.sound_passages.specs.Trees.{passagesDiffer, TreesOf, CellFor, Inserted}
+use Rattle.sound_passages.proofs.TreeLaws.{trees-none}
 use Rattle.account_sums.specs.Tallies.{Countable}
 use Rattle.balances.specs.Summed.{mayTopUp, isLow}
 use Rattle.tick_base.proofs.MidwayLaws.{sound-midway, midway-countable}
@@ -34,7 +34,7 @@ use Rattle.batch_index.proofs.SeatLaws.{seated-none}
 -- ---- the index is made
 
 pub index-none : (j : List ℤ) (cells seats : List ℕ) → Empty cells seats → IndexOf j 0 cells seats
-index-none j cells seats e = record { grown = rw (e .no-cell) (grown-none mostRows j 32768 refl (omega arith) (omega arith)); seated = rw (e .no-seat) (seated-none j 1028 refl) }
+index-none j cells seats e = record { trees = rw (e .no-cell) (trees-none mostRows j 32768 refl (omega arith) (omega arith)); seated = rw (e .no-seat) (seated-none j 1028 refl) }
 
 -- fewer rows
 pub countable-first : (j : List ℤ) (used n : ℕ) → Countable j used → n ≤ used → Countable j n
@@ -47,10 +47,10 @@ countable-first j used n c l = record {
   settled = λ i h. c .settled i (omega arith);
 }
 
--- in tables whose passage numbers differ a row is always planted
-pub planted-grown : (j : List ℤ) (cells : List ℕ) (n used : ℕ) (b : Bool) → n < used → passagesDiffer (rowsOf j used) ≡ true → Planted mostRows j cells n b → Grown mostRows j cells (n + 1)
-planted-grown j cells n used true l d p = p .good refl
-planted-grown j cells n used false l d p = absurd (true≢false (sym d ∙ p .bad refl used l))
+-- in tables whose passage numbers differ a row is always inserted
+pub inserted-trees : (j : List ℤ) (cells : List ℕ) (n used : ℕ) (b : Bool) → n < used → passagesDiffer (rowsOf j used) ≡ true → Inserted mostRows j cells n b → TreesOf mostRows j cells (n + 1)
+inserted-trees j cells n used true l d p = p .good refl
+inserted-trees j cells n used false l d p = absurd (true≢false (sym d ∙ p .bad refl used l))
 
 pub sound-indexable : (t : Tables) → soundTables t ≡ true → Indexable (t .journal) (rowsUsed t)
 sound-indexable t s = record { rows = midway-countable (bookOf t .day) t (sound-midway t s); differ = rw (sound-rows t s) at differ }
@@ -60,9 +60,9 @@ sound-indexable t s = record { rows = midway-countable (bookOf t .day) t (sound-
 
 -- ---- a passage number
 
-pub spot-stands : (t : Tables) → soundTables t ≡ true → (cells : List ℕ) (used x r : ℕ) → used ≡ rowsUsed t → Spot mostRows (t .journal) cells used x r
+pub cell-for-stands : (t : Tables) → soundTables t ≡ true → (cells : List ℕ) (used x r : ℕ) → used ≡ rowsUsed t → CellFor mostRows (t .journal) cells used x r
     → leb 32768 r ≡ exists (tollOf x) (bookOf t .rows)
-spot-stands t s cells used x r u p = rw (sound-rows t s, ← u) (go (decLt r 32768))
+cell-for-stands t s cells used x r u p = rw (sound-rows t s, ← u) (go (decLt r 32768))
   where
     go : Dec (r < 32768) → leb 32768 r ≡ exists (tollOf x) (rowsOf (t .journal) used)
     go (yes h) = lt-leb 32768 r h ∙ passage-absent (t .journal) x used (λ k l. elim (ℕ-discrete (rowAt (t .journal) k .kind) Toll) [

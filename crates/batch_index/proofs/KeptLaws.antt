@@ -22,7 +22,7 @@ use Rattle.rules.proofs.TableLaws.{sound-book, sound-rows, length-sound-rows, u
 use Rattle.preservation.proofs.SoundKept.{post-keeps-sound}
 use Rattle.preservation.proofs.RowsKept.{RowKept, post-keeps-rows}
 use Rattle.posting.specs.Posts.{Posts}
-use Rattle.sound_passages.specs.Trees.{Grown}
+use Rattle.sound_passages.specs.Trees.{TreesOf}
 use Rattle.batch_index.specs.Index.{onSide, ofSide, IndexOf, IndexedTo, Indexed}
 
 -- ---- a row
@@ -51,8 +51,8 @@ module _ (s a : ℕ) (x y : Row) (k : RowKept x y) where
 -- ---- the index of n rows, each kept
 
 module _ (j i : List ℤ) (n : ℕ) (kept : (k : ℕ) → k < n → RowKept (rowAt j k) (rowAt i k)) where
-  grown-kept : (cells : List ℕ) → Grown mostRows j cells n → Grown mostRows i cells n
-  grown-kept cells g = record {
+  trees-kept : (cells : List ℕ) → TreesOf mostRows j cells n → TreesOf mostRows i cells n
+  trees-kept cells g = record {
     some = g .some;
     few = g .few;
     size = g .size;
@@ -75,7 +75,7 @@ module _ (j i : List ℤ) (n : ℕ) (kept : (k : ℕ) → k < n → RowKept (row
   index-kept cells seats x =
       let t = x .seated in
       record {
-        grown = grown-kept cells (x .grown);
+        trees = trees-kept cells (x .trees);
         seated = record {
           sized = t .sized;
           first-in = t .first-in;

@@ -13,7 +13,7 @@ use Rattle.lists.specs.Lists.{sumBy, only}
 use Rattle.rules.specs.Limits.{mostRows}
 use Rattle.rules.specs.Rows.{Row, Test, source, debit, remaining}
 use Rattle.rules.specs.Tables.{Tables, rowsUsed}
-use Rattle.sound_passages.specs.Trees.{passagesDiffer, Grown}
+use Rattle.sound_passages.specs.Trees.{passagesDiffer, TreesOf}
 use Rattle.account_sums.specs.Tallies.{Countable}
 
 -- ---- the two sides: 0 the sources, 1 the debits
@@ -65,7 +65,7 @@ pub record NextOpen (p : Test) (j : List ℤ) (used i k : ℕ) : Type 0 where
 
 -- the index of the first n rows of a journal
 pub record IndexOf (j : List ℤ) (n : ℕ) (cells seats : List ℕ) : Type 0 where
-  pub grown : Grown mostRows j cells n
+  pub trees : TreesOf mostRows j cells n
   pub seated : Seated j n 0 seats
 
 -- the index of the first n rows of the tables

@@ -12,8 +12,8 @@ use records::Row;
 use row_tests::is_source;
 use row_tests::remaining_of;
 use sound_passages::passages::CELLS;
-use sound_passages::passages::plant;
-use sound_passages::passages::spot;
+use sound_passages::passages::insert;
+use sound_passages::passages::cell_for;
 use table_accounts::account_numbered;
 use table_rows::account_at;
 use table_rows::read_row;
@@ -189,7 +189,7 @@ fn index_rows(
 {
     let mut i = from;
     while i < used {
-        plant(journal, cells, MOST_ROWS, i);
+        insert(journal, cells, MOST_ROWS, i);
         add_amount(journal, i, seats);
         i += 1;
     }
@@ -231,7 +231,7 @@ pub fn look_up_indexed(
         debit: seat_word(seats, e.account, DEBITS) as usize,
     };
     if e.kind == TOLL_EVENT {
-        found.stands = spot(
+        found.stands = cell_for(
             journal,
             cells,
             MOST_ROWS,

@@ -13,7 +13,7 @@ use Rattle.lists.proofs.ListLaws.{zeros}
 use Rattle.records.specs.Encoding.{rowAt, rowsOf}
 use Rattle.rules.specs.Limits.{mostRows}
 use Rattle.sound_passages.specs.Trees.{passagesDiffer}
-use Rattle.sound_passages.specs.Trees.{mixOf, rootOf, IsToll, HasPassage, Leads, here, next, Kept, Grown, Spot}
+use Rattle.sound_passages.specs.Trees.{mixOf, rootOf, IsToll, HasPassage, Leads, here, next, Kept, TreesOf, CellFor}
 use Rattle.sound_passages.proofs.PassageLaws.{clash-same}
 
 leads-zero : {space : ℕ} {cells : List ℕ} {j y c : ℕ} → Leads space cells j y c → getD cells c 0 ≡ 0 → ⊥
@@ -44,11 +44,11 @@ root-fits space y b h = omega (arith, mul-le-mul {n₁ = y} {m₁ = space} {n₂
 pub root-low : (space y : ℕ) → y < 4_294_967_296 → 0 < space → rootOf space y < 2 * space
 root-low space y b h = div-lt-iff-lt-mul {k = 2_147_483_648} {x = y * space} {y = 2 * space} (omega arith) .1 (omega (arith, mul-lt-mul-of-pos-right {m = y} {n = 4_294_967_296} {k = space} b h))
 
-pub way-start : (space : ℕ) (t : List ℤ) (cells : List ℕ) (n x : ℕ) → Grown space t cells n → mixOf x < 4_294_967_296 → Way space t cells n x (mixOf x) (rootOf space (mixOf x)) (getD cells (rootOf space (mixOf x)) 0)
+pub way-start : (space : ℕ) (t : List ℤ) (cells : List ℕ) (n x : ℕ) → TreesOf space t cells n → mixOf x < 4_294_967_296 → Way space t cells n x (mixOf x) (rootOf space (mixOf x)) (getD cells (rootOf space (mixOf x)) 0)
 way-start space t cells n x g b =
     record { is = refl; low = omega (arith, root-low space (mixOf x) b (g .some)); rest = λ j q k e. rw e at (g .kept j q k); up = λ u h l. l }
 
-module _ (space : ℕ) (t : List ℤ) (cells : List ℕ) (n x y c s r : ℕ) (g : Grown space t cells n) (w : Way space t cells n x y c s) (e : s ≡ r + 1) where
+module _ (space : ℕ) (t : List ℤ) (cells : List ℕ) (n x y c s r : ℕ) (g : TreesOf space t cells n) (w : Way space t cells n x y c s) (e : s ≡ r + 1) where
   pub way-row : (r < n) × IsToll t r × (c < 2 * space + 2 * r)
   way-row = g .tolls c r (sym (w .is) ∙ e)
 
@@ -61,7 +61,7 @@ module _ (space : ℕ) (t : List ℤ) (cells : List ℕ) (n x y c s r : ℕ) (g 
         up = λ u h l. w .up u h (next r (h c r (sym (w .is) ∙ e)) l);
       }
 
-  pub way-taken : HasPassage t r x → Spot space t cells n x (32767 + s)
+  pub way-taken : HasPassage t r x → CellFor space t cells n x (32767 + s)
   way-taken q =
       record {
         taken = λ j f. let v : j ≡ r = omega arith in rw v (way-row .0, way-row .1, q);
@@ -71,7 +71,7 @@ module _ (space : ℕ) (t : List ℤ) (cells : List ℕ) (n x y c s r : ℕ) (g 
         way = λ b. absurd (omega arith);
       }
 
-pub way-free : (space : ℕ) (t : List ℤ) (cells : List ℕ) (n x y c s : ℕ) → n ≤ space → Grown space t cells n → Way space t cells n x y c s → s ≡ 0 → Spot space t cells n x c
+pub way-free : (space : ℕ) (t : List ℤ) (cells : List ℕ) (n x y c s : ℕ) → n ≤ space → TreesOf space t cells n → Way space t cells n x y c s → s ≡ 0 → CellFor space t cells n x c
 way-free space t cells n x y c s b g w z =
     record {
       taken = λ j f. absurd (omega (arith, w .low, g .few));
@@ -83,8 +83,8 @@ way-free space t cells n x y c s b g w z =
 
 -- ---- growth
 
-pub grown-none : (space : ℕ) (t : List ℤ) (a : ℕ) → a ≡ 4 * space → 0 < space → space ≤ mostRows → Grown space t (replicate a 0) 0
-grown-none space t a e b f =
+pub trees-none : (space : ℕ) (t : List ℤ) (a : ℕ) → a ≡ 4 * space → 0 < space → space ≤ mostRows → TreesOf space t (replicate a 0) 0
+trees-none space t a e b f =
     record {
       some = b;
       few = f;
@@ -104,8 +104,8 @@ clean-more t n c d j k q b x y e =
       | no v ↦ c j k q (omega arith) x y e
     ]
 
-pub grown-skip : (space : ℕ) (t : List ℤ) (cells : List ℕ) (n : ℕ) → Grown space t cells n → (IsToll t n → ⊥) → Grown space t cells (n + 1)
-grown-skip space t cells n g q =
+pub trees-skip : (space : ℕ) (t : List ℤ) (cells : List ℕ) (n : ℕ) → TreesOf space t cells n → (IsToll t n → ⊥) → TreesOf space t cells (n + 1)
+trees-skip space t cells n g q =
     record {
       some = g .some;
       few = g .few;
@@ -122,8 +122,8 @@ grown-skip space t cells n g q =
 kept-on : (cells : List ℕ) (n r : ℕ) → getD cells r 0 ≡ 0 → (k v : ℕ) → getD cells k 0 ≡ v + 1 → getD (set cells r (n + 1)) k 0 ≡ v + 1
 kept-on cells n r z k v e = rw (getD-set-other cells r k (n + 1) 0 (λ w. let z' = rw (← w) at z in omega arith)) e
 
-pub grown-add : (space : ℕ) (t : List ℤ) (cells : List ℕ) (n r : ℕ) → Grown space t cells n → n < space → IsToll t n → r < 32768 → Spot space t cells n (rowAt t n .reference) r → Grown space t (set cells r (n + 1)) (n + 1)
-grown-add space t cells n r g h q b s =
+pub trees-add : (space : ℕ) (t : List ℤ) (cells : List ℕ) (n r : ℕ) → TreesOf space t cells n → n < space → IsToll t n → r < 32768 → CellFor space t cells n (rowAt t n .reference) r → TreesOf space t (set cells r (n + 1)) (n + 1)
+trees-add space t cells n r g h q b s =
     let d : r < length cells = omega (arith, g .size, s .low b) in
     let same : getD (set cells r (n + 1)) r 0 ≡ n + 1 = getD-set-same cells r (n + 1) 0 d in
     record {
@@ -143,5 +143,5 @@ grown-add space t cells n r g h q b s =
       clean = clean-more t n (g .clean) (λ j f x y z. s .none b j f x z);
     }
 
-pub taken-same : (space : ℕ) (t : List ℤ) (cells : List ℕ) (n r : ℕ) → IsToll t n → 32768 ≤ r → Spot space t cells n (rowAt t n .reference) r → (m : ℕ) → n < m → passagesDiffer (rowsOf t m) ≡ false
+pub taken-same : (space : ℕ) (t : List ℤ) (cells : List ℕ) (n r : ℕ) → IsToll t n → 32768 ≤ r → CellFor space t cells n (rowAt t n .reference) r → (m : ℕ) → n < m → passagesDiffer (rowsOf t m) ≡ false
 taken-same space t cells n r q b s m f = let a = s .taken (r - 32768) (omega arith) in clash-same t m (r - 32768) n (a .0) f (a .1) q (a .2)

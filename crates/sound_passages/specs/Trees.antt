@@ -40,7 +40,7 @@ abbrev pub Kept : ℕ → List ℕ → ℕ → ℕ → Type 0
 Kept space cells j x = Leads space cells j (mixOf x) (rootOf space (mixOf x))
 
 -- what holds after the first n rows
-pub record Grown (space : ℕ) (t : List ℤ) (cells : List ℕ) (n : ℕ) : Type 0 where
+pub record TreesOf (space : ℕ) (t : List ℤ) (cells : List ℕ) (n : ℕ) : Type 0 where
   pub some : 0 < space
   pub few : space ≤ mostRows
   pub size : length cells ≡ 4 * space
@@ -49,13 +49,13 @@ pub record Grown (space : ℕ) (t : List ℤ) (cells : List ℕ) (n : ℕ) : Typ
   pub clean : (j k : ℕ) → j < k → k < n → IsToll t j → IsToll t k → HasPassage t j (rowAt t k .reference) → ⊥
 
 -- where passage x goes: r is a free cell on its way, or 32768 + j for a toll j of passage x
-pub record Spot (space : ℕ) (t : List ℤ) (cells : List ℕ) (n x r : ℕ) : Type 0 where
+pub record CellFor (space : ℕ) (t : List ℤ) (cells : List ℕ) (n x r : ℕ) : Type 0 where
   pub taken : (j : ℕ) → r ≡ 32768 + j → (j < n) × IsToll t j × HasPassage t j x
   pub low : r < 32768 → r < 2 * space + 2 * n
   pub free : r < 32768 → getD cells r 0 ≡ 0
   pub none : r < 32768 → (j : ℕ) → j < n → IsToll t j → HasPassage t j x → ⊥
   pub way : r < 32768 → (u : List ℕ) → ((c v : ℕ) → getD cells c 0 ≡ v + 1 → getD u c 0 ≡ v + 1) → getD u r 0 ≡ n + 1 → Kept space u n x
 
-pub record Planted (space : ℕ) (t : List ℤ) (cells : List ℕ) (n : ℕ) (r : Bool) : Type 0 where
-  pub good : r ≡ true → Grown space t cells (n + 1)
+pub record Inserted (space : ℕ) (t : List ℤ) (cells : List ℕ) (n : ℕ) (r : Bool) : Type 0 where
+  pub good : r ≡ true → TreesOf space t cells (n + 1)
   pub bad : r ≡ false → (m : ℕ) → n < m → passagesDiffer (rowsOf t m) ≡ false

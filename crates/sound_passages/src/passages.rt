@@ -9,7 +9,7 @@ ghost use Prim.Native.Nat.{_+_, _*_, _≤_, _<_};
 ghost use lib.ListN.{length};
 ghost use Rattle.records.specs.Layout.{rowWidth};
 ghost use Rattle.tables.specs.Changes.{RowIn};
-ghost use Rattle.sound_passages.specs.Trees.{mixOf, IsToll, HasPassage, Grown, Spot, Planted};
+ghost use Rattle.sound_passages.specs.Trees.{mixOf, IsToll, HasPassage, TreesOf, CellFor, Inserted};
 
 // A cell holds a row's number, 0 for none. The first half of the cells are the trees' roots; then each row has two cells, its branches.
 pub const ROW_CELLS: usize = 4;
@@ -31,9 +31,9 @@ fn wide(x: u16) -> usize
 }
 
 // Where passage x goes among the first n rows, in cells with space for as many or more: a free cell, or CELLS and more where a toll has it.
-pub fn spot(journal: &[i64], cells: &[u16], space: usize, n: usize, x: u64) -> usize
-    requires { ⌜ (n * rowWidth ≤ length (now journal)) × (n ≤ space) × Grown space (now journal) (now cells) n ⌝ }
-    ensures { λ r. ⌜ Spot space (now (journal .entry)) (now (cells .entry)) n x r ⌝ }
+pub fn cell_for(journal: &[i64], cells: &[u16], space: usize, n: usize, x: u64) -> usize
+    requires { ⌜ (n * rowWidth ≤ length (now journal)) × (n ≤ space) × TreesOf space (now journal) (now cells) n ⌝ }
+    ensures { λ r. ⌜ CellFor space (now (journal .entry)) (now (cells .entry)) n x r ⌝ }
 {
     let mut y = mix(x);
     // A product chooses the root: a division by a number that is no constant would be slow.
@@ -51,11 +51,11 @@ pub fn spot(journal: &[i64], cells: &[u16], space: usize, n: usize, x: u64) -> u
 }
 
 // Row n, a toll of passage x, goes to its cell: false where an earlier toll has its passage number.
-pub fn plant_toll(journal: &[i64], cells: &mut [u16], space: usize, n: usize, x: u64) -> bool
-    requires { ⌜ RowIn (now journal) n × (n < space) × Grown space (now journal) (now cells) n × IsToll (now journal) n × HasPassage (now journal) n x ⌝ }
-    ensures { λ r. ⌜ Planted space (now (journal .entry)) (now (cells .exit)) n r ⌝ }
+pub fn insert_toll(journal: &[i64], cells: &mut [u16], space: usize, n: usize, x: u64) -> bool
+    requires { ⌜ RowIn (now journal) n × (n < space) × TreesOf space (now journal) (now cells) n × IsToll (now journal) n × HasPassage (now journal) n x ⌝ }
+    ensures { λ r. ⌜ Inserted space (now (journal .entry)) (now (cells .exit)) n r ⌝ }
 {
-    let c = spot(journal, cells, space, n, x);
+    let c = cell_for(journal, cells, space, n, x);
     if c >= CELLS {
         return false;
     }
@@ -64,13 +64,13 @@ pub fn plant_toll(journal: &[i64], cells: &mut [u16], space: usize, n: usize, x:
 }
 
 // The same for a row of any kind: one that is no toll leaves the trees.
-pub fn plant(journal: &[i64], cells: &mut [u16], space: usize, n: usize) -> bool
-    requires { ⌜ RowIn (now journal) n × (n < space) × Grown space (now journal) (now cells) n ⌝ }
-    ensures { λ r. ⌜ Planted space (now (journal .entry)) (now (cells .exit)) n r ⌝ }
+pub fn insert(journal: &[i64], cells: &mut [u16], space: usize, n: usize) -> bool
+    requires { ⌜ RowIn (now journal) n × (n < space) × TreesOf space (now journal) (now cells) n ⌝ }
+    ensures { λ r. ⌜ Inserted space (now (journal .entry)) (now (cells .exit)) n r ⌝ }
 {
     if kind_at(journal, n) != TOLL {
         return true;
     }
     let x = reference_at(journal, n);
-    plant_toll(journal, cells, space, n, x)
+    insert_toll(journal, cells, space, n, x)
 }

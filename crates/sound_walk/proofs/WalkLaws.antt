@@ -21,7 +21,7 @@ use Rattle.rules.proofs.StorableLaws.{amount-le, settled-le, used-inside}
 use Rattle.sound_header.specs.declared.frame.Frame.{Frame}
 use Rattle.sound_header.specs.Clauses.{ownWords, rowAlone, rowStands, rowsStand, standsIn}
 use Rattle.sound_journal.proofs.JournalLaws.{stands-alike, stands-same}
-use Rattle.sound_passages.specs.Trees.{passagesDiffer, Grown}
+use Rattle.sound_passages.specs.Trees.{passagesDiffer, TreesOf}
 use Rattle.sound_fees.specs.Fees.{feesFew, Counted}
 use Rattle.account_sums.specs.Columns.{Tallies, Addable}
 use Rattle.account_sums.proofs.SumsLaws.{no-source-debit}
@@ -101,6 +101,6 @@ module _ (accounts journal : List ℤ) (f : Frame) where
 
       -- and is entered everywhere
       pub row-walks : {cells counts sums cells₁ counts₁ sums₁ : List ℕ} → Walked accounts journal f cells counts sums i
-          → Grown (f .space) journal cells₁ (i + 1) → Counted (f .space) journal counts₁ (i + 1) → Tallies journal (f .used) sums₁ (i + 1) → Walks accounts journal f cells₁ counts₁ sums₁ (i + 1) true
+          → TreesOf (f .space) journal cells₁ (i + 1) → Counted (f .space) journal counts₁ (i + 1) → Tallies journal (f .used) sums₁ (i + 1) → Walks accounts journal f cells₁ counts₁ sums₁ (i + 1) true
       row-walks w g c s =
-          walks-good record { stood = below-more _ _ (w .stood) (sym (stands-alike accounts journal f (t .bounds) i (t .inside) r (t .alike)) ∙ e); grown = g; fees = c; tallies = s }
+          walks-good record { stood = below-more _ _ (w .stood) (sym (stands-alike accounts journal f (t .bounds) i (t .inside) r (t .alike)) ∙ e); trees = g; fees = c; tallies = s }

@@ -12,14 +12,14 @@ use Rattle.rules.specs.Rows.{Row, Fee}
 use Rattle.plain_rows.specs.Alike.{AlikeRow}
 use Rattle.sound_header.specs.declared.frame.Frame.{Frame}
 use Rattle.sound_header.specs.Clauses.{rowsStand, standsIn, Bounds}
-use Rattle.sound_passages.specs.Trees.{passagesDiffer, Grown}
+use Rattle.sound_passages.specs.Trees.{passagesDiffer, TreesOf}
 use Rattle.sound_fees.specs.Fees.{feesFew, Counted}
 use Rattle.account_sums.specs.Columns.{Tallies}
 
 -- each stands, their passage numbers differ, and the arrays hold their trees, fees and sums
 pub record Walked (accounts journal : List ℤ) (f : Frame) (cells counts sums : List ℕ) (i : ℕ) : Type 0 where
   pub stood : (k : ℕ) → k < i → standsIn accounts journal f (k + 1) (rowAt journal k) ≡ true
-  pub grown : Grown (f .space) journal cells i
+  pub trees : TreesOf (f .space) journal cells i
   pub fees : Counted (f .space) journal counts i
   pub tallies : Tallies journal (f .used) sums i
 

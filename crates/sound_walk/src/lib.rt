@@ -1,4 +1,4 @@
-// The one pass of the check over the journal: each row is read once, and its kind decides once how it is tested, planted among the passage
+// The one pass of the check over the journal: each row is read once, and its kind decides once how it is tested, inserted among the passage
 // numbers, counted where it is a fee, and added to the sums of its account. Uses lists, records, rules, tables and the crates of these
 // clauses.
 use account_sums::SUMS;
@@ -12,7 +12,7 @@ use sound_header::frame::Frame;
 use sound_journal::other_stands;
 use sound_journal::payment_stands;
 use sound_journal::toll_stands;
-use sound_passages::passages::plant_toll;
+use sound_passages::passages::insert_toll;
 use table_rows::row_numbered;
 use tables::codes::CHECK_RETURNED;
 use tables::codes::CREDIT;
@@ -25,7 +25,7 @@ ghost use mathlib.Core.List.{List};
 ghost use Prim.Native.Nat.{ℕ, _+_, _<_};
 ghost use Rattle.rules.specs.Rows.{Toll, Payment};
 ghost use Rattle.sound_header.specs.Clauses.{Bounds};
-ghost use Rattle.sound_passages.specs.Trees.{Grown};
+ghost use Rattle.sound_passages.specs.Trees.{TreesOf};
 ghost use Rattle.sound_fees.specs.Fees.{Counted};
 ghost use Rattle.account_sums.specs.Columns.{Tallies, Addable};
 ghost use Rattle.sound_walk.specs.Walks.{Walked, Walks, Turn, Turns, FeeTurn, FeeTurns};
@@ -41,13 +41,13 @@ fn toll_turn(
     cells: &mut [u16],
     sums: &mut [u64; SUMS],
 ) -> bool
-    requires { ⌜ Turn (now accounts) (now journal) f i r × (r .kind ≡ Toll) × Grown (f .space) (now journal) (now cells) i × Tallies (now journal) (f .used) (now sums) i ⌝ }
+    requires { ⌜ Turn (now accounts) (now journal) f i r × (r .kind ≡ Toll) × TreesOf (f .space) (now journal) (now cells) i × Tallies (now journal) (f .used) (now sums) i ⌝ }
     ensures { λ b. ⌜ ((counts : List ℕ) → Turns (now (accounts .entry)) (now (journal .entry)) f i (now (cells .entry)) counts (now (sums .entry)) (now (cells .exit)) counts (now (sums .exit)) b) ⌝ }
 {
     if !toll_stands(accounts, f, r) {
         return false;
     }
-    if !plant_toll(journal, cells, f.space, i, r.reference) {
+    if !insert_toll(journal, cells, f.space, i, r.reference) {
         return false;
     }
     add_debit(sums, r, r.dispute == HELD);

@@ -25,7 +25,7 @@ use Rattle.rules.proofs.StorableLaws.{between-le, schedule-storable}
 use Rattle.sound_header.specs.declared.frame.Frame.{Frame}
 use Rattle.sound_header.specs.Clauses.{ownWords, rowAlone, rowStands, rowsStand, restZero, tablesAt, Bounds}
 use Rattle.sound_header.proofs.LengthLaws.{lengths-known}
-use Rattle.sound_passages.specs.Trees.{passagesDiffer, Grown}
+use Rattle.sound_passages.specs.Trees.{passagesDiffer, TreesOf}
 use Rattle.sound_passages.proofs.PassageLaws.{clean-differ}
 use Rattle.sound_fees.specs.Fees.{feesFew, Counted}
 use Rattle.sound_fees.proofs.FeeLaws.{fees-few}
@@ -152,10 +152,10 @@ pub bounds-space : (accounts journal : List ℤ) (f : Frame) → Bounds accounts
 bounds-space accounts journal f b n h = record { room = b .room; few = b .few; held = h; seats = b .seats; fewer = b .fewer; day = b .day; length = b .length }
 
 -- no sums before the first row
-pub walked-none : (accounts journal : List ℤ) (f : Frame) {cells counts : List ℕ} → Grown (f .space) journal cells 0 → Counted (f .space) journal counts 0 → Walked accounts journal f cells counts (replicate 1542 0) 0
+pub walked-none : (accounts journal : List ℤ) (f : Frame) {cells counts : List ℕ} → TreesOf (f .space) journal cells 0 → Counted (f .space) journal counts 0 → Walked accounts journal f cells counts (replicate 1542 0) 0
 walked-none accounts journal f g c = record {
   stood = below-none _;
-  grown = g;
+  trees = g;
   fees = c;
   tallies = tallies-none journal (f .used);
 }
@@ -181,7 +181,7 @@ module _ (accounts journal : List ℤ) (f : Frame) where
     rows-stand = every-tabulate _ (rowAt journal) (f .used) (w .stood)
 
     passages-differ : passagesDiffer (rowsOf journal (f .used)) ≡ true
-    passages-differ = clean-differ journal (f .used) (w .grown .clean)
+    passages-differ = clean-differ journal (f .used) (w .trees .clean)
 
     pub sums-decide : allAgree (f .today) (sumsAt sums) (accountsOf accounts (f .count)) ≡ standing
     unfolding bookStands allOf

@@ -23,7 +23,7 @@ ghost use Prim.Native.Nat.{_≤_};
 ghost use Rattle.rules.specs.Limits.{mostRows};
 ghost use Rattle.rules.specs.Tables.{soundTables};
 ghost use Rattle.sound_header.specs.Clauses.{tablesAt, Bounds};
-ghost use Rattle.sound_passages.specs.Trees.{Grown};
+ghost use Rattle.sound_passages.specs.Trees.{TreesOf};
 ghost use Rattle.sound_fees.specs.Fees.{Counted};
 ghost use Rattle.soundness.specs.Book.{Stands};
 
@@ -38,7 +38,7 @@ fn stands_with(
     cells: &mut [u16],
     counts: &mut [u16],
 ) -> bool
-    requires { ⌜ Bounds (now accounts) (now journal) f × Grown (f .space) (now journal) (now cells) 0 × Counted (f .space) (now journal) (now counts) 0 ⌝ }
+    requires { ⌜ Bounds (now accounts) (now journal) f × TreesOf (f .space) (now journal) (now cells) 0 × Counted (f .space) (now journal) (now counts) 0 ⌝ }
     ensures { λ b. ⌜ Stands (now (accounts .entry)) (now (journal .entry)) f b ⌝ }
 {
     let mut sums = [0u64; SUMS];

@@ -1,5 +1,5 @@
 -- `index_rows` meets its contract: the rows passed are in the index; in sound tables no row clashes with one before it.
-use Rattle.batch_index.proofs.IndexLaws.{countable-first, planted-grown}
+use Rattle.batch_index.proofs.IndexLaws.{countable-first, inserted-trees}
 use Rattle.batch_index.specs.Index.{IndexOf}
 use Prim.Native.Nat.{_-_, _≤_}
 use native.Mathlib.Omega.{arith}
@@ -16,11 +16,11 @@ abbrev μ-loop : tie.MeasureT-loop
 loop-holds : tie.Need-loop-holds Inv-loop μ-loop
 loop-holds c = (omega arith, c .pre .2)
 
-plant-requires : tie.Need-plant-requires Inv-loop μ-loop
-plant-requires c κs =
+insert-requires : tie.Need-insert-requires Inv-loop μ-loop
+insert-requires c κs =
     let a = c .before .before in
     let s = a .before in
-    (omega (arith, s .pre .0 .rows .room), omega (arith, s .pre .0 .rows .few), a .loop .inv .1 .grown)
+    (omega (arith, s .pre .0 .rows .room), omega (arith, s .pre .0 .rows .few), a .loop .inv .1 .trees)
 
 add-amount-requires : tie.Need-add-amount-requires Inv-loop μ-loop
 add-amount-requires c κs =
@@ -37,7 +37,7 @@ loop-again : tie.Need-loop-again Inv-loop μ-loop
 loop-again c = (
   omega arith,
   record {
-    grown = planted-grown _ _ _ _ _ (c .before .before .before .before .loop-test .taken) (c .before .before .before .before .before .before .pre .0 .differ) (c .before .before .plant .ensures);
+    trees = inserted-trees _ _ _ _ _ (c .before .before .before .before .loop-test .taken) (c .before .before .before .before .before .before .pre .0 .differ) (c .before .before .insert .ensures);
     seated = c .add-amount .ensures;
   },
 )
@@ -52,7 +52,7 @@ index-rows-spec =
     Inv-loop
     μ-loop
     loop-holds
-    plant-requires
+    insert-requires
     add-amount-requires
     add-i
     loop-less

@@ -1,5 +1,5 @@
 -- `look_up_indexed` meets its contract: the trees have a toll's passage number, the seat has the account's first rows and sums.
-use Rattle.batch_index.proofs.IndexLaws.{spot-stands, looks-up-by, charged-fits, due-by-seat}
+use Rattle.batch_index.proofs.IndexLaws.{cell-for-stands, looks-up-by, charged-fits, due-by-seat}
 use Rattle.rules.proofs.TableLaws.{header-length}
 use Rattle.posting.proofs.BookLaws.{used-room, used-small}
 use native.Mathlib.Omega.{arith}
@@ -16,17 +16,17 @@ seat-word-requires-2 c κs = search needs
 get-requires : tie.Need-get-requires
 get-requires c κs = omega (arith, header-length _ (c .before .before .before .before .before .pre .0))
 
-spot-requires : tie.Need-spot-requires
-spot-requires c κs =
+cell-for-requires : tie.Need-cell-for-requires
+cell-for-requires c κs =
     let s = c .before .before .before .before .before .before in
-    rw (c .get .ensures) (used-room _ (s .pre .0), used-small _ (s .pre .0), s .pre .1 .grown)
+    rw (c .get .ensures) (used-room _ (s .pre .0), used-small _ (s .pre .0), s .pre .1 .trees)
 
 returns : tie.Need-returns
 returns c =
     let f = c .before .before .before .before .before in
     let s = f .before .before in
     looks-up-by _ _ _ (s .pre .1) _ _ _ _ _ (f .before .seat-word .ensures) (f .seat-word2 .ensures)
-    (λ k. spot-stands _ (s .pre .0) _ _ _ _ (c .before .get .ensures) (c .spot .ensures)) (λ k. absurd (omega (arith, c .before .before .before .if1 .taken)))
+    (λ k. cell-for-stands _ (s .pre .0) _ _ _ _ (c .before .get .ensures) (c .cell-for .ensures)) (λ k. absurd (omega (arith, c .before .before .before .if1 .taken)))
 
 account-numbered-requires : tie.Need-account-numbered-requires
 account-numbered-requires c κs = search needs
@@ -80,7 +80,7 @@ look-up-indexed-spec =
     seat-word-requires
     seat-word-requires-2
     get-requires
-    spot-requires
+    cell-for-requires
     returns
     account-numbered-requires
     add-seat-word

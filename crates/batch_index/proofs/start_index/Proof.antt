@@ -27,7 +27,7 @@ find-firsts-requires c κs =
 returns : tie.Need-returns
 returns c =
     let x = c .before .before .before .before in
-    rw (← x .before .before .before .get .ensures) (record { grown = x .index-rows .ensures .grown; seated = c .find-firsts .ensures })
+    rw (← x .before .before .before .get .ensures) (record { trees = x .index-rows .ensures .trees; seated = c .find-firsts .ensures })
 
 pub start-index-spec : {M : Type 1} → statement M
 start-index-spec =

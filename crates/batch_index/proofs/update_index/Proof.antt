@@ -29,7 +29,7 @@ move-first-requires-2 c κs =
 returns : tie.Need-returns
 returns c =
     let x = c .before .before .before .before .before in
-    rw (← x .before .before .before .get .ensures) (record { grown = x .index-rows .ensures .grown; seated = c .move-first2 .ensures })
+    rw (← x .before .before .before .get .ensures) (record { trees = x .index-rows .ensures .trees; seated = c .move-first2 .ensures })
 
 returns-2 : tie.Need-returns-2
 returns-2 c = let x = c .before in rw (← x .before .before .before .get .ensures) (x .index-rows .ensures)

@@ -1,7 +1,7 @@
 -- `other_turn` meets its contract: the first test that fails decides; a fee is its turn's, and another row that stands is added as a source
 -- or a debit.
 use Rattle.sound_walk.proofs.WalkLaws.{none-held, no-source, unfit-fees, walks-bad, row-unfit, row-same, row-earlier, row-debit, row-addable, row-walks}
-use Rattle.sound_passages.proofs.TreeLaws.{grown-skip}
+use Rattle.sound_passages.proofs.TreeLaws.{trees-skip}
 use Rattle.sound_fees.proofs.FeeLaws.{counted-skip}
 use Rattle.account_sums.proofs.ColumnLaws.{source-added, debit-added}
 use Rattle.sound_header.specs.Clauses.{standsIn}
@@ -50,7 +50,7 @@ returns-2 c =
     let s = e .before .before .before in
     λ cells w.
     record {
-      good = λ q. row-walks (s .args .accounts .now) (s .args .journal .now) (s .args .f) (s .args .i) (s .args .r) (s .pre .0) (stood e) w (grown-skip (s .args .f .space) (s .args .journal .now) cells (s .args .i) (w .grown) (rw (same e) at (s .pre .1))) (f .counted q) (f .added q) .good refl;
+      good = λ q. row-walks (s .args .accounts .now) (s .args .journal .now) (s .args .f) (s .args .i) (s .args .r) (s .pre .0) (stood e) w (trees-skip (s .args .f .space) (s .args .journal .now) cells (s .args .i) (w .trees) (rw (same e) at (s .pre .1))) (f .counted q) (f .added q) .good refl;
       bad = λ q. unfit-fees (s .args .accounts .now) (s .args .journal .now) (s .args .f) (f .over q);
     }
 
@@ -69,7 +69,7 @@ returns-3 c =
     let a = row-addable (s .args .accounts .now) (s .args .journal .now) (s .args .f) (s .args .i) (s .args .r) (s .pre .0) (stood e) (s .pre .4) in
     let d = source-added (s .args .journal .now) (s .args .f .used) (s .args .sums .now) (s .args .i) (s .pre .4) (s .args .r) (same e) a false (rw k) (rw k) in
     λ cells w.
-    row-walks (s .args .accounts .now) (s .args .journal .now) (s .args .f) (s .args .i) (s .args .r) (s .pre .0) (stood e) w (grown-skip (s .args .f .space) (s .args .journal .now) cells (s .args .i) (w .grown) (rw (same e) at (s .pre .1))) (counted-skip (s .args .f .space) (s .args .journal .now) (s .args .counts .now) (s .args .i) (w .fees) (rw (same e) at q)) (rw (c .add-source .ensures) d)
+    row-walks (s .args .accounts .now) (s .args .journal .now) (s .args .f) (s .args .i) (s .args .r) (s .pre .0) (stood e) w (trees-skip (s .args .f .space) (s .args .journal .now) cells (s .args .i) (w .trees) (rw (same e) at (s .pre .1))) (counted-skip (s .args .f .space) (s .args .journal .now) (s .args .counts .now) (s .args .i) (w .fees) (rw (same e) at q)) (rw (c .add-source .ensures) d)
 
 add-debit-requires : tie.Need-add-debit-requires
 add-debit-requires c κs =
@@ -86,7 +86,7 @@ returns-4 c =
     let n = no-source (s .args .r) (s .pre .2) (c .before .before .if3 .left) in
     let d = debit-added (s .args .journal .now) (s .args .f .used) (s .args .sums .now) (s .args .i) (s .pre .4) (s .args .r) (same e) a false (none-held (rowsOf (s .args .journal .now) (s .args .f .used)) (s .args .r) (s .pre .1) q) n (row-debit (s .args .accounts .now) (s .args .journal .now) (s .args .f) (s .args .i) (s .args .r) (s .pre .0) (stood e) n) in
     λ cells w.
-    row-walks (s .args .accounts .now) (s .args .journal .now) (s .args .f) (s .args .i) (s .args .r) (s .pre .0) (stood e) w (grown-skip (s .args .f .space) (s .args .journal .now) cells (s .args .i) (w .grown) (rw (same e) at (s .pre .1))) (counted-skip (s .args .f .space) (s .args .journal .now) (s .args .counts .now) (s .args .i) (w .fees) (rw (same e) at q)) (rw (c .add-debit .ensures) d)
+    row-walks (s .args .accounts .now) (s .args .journal .now) (s .args .f) (s .args .i) (s .args .r) (s .pre .0) (stood e) w (trees-skip (s .args .f .space) (s .args .journal .now) cells (s .args .i) (w .trees) (rw (same e) at (s .pre .1))) (counted-skip (s .args .f .space) (s .args .journal .now) (s .args .counts .now) (s .args .i) (w .fees) (rw (same e) at q)) (rw (c .add-debit .ensures) d)
 
 pub other-turn-spec : {M : Type 1} → statement M
 other-turn-spec =

@@ -1,4 +1,4 @@
--- `toll_turn` meets its contract: the first test that fails decides, and a toll that stands is planted and added.
+-- `toll_turn` meets its contract: the first test that fails decides, and a toll that stands is inserted and added.
 use Rattle.sound_walk.proofs.WalkLaws.{toll-held, unfit-passage, walks-bad, row-unfit, row-same, row-addable, row-walks}
 use Rattle.sound_fees.proofs.FeeLaws.{counted-skip}
 use Rattle.account_sums.proofs.ColumnLaws.{debit-added}
@@ -28,8 +28,8 @@ returns c =
     let s = c .before .before .before in
     λ counts w. walks-bad (s .args .accounts .now) (s .args .journal .now) (s .args .f) (row-unfit (s .args .accounts .now) (s .args .journal .now) (s .args .f) (s .args .i) (s .args .r) (s .pre .0) (sym (c .before .toll-stands .ensures _ _) ∙ not-true _ (c .if1 .taken)))
 
-plant-toll-requires : tie.Need-plant-toll-requires
-plant-toll-requires c κs =
+insert-toll-requires : tie.Need-insert-toll-requires
+insert-toll-requires c κs =
     let e = c .before in
     let s = e .before .before .before in
     let b = s .pre .0 .bounds in
@@ -42,7 +42,7 @@ same-length c = search needs
 returns-2 : tie.Need-returns-2
 returns-2 c =
     let s = c .before .before .before .before .before .before .before .before in
-    λ counts w. walks-bad (s .args .accounts .now) (s .args .journal .now) (s .args .f) (unfit-passage (s .args .accounts .now) (s .args .journal .now) (s .args .f) (c .before .before .before .plant-toll .ensures .bad (not-true _ (c .if2 .taken)) (s .args .f .used) (s .pre .0 .inside)))
+    λ counts w. walks-bad (s .args .accounts .now) (s .args .journal .now) (s .args .f) (unfit-passage (s .args .accounts .now) (s .args .journal .now) (s .args .f) (c .before .before .before .insert-toll .ensures .bad (not-true _ (c .if2 .taken)) (s .args .f .used) (s .pre .0 .inside)))
 
 add-debit-requires : tie.Need-add-debit-requires
 add-debit-requires c κs =
@@ -62,7 +62,7 @@ returns-3 c =
     let a = row-addable (s .args .accounts .now) (s .args .journal .now) (s .args .f) (s .args .i) (s .args .r) (s .pre .0) (stood e) (s .pre .3) in
     let d = debit-added (s .args .journal .now) (s .args .f .used) (s .args .sums .now) (s .args .i) (s .pre .3) (s .args .r) (same e) a _ (toll-held (rowsOf (s .args .journal .now) (s .args .f .used)) (s .args .r) k) (rw k) (rw k) in
     λ counts w.
-    row-walks (s .args .accounts .now) (s .args .journal .now) (s .args .f) (s .args .i) (s .args .r) (s .pre .0) (stood e) w (l .before .before .before .plant-toll .ensures .good (not-false _ (l .if2 .left)))
+    row-walks (s .args .accounts .now) (s .args .journal .now) (s .args .f) (s .args .i) (s .args .r) (s .pre .0) (stood e) w (l .before .before .before .insert-toll .ensures .good (not-false _ (l .if2 .left)))
     (counted-skip (s .args .f .space) (s .args .journal .now) counts (s .args .i) (w .fees) (λ z. omega (arith, rw (same e) at k))) (rw (c .add-debit .ensures) d)
 
 pub toll-turn-spec : {M : Type 1} → statement M
@@ -71,7 +71,7 @@ toll-turn-spec =
     (tie.spec
     toll-stands-requires
     returns
-    plant-toll-requires
+    insert-toll-requires
     same-length
     returns-2
     add-debit-requires

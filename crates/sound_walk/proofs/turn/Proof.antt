@@ -1,7 +1,7 @@
 -- `turn` meets its contract: a toll and a row of another kind are their turns', and a payment that stands is added.
 use Rattle.sound_walk.proofs.WalkLaws.{walks-bad, row-unfit, row-same, row-addable, row-walks}
 use Rattle.sound_walk.specs.Walks.{Turn}
-use Rattle.sound_passages.proofs.TreeLaws.{grown-skip}
+use Rattle.sound_passages.proofs.TreeLaws.{trees-skip}
 use Rattle.sound_fees.proofs.FeeLaws.{counted-skip}
 use Rattle.account_sums.proofs.ColumnLaws.{source-added}
 use Rattle.sound_header.specs.Clauses.{standsIn}
@@ -70,7 +70,7 @@ returns-4 c =
     let z = rw same at k in
     let a = row-addable (s .args .accounts .now) (s .args .journal .now) (s .args .f) (s .args .i) (p .plain-row .result) (here p) (stood e) (w .tallies) in
     let d = source-added (s .args .journal .now) (s .args .f .used) (s .args .sums .now) (s .args .i) (w .tallies) (p .plain-row .result) same a (eqb (p .plain-row .result .mark) 4) (rw k) (rw k) in
-    row-walks (s .args .accounts .now) (s .args .journal .now) (s .args .f) (s .args .i) (p .plain-row .result) (here p) (stood e) w (grown-skip (s .args .f .space) (s .args .journal .now) (s .args .cells .now) (s .args .i) (w .grown) (λ y. omega arith)) (counted-skip (s .args .f .space) (s .args .journal .now) (s .args .counts .now) (s .args .i) (w .fees) (λ y. omega arith)) (rw (c .add-source .ensures) d)
+    row-walks (s .args .accounts .now) (s .args .journal .now) (s .args .f) (s .args .i) (p .plain-row .result) (here p) (stood e) w (trees-skip (s .args .f .space) (s .args .journal .now) (s .args .cells .now) (s .args .i) (w .trees) (λ y. omega arith)) (counted-skip (s .args .f .space) (s .args .journal .now) (s .args .counts .now) (s .args .i) (w .fees) (λ y. omega arith)) (rw (c .add-source .ensures) d)
 
 pub turn-spec : {M : Type 1} → statement M
 turn-spec =

@@ -1,6 +1,6 @@
 -- `few_stand` meets its contract: the arrays have space for FEW_ROWS rows, and no more are used.
 use Rattle.soundness.proofs.SoundParts.{bounds-space}
-use Rattle.sound_passages.proofs.TreeLaws.{grown-none}
+use Rattle.sound_passages.proofs.TreeLaws.{trees-none}
 use Rattle.sound_fees.proofs.FeeLaws.{counted-none}
 use mathlib.Core.Path.{refl}
 use native.Mathlib.Omega.{arith}
@@ -17,7 +17,7 @@ slice-aggregate-stands-with-2 c = search needs
 stands-with-requires : tie.Need-stands-with-requires
 stands-with-requires c κs =
     let s = c .before .before in
-    (bounds-space (s .args .accounts .now) (s .args .journal .now) (s .args .f) (s .pre .0) 1024 (s .pre .1), grown-none 1024 _ 4096 refl (omega arith) (omega arith), counted-none 1024 _ 1025 refl)
+    (bounds-space (s .args .accounts .now) (s .args .journal .now) (s .args .f) (s .pre .0) 1024 (s .pre .1), trees-none 1024 _ 4096 refl (omega arith) (omega arith), counted-none 1024 _ 1025 refl)
 
 returns : tie.Need-returns
 returns c = search needs

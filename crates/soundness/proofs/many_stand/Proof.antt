@@ -1,5 +1,5 @@
 -- `many_stand` meets its contract: the arrays have space for the most rows.
-use Rattle.sound_passages.proofs.TreeLaws.{grown-none}
+use Rattle.sound_passages.proofs.TreeLaws.{trees-none}
 use Rattle.sound_fees.proofs.FeeLaws.{counted-none}
 use mathlib.Core.Path.{refl}
 use native.Mathlib.Omega.{arith}
@@ -16,7 +16,7 @@ slice-aggregate-stands-with-2 c = search needs
 stands-with-requires : tie.Need-stands-with-requires
 stands-with-requires c κs =
     let s = c .before .before in
-    (s .pre .0, rw (s .pre .1) (grown-none 8192 _ 32768 refl (omega arith) (omega arith)), rw (s .pre .1) (counted-none 8192 _ 8193 refl))
+    (s .pre .0, rw (s .pre .1) (trees-none 8192 _ 32768 refl (omega arith) (omega arith)), rw (s .pre .1) (counted-none 8192 _ 8193 refl))
 
 returns : tie.Need-returns
 returns c = search needs

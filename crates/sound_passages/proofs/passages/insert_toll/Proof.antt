@@ -1,13 +1,13 @@
--- `plant_toll` meets its contract: the toll grows the trees by its cell, or clashes.
-use Rattle.sound_passages.proofs.TreeLaws.{grown-add, taken-same}
+-- `insert_toll` meets its contract: the toll grows the trees by its cell, or clashes.
+use Rattle.sound_passages.proofs.TreeLaws.{trees-add, taken-same}
 use native.Mathlib.Omega.{arith}
 use mathlib.Core.Bool.{true≢false, false≢true}
 use borrow.Author.Needs.{needs}
-use Rattle.sound_passages.proofs.passages.plant_toll.Statement.{statement}
-use Rattle.sound_passages.proofs.passages.plant_toll.Tie as tie
+use Rattle.sound_passages.proofs.passages.insert_toll.Statement.{statement}
+use Rattle.sound_passages.proofs.passages.insert_toll.Tie as tie
 
-spot-requires : tie.Need-spot-requires
-spot-requires c κs = search needs
+cell-for-requires : tie.Need-cell-for-requires
+cell-for-requires c κs = search needs
 
 same-length : tie.Need-same-length
 same-length c = search needs
@@ -18,7 +18,7 @@ returns c =
     let s = p .before .before .before in
     record {
       good = λ e. absurd (false≢true e);
-      bad = λ e. taken-same (s .args .space) (s .args .journal .now) (s .args .cells .now) (s .args .n) (p .spot .result) (s .pre .3) (c .if1 .taken) (rw (← s .pre .4) at (p .spot .ensures));
+      bad = λ e. taken-same (s .args .space) (s .args .journal .now) (s .args .cells .now) (s .args .n) (p .cell-for .result) (s .pre .3) (c .if1 .taken) (rw (← s .pre .4) at (p .cell-for .ensures));
     }
 
 add-cells : tie.Need-add-cells
@@ -34,7 +34,7 @@ slice-write-cells : tie.Need-slice-write-cells
 slice-write-cells c =
     let p = c .before in
     let s = p .before .before .before in
-    omega (arith, s .pre .2 .size, p .spot .ensures .low (c .if1 .left))
+    omega (arith, s .pre .2 .size, p .cell-for .ensures .low (c .if1 .left))
 
 same-length-2 : tie.Need-same-length-2
 same-length-2 c = search needs
@@ -44,15 +44,15 @@ returns-2 c =
     let p = c .before in
     let s = p .before .before .before in
     record {
-      good = λ e. grown-add (s .args .space) (s .args .journal .now) (s .args .cells .now) (s .args .n) (p .spot .result) (s .pre .2) (s .pre .1) (s .pre .3) (c .if1 .left) (rw (← s .pre .4) at (p .spot .ensures));
+      good = λ e. trees-add (s .args .space) (s .args .journal .now) (s .args .cells .now) (s .args .n) (p .cell-for .result) (s .pre .2) (s .pre .1) (s .pre .3) (c .if1 .left) (rw (← s .pre .4) at (p .cell-for .ensures));
       bad = λ e. absurd (true≢false e);
     }
 
-pub plant-toll-spec : {M : Type 1} → statement M
-plant-toll-spec =
+pub insert-toll-spec : {M : Type 1} → statement M
+insert-toll-spec =
     tie.close
     (tie.spec
-    spot-requires
+    cell-for-requires
     same-length
     returns
     add-cells

@@ -1,12 +1,12 @@
--- `spot` meets its contract: the invariant is the way down; the cells on it only grow, so the measure is the cells above.
+-- `cell_for` meets its contract: the invariant is the way down; the cells on it only grow, so the measure is the cells above.
 use borrow.Author.Needs.{needs}
 use Rattle.sound_passages.specs.Trees.{IsToll}
 use Rattle.sound_passages.proofs.TreeLaws.{Way, root-fits, root-low, way-start, way-row, way-next, way-taken, way-free}
 use mathlib.Core.Path.{_≡_, sym, _∙_}
 use native.Mathlib.Omega.{arith}
 use Prim.Native.Nat.{_+_, _*_, _-_, _<_}
-use Rattle.sound_passages.proofs.passages.spot.Statement.{statement}
-use Rattle.sound_passages.proofs.passages.spot.Tie as tie
+use Rattle.sound_passages.proofs.passages.cell_for.Statement.{statement}
+use Rattle.sound_passages.proofs.passages.cell_for.Tie as tie
 
 abbrev Inv-loop : tie.InvT-loop
 Inv-loop journal cells space n x y₀ c₀ s₀ y c s = Way space journal cells n x y c s
@@ -106,8 +106,8 @@ returns-2 c =
     let s = a .before .before .before .before .before in
     way-free _ _ (s .args .cells .now) _ _ _ _ _ (s .pre .1) (s .pre .2) (a .loop .inv) (omega arith)
 
-pub spot-spec : {M : Type 1} → statement M
-spot-spec =
+pub cell-for-spec : {M : Type 1} → statement M
+cell-for-spec =
     tie.close
     (tie.spec
     Inv-loop
