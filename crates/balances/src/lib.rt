@@ -1,5 +1,5 @@
-// The sums of an account's sources and of its debits, and whether its top-up is due. Uses lists, records, rules, tables, row_tests,
-// settlement, account_sums and posting.
+// The sums of an account's sources and of its debits, and whether its top-up is due. Uses lists, records, rules, tables, table_rows,
+// table_accounts, row_tests, account_sums and posting.
 use account_sums::part;
 use records::Account;
 use row_tests::is_debit;

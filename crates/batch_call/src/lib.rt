@@ -1,5 +1,6 @@
 // A batch of event records on tables of any lengths and contents: soundness and the lengths once, then each event posted in order and its
-// answer written. Uses lists, records, rules, preservation, tables, soundness, posting, batch_index, events and answering.
+// answer written. Uses lists, records, rules, preservation, tables, sound_passages, soundness, posting, lookups, batch_index, events and
+// answering.
 use answering::event_of;
 use answering::write_answer;
 use batch_index::SEAT_WORDS;

@@ -1,6 +1,7 @@
 // The index that a batch keeps of the journal in two arrays of its own, so that no event searches all rows: the trees of passage numbers
 // and, for each account, from which row on something of its sources and of its debits can be left, and the sums of both. Uses lists,
-// records, rules, tables, row_tests, sound_passages, account_sums, posting, balances and lookups, and laws of preservation and tick_base.
+// records, rules, preservation, tables, table_rows, table_accounts, row_tests, sound_passages, account_sums, posting, balances, lookups
+// and tick_base.
 use balances::Sums;
 use balances::is_low;
 use balances::may_top_up;

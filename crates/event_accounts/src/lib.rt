@@ -1,4 +1,5 @@
-// Events 1 and 8, which change an account alone. Uses lists, records, rules, preservation, tables, settlement and posting.
+// Events 1 and 8, which change an account alone. Uses lists, records, rules, preservation, tables, table_accounts, forms, posting and
+// posting_laws.
 use forms::open_form;
 use forms::request_form;
 use posting::answers::posted;

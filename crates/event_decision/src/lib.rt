@@ -1,5 +1,5 @@
-// Event 6: a decision. Uses lists, records, rules, preservation, tables, settlement, lookups and
-// posting.
+// Event 6: a decision. Uses lists, records, rules, preservation, tables, table_rows, table_accounts, row_tests, settlement, forms,
+// posting, lookups and posting_laws.
 pub mod fees; // fees.rt: the fees of a toll, summed and settled
 
 use self::fees::settle_fees;

@@ -1,5 +1,5 @@
-// Event 5: a dispute. Uses lists, records, rules, preservation, tables, settlement, lookups and
-// posting.
+// Event 5: a dispute. Uses lists, records, rules, preservation, tables, table_rows, table_accounts, settlement, forms, posting, lookups
+// and posting_laws.
 use forms::dispute_form;
 use lookups::Lookup;
 use posting::answers::posted;

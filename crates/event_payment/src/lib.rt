@@ -1,5 +1,5 @@
-// Event 3: a payment. Uses lists, records, rules, preservation, tables, settlement, lookups and
-// posting.
+// Event 3: a payment. Uses lists, records, rules, preservation, tables, table_accounts, settlement, forms, posting, lookups and
+// posting_laws.
 use forms::payment_form;
 use lookups::Lookup;
 use posting::answers::posted;

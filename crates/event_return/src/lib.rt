@@ -1,5 +1,5 @@
-// Event 4: a returned check. Uses lists, records, rules, preservation, tables, settlement, lookups and
-// posting.
+// Event 4: a returned check. Uses lists, records, rules, preservation, tables, table_rows, table_accounts, settlement, forms, posting,
+// lookups and posting_laws.
 use forms::return_form;
 use lookups::Lookup;
 use posting::answers::posted;

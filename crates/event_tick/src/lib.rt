@@ -1,5 +1,5 @@
-// Event 9, the day tick: it refuses before it writes anything. Uses lists, records, rules, preservation, tick_rules, tables, account_sums,
-// settlement, posting, tick_base, tick_plan, tick_holds, tick_raise and tick_close.
+// Event 9, the day tick: it refuses before it writes anything. Uses lists, records, rules, preservation, tables, tick_rules, forms,
+// posting, posting_laws, tick_base, tick_plan, tick_holds, tick_raise and tick_close.
 use forms::tick_form;
 use posting::answers::posted;
 use posting::answers::refused;

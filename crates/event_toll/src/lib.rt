@@ -1,5 +1,5 @@
-// Event 2: a toll. Uses lists, records, rules, preservation, tables, settlement, lookups and
-// posting.
+// Event 2: a toll. Uses lists, records, rules, preservation, tables, table_accounts, settlement, forms, rates, posting, lookups and
+// posting_laws.
 use forms::toll_form;
 use lookups::Lookup;
 use posting::answers::posted;

@@ -1,5 +1,5 @@
-// Event 7: the result of a top-up. Uses lists, records, rules, preservation, tables, settlement, lookups and
-// posting.
+// Event 7: the result of a top-up. Uses lists, records, rules, preservation, tables, table_accounts, settlement, forms, posting, lookups
+// and posting_laws.
 use forms::result_form;
 use lookups::Lookup;
 use posting::answers::posted;

@@ -1,5 +1,6 @@
-// One event on the tables of a sound book: the kind decides which of the nine functions posts it. Uses lists, records, rules, preservation,
-// tables, lookups, posting and the crates of the events.
+// One event on the tables of a sound book: the kind decides which of the nine functions posts it. Uses lists, records, rules, posting,
+// lookups, posting_laws, event_payment, event_accounts, event_topup, event_toll, event_return, event_dispute, event_decision and
+// event_tick.
 use event_accounts::open_account;
 use event_accounts::request_close;
 use event_decision::decide;

@@ -1,6 +1,6 @@
-// The listing program: reads an opening and events from standard input, and prints the events' answers, then the rows and the used accounts
-// of a book of 64 accounts and 512 rows. It only moves bytes: what is printed for them is proved in listing_steps. Uses the listing_*
-// crates, and the kit's io and libc.
+// The listing program: reads an opening and events from standard input, and prints the events' answers, then the rows and the used
+// accounts of a book of 64 accounts and 512 rows. It only moves bytes: what is printed for them is proved in listing_steps. Uses rules,
+// listing_text, listing_input, listing_lines and listing_steps, and the kit's libc, io and bytes.
 use libc::STDIN_FILENO;
 use libc::STDOUT_FILENO;
 use listing_input::move_to_front;

@@ -1,5 +1,5 @@
 // The listing's input as it is read: the bytes of a buffer from one place up to another are read and not yet taken. Where a line of them
-// ends, and the bytes moved to the start of the buffer. Uses listing_rules and the kit's search (bytes).
+// ends, and the bytes moved to the start of the buffer. Uses rules, decimal and listing_rules, and the kit's bytes.
 ghost use mathlib.Core.Path.{_≡_};
 ghost use Prim.Native.Nat.{_+_, _-_, _≤_};
 ghost use lib.ListN.{length, take};

@@ -1,5 +1,5 @@
 // One line of the listing's input, taken: judged, carried out on the book's tables, and its answer written to a lent buffer. Uses lists,
-// records, rules, preservation, tables, opening, events, answering, decimal, listing_rules and listing_text.
+// records, decimal, rules, listing_rules, listing_text, preservation, tables, posting, opening, events and answering.
 use answering::read_event;
 use decimal::read_fields;
 use events::post_event;

@@ -1,6 +1,5 @@
 // The listing, step by step over a buffer of its input: the next line is taken where it is whole, and after the last one the book is
-// printed. Uses lists, records, rules, preservation, tables, decimal and the crates listing_rules, listing_text, listing_input,
-// listing_lines and listing_book.
+// printed. Uses decimal, rules, listing_rules, listing_text, listing_input, listing_book and listing_lines, and the kit's bytes.
 use listing_book::write_book;
 use listing_input::line_end;
 use listing_lines::take_line;

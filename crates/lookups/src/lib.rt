@@ -1,6 +1,6 @@
-// What is looked up in the tables for an event before it is posted: whether a toll's passage number stands in the journal, whether a top-up
-// is due, and from which rows on something of the account's can be left. Uses lists, records, rules, tables, balances and, of settlement,
-// where it may begin.
+// What is looked up in the tables for an event before it is posted: whether a toll's passage number stands in the journal, whether a
+// top-up is due, and from which rows on something of the account's can be left. Uses lists, records, rules, preservation, tables,
+// table_rows, settlement, posting and balances.
 use balances::top_up_due;
 use records::Instruction;
 use table_rows::kind_at;

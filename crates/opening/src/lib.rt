@@ -1,5 +1,5 @@
 // Opening: lent tables of any contents become the book of a first day and a schedule, all else 0. Uses lists, records, rules, tables and
-// sound_rows.
+// sound_header.
 use sound_header::header::day_fits;
 use sound_header::header::lengths_fit;
 use sound_header::header::schedule_fits;

@@ -1,5 +1,5 @@
 // The questions, which change nothing: an account's balance, whether its top-up is due, and a row's words as a part of the lent journal.
-// Each checks the book first. Uses lists, records, rules, tables, soundness and posting.
+// Each checks the book first. Uses lists, records, rules, tables, table_accounts, soundness, posting and balances.
 use balances::sums_of;
 use soundness::sound;
 use table_accounts::account_numbered;

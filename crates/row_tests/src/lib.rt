@@ -1,4 +1,4 @@
-// Tests on a row as a value: what remains of it, whether it is a source, a debit, held. Uses lists, records, rules and tables.
+// Tests on a row as a value: what remains of it, whether it is a source, a debit, held. Uses records, rules, tables and table_rows.
 use records::Row;
 use table_rows::row_numbered;
 use tables::codes::CREDIT;

@@ -1,5 +1,5 @@
-// The settlement of one account over the journal: unused sources in row order pay unsettled unheld debits in row order, until either
-// side is spent. Uses lists, records, rules and tables.
+// The settlement of one account over the journal: unused sources in row order pay unsettled unheld debits in row order, until either side
+// is spent. Uses lists, records, rules, tables, table_rows and row_tests.
 use row_tests::is_debit;
 use row_tests::is_held;
 use row_tests::is_source;

@@ -1,4 +1,5 @@
-// The clauses of soundness on an account by itself. Each test returns at once, as those on rows do. Uses lists, records, rules, tables and, of sound_header, the tests.
+// The clauses of soundness on an account by itself. Each test returns at once, as those on rows do. Uses lists, records, rules, tables and
+// sound_header.
 use records::Account;
 use sound_header::tests::between;
 use sound_header::tests::implies;

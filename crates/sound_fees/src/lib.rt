@@ -1,5 +1,5 @@
 // "A toll of stage k is named by at most k - 1 fees": the fees that name each row are counted as they come, and one too many is refused at
-// once. Uses lists, records, rules, tables, account_sums (tallies) and, of sound_header, the tests.
+// once. Uses lists, records, rules, tables, sound_header and account_sums.
 use records::Row;
 use sound_header::tests::implies;
 use tables::codes::TOLL;

@@ -1,5 +1,5 @@
 // The clauses of soundness on each row of the journal: its own, its account, its reference; and the rows past the used ones. Uses lists,
-// records, rules, tables, plain_rows, sound_header and sound_rows.
+// records, rules, tables, table_rows, table_accounts, plain_rows, sound_header and sound_rows.
 use plain_rows::plain_row;
 use records::Row;
 use sound_header::frame::Frame;

@@ -1,3 +1,3 @@
 // The clause of soundness on passage numbers: no two tolls of the journal have the same, in time that grows with the rows. Uses lists,
-// records, rules and tables.
+// records, rules, tables and table_rows.
 pub mod passages; // passages.rt: passage numbers differ

@@ -1,3 +1,3 @@
-// The clauses of soundness that add up the rows of each account. Uses lists, records, rules, tables, plain_rows, account_sums,
-// sound_accounts and, of sound_header, the tests.
+// The clauses of soundness that add up the rows of each account. Uses lists, records, rules, tables, plain_rows, sound_header,
+// account_sums and sound_accounts.
 pub mod accounts; // accounts.rt: the accounts

@@ -1,6 +1,6 @@
-// The one pass of the check over the journal: each row is read once, and its kind decides once how it is tested, inserted among the passage
-// numbers, counted where it is a fee, and added to the sums of its account. Uses lists, records, rules, tables and the crates of these
-// clauses.
+// The one pass of the check over the journal: each row is read once, and its kind decides once how it is tested, inserted among the
+// passage numbers, counted where it is a fee, and added to the sums of its account. Uses lists, records, rules, tables, table_rows,
+// plain_rows, row_tests, sound_header, sound_journal, sound_passages, account_sums and sound_fees.
 use account_sums::SUMS;
 use account_sums::add_debit;
 use account_sums::add_source;

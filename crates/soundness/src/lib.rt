@@ -1,5 +1,6 @@
 // The check of a whole book: whether three lent tables of any lengths and contents are sound, in time that grows with the rows and
-// accounts. Uses lists, records, rules, tables and the crates of its clauses.
+// accounts. Uses lists, records, rules, tables, sound_header, sound_journal, sound_passages, account_sums, sound_fees, sound_accounts,
+// sound_sums and sound_walk.
 use account_sums::SUMS;
 use sound_header::frame::Frame;
 use sound_header::header::day_fits;

@@ -1,5 +1,6 @@
-// The last step of a day tick: each pending account whose 15 days are over and that owes nothing closes, and its unused money leaves as one
-// refund row. Uses lists, records, rules, preservation, tick_rules, tables, account_sums, settlement, posting and tick_base.
+// The last step of a day tick: each pending account whose 15 days are over and that owes nothing closes, and its unused money leaves as
+// one refund row. Uses lists, records, rules, preservation, tables, table_rows, table_accounts, row_tests, account_sums, tick_rules,
+// posting, posting_laws and tick_base.
 use account_sums::SEATS;
 use posting::rows::add_row;
 use posting::rows::new_row;

@@ -1,6 +1,5 @@
-// The first steps of a day tick: holds begun 30 days ago end as by verdict 0, then settlement of the accounts for which something can
-// have changed. Uses lists, records, rules, preservation, tick_rules, tables, account_sums, settlement, posting and
-// tick_base.
+// The first steps of a day tick: holds begun 30 days ago end as by verdict 0, then settlement of the accounts for which something can have
+// changed. Uses lists, records, rules, preservation, tables, table_rows, settlement, account_sums, tick_rules, posting and tick_base.
 use account_sums::SEATS;
 use account_sums::add;
 use account_sums::part;

@@ -1,5 +1,5 @@
-// The fourth step of a day tick: tolls due today rise a stage, and from stage 2 a nonzero fee row naming each is added. Uses lists, records,
-// rules, preservation, tables, row_tests, settlement, account_sums, posting and tick_base.
+// The fourth step of a day tick: tolls due today rise a stage, and from stage 2 a nonzero fee row naming each is added. Uses lists,
+// records, rules, preservation, tables, table_rows, posting, posting_laws and tick_base.
 use posting::rows::add_row;
 use posting::rows::new_row;
 use records::Row;

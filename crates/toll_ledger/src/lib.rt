@@ -1,5 +1,6 @@
 // The calls that C hosts link: each thin over the call of the same name, its contract that call's own, with no `requires`. Every table is
-// a pointer and its length in words; include/toll_ledger.h declares them. Uses rules, tables, opening, event_call, batch_call and questions.
+// a pointer and its length in words; include/toll_ledger.h declares them. Uses lists, records, rules, sound_passages, posting, opening,
+// batch_index, questions, answering, event_call and batch_call.
 use batch_call::begin_batch;
 use batch_call::post_record;
 use batch_index::SEAT_WORDS;
