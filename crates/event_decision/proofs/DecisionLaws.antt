@@ -35,7 +35,7 @@ use Rattle.posting.proofs.BookLaws.{row-read, day-read, used-read, room-read, u
 use Rattle.posting_laws.proofs.RefusalLaws.{at-kind}
 use Rattle.posting_laws.proofs.AddedLaws.{acceptance-plain, posts-accepted}
 use Rattle.posting_laws.proofs.EventLaws.{known-inside}
-use Rattle.posting_laws.proofs.UsedRowsLaws.{UsedRows, used-rows-before, used-rows-put, used-rows-map, used-rows-add, used-rows-settle, used-rows-written, used-rows-settles, small-before, small-put, small-map, small-add}
+use Rattle.posting_laws.proofs.UsedRowsLaws.{UsedRows, used-rows-before, rows-put, rows-map, used-rows-add, rows-settle, rows-written, used-rows-settles, small-before, small-put, small-map, small-add}
 use Rattle.posting_laws.proofs.PutRowLaws.{row-used, put-settles, put-posts}
 use Rattle.event_decision.specs.Decision.{feeSettled, upheldToll, creditFor, rowNamed, Upholdable, UpheldRows, Releasable, ReleasedRow}
 use Rattle.event_decision.proofs.FeeLaws.{sum-small, same-or-whole}
@@ -206,8 +206,8 @@ module _ (t : Tables) (s : soundTables t ≡ true) (e : Instruction) (k : e .kin
       upheld-used =
           let put : RowChanged (t .journal) (w .with-toll) (e .a - 1) (upheldToll (row b (e .a))) = rw (row-read t s (e .a)) at (w .toll) in
           let n : length (set (b .rows) (e .a - 1) (upheldToll (row b (e .a)))) ≡ rowsUsed t = length-set (b .rows) (e .a - 1) (upheldToll (row b (e .a))) ∙ sym (used-read t s) in
-          let one = used-rows-put t s (t .header) (t .journal) (w .with-toll) (b .rows) (used-rows-before t s) (e .a - 1) (upheldToll (row b (e .a))) within put in
-          let two = used-rows-map t s (t .header) (w .with-toll) (w .with-fees) _ one (feeSettled (e .a)) (rw n (w .fees)) in
+          let one = rows-put t (t .header) (t .journal) (w .with-toll) (b .rows) (used-rows-before t s) (e .a - 1) (upheldToll (row b (e .a))) within put in
+          let two = rows-map t (t .header) (w .with-toll) (w .with-fees) _ one (feeSettled (e .a)) (rw n (w .fees)) in
           used-rows-add t s (t .header) (w .with-fees) j (forgivenRows b e) two h (creditRow b e) (rw (← sound-rows t s, day-read t s) at (w .credit))
 
       pub upheld-settles : Journal j (rowsUsed t + 1)
@@ -234,5 +234,5 @@ module _ (t : Tables) (s : soundTables t ≡ true) (e : Instruction) (k : e .kin
           posts-accepted t (tablesAt h (t .accounts) j″) s e (acceptanceOf (rowsUsed t) 1 0 0) q
           (rw (used-read t s) (acceptance-plain b e 1 (upheld-length b e k v) (rw k) (rw k)))
           (rw after-upheld
-          (used-rows-written t s h j″ (settle (e .account) rows) (used-rows-settle t s h j j″ rows upheld-used (e .account) (rw length-rows d))
+          (rows-written t h j″ (settle (e .account) rows) (rows-settle t h j j″ rows upheld-used (e .account) (rw length-rows d))
           (t .accounts) (b .accounts) refl (unfold bookOf in refl)))

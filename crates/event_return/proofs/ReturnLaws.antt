@@ -43,7 +43,7 @@ use Rattle.posting.proofs.BookLaws.{account-read, row-read, day-read, used-read
 use Rattle.posting_laws.proofs.EventLaws.{known-inside}
 use Rattle.posting_laws.proofs.RefusalLaws.{ofKind, at-kind, unknown-unused, length-after, no-ceiling}
 use Rattle.posting_laws.proofs.AddedLaws.{acceptance-plain, posts-accepted}
-use Rattle.posting_laws.proofs.UsedRowsLaws.{UsedRows, used-rows-before, used-rows-put, used-rows-add, used-rows-settle, used-rows-written, used-rows-room, used-rows-day, used-rows-settles, SmallAmounts, small-before, small-put, small-add}
+use Rattle.posting_laws.proofs.UsedRowsLaws.{UsedRows, used-rows-before, rows-put, used-rows-add, rows-settle, rows-written, used-rows-room, rows-day, used-rows-settles, SmallAmounts, small-before, small-put, small-add}
 use Rattle.posting_laws.proofs.PutRowLaws.{row-read-by}
 use Rattle.event_return.specs.Return.{returnRefusals, Counts, Counted, Marks, Marked}
 
@@ -284,7 +284,7 @@ module _ (t : Tables) (s : soundTables t ≡ true) (e : Instruction) (k : e .kin
 
   module _ (j : List ℤ) (m : RowChanged (t .journal) j (e .a - 1) (markedRow b e)) where
     marked-used : UsedRows t (t .header) j (markedRows b e)
-    marked-used = used-rows-put t s (t .header) (t .journal) j (b .rows) (used-rows-before t s) (e .a - 1) (markedRow b e) within m
+    marked-used = rows-put t (t .header) (t .journal) j (b .rows) (used-rows-before t s) (e .a - 1) (markedRow b e) within m
 
     pub reversal-room : RowRoom (t .header) j
     reversal-room = used-rows-room t s (t .header) j (markedRows b e) marked-used (rw length-marked (omega (arith, fits)))
@@ -303,7 +303,7 @@ module _ (t : Tables) (s : soundTables t ≡ true) (e : Instruction) (k : e .kin
       fee-room = used-rows-room t s h′ j′ reversedRows reversed-used (rw length-reversed (omega (arith, fits)))
 
       pub fee-read : withReference (e .a) (newRow Fee (e .account) (word h′ dayPlace) (e .b + returnFee)) ≡ feeRow b e
-      fee-read = rw (used-rows-day t s h′ j′ reversedRows reversed-used)
+      fee-read = rw (rows-day t h′ j′ reversedRows reversed-used)
 
       module _ (h″ j″ : List ℤ) (v : RowAdded h′ h″ j′ j″ (feeRow b e)) where
         returned-used : UsedRows t h″ j″ (returnedRows b e)
@@ -340,8 +340,8 @@ module _ (t : Tables) (s : soundTables t ≡ true) (e : Instruction) (k : e .kin
             posts-accepted t (tablesAt h″ xs j‴) s e (acceptanceOf (rowsUsed t) 2 0 0) q
             (rw (used-read t s) (acceptance-plain b e 2 grows plain-kind keeps-top-up))
             (rw after-return
-            (used-rows-written t s h″ j‴ (settle (e .account) (returnedRows b e))
-            (used-rows-settle t s h″ j″ j‴ (returnedRows b e) returned-used (e .account) (rw length-returned d))
+            (rows-written t h″ j‴ (settle (e .account) (returnedRows b e))
+            (rows-settle t h″ j″ j‴ (returnedRows b e) returned-used (e .account) (rw length-returned d))
             xs (returnedAccounts b e) (c .size) counted))
           where
             keeps-top-up : removesTopUp b e ≡ false

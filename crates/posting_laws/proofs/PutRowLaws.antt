@@ -27,7 +27,7 @@ use Rattle.posting.proofs.BookLaws.{row-read, used-read}
 use Rattle.posting_laws.proofs.RefusalLaws.{length-after, no-ceiling}
 use Rattle.posting_laws.proofs.AddedLaws.{acceptance-plain, posts-accepted}
 use Rattle.posting_laws.proofs.EventLaws.{known-inside}
-use Rattle.posting_laws.proofs.UsedRowsLaws.{UsedRows, used-rows-before, used-rows-put, used-rows-settle, used-rows-written, used-rows-settles, small-before, small-put}
+use Rattle.posting_laws.proofs.UsedRowsLaws.{UsedRows, used-rows-before, rows-put, rows-settle, rows-written, used-rows-settles, small-before, small-put}
 
 -- ---- a row that has a kind is a used one
 
@@ -43,15 +43,15 @@ row-read-by t s used n r u e = (rw u at e) ∙ row-read t s n
 -- ---- refusals 13 and 14: none where one row is put and none added
 
 module _ (b : Book) (e : Instruction) (n : ℕ) (r : Row) (c : changeOf (e .kind) b e ≡ putRow n r b) where
-  rows-put : changeOf (e .kind) b e .rows ≡ set (b .rows) (n - 1) r ++ []
-  rows-put = ap (λ (x : Book). x .rows) c ∙ sym (append-nil (set (b .rows) (n - 1) r))
+  change-rows : changeOf (e .kind) b e .rows ≡ set (b .rows) (n - 1) r ++ []
+  change-rows = ap (λ (x : Book). x .rows) c ∙ sym (append-nil (set (b .rows) (n - 1) r))
 
   pub length-put : length (after b e .rows) ≡ length (b .rows) + 0
-  length-put = length-after b e (set (b .rows) (n - 1) r) [] rows-put (length-set (b .rows) (n - 1) r)
+  length-put = length-after b e (set (b .rows) (n - 1) r) [] change-rows (length-set (b .rows) (n - 1) r)
 
   pub no-ceiling-put : ceiling b e ≡ false
   unfolding count sumBy
-  no-ceiling-put = no-ceiling b e (set (b .rows) (n - 1) r) [] rows-put (length-set (b .rows) (n - 1) r) refl
+  no-ceiling-put = no-ceiling b e (set (b .rows) (n - 1) r) [] change-rows (length-set (b .rows) (n - 1) r) refl
 
 -- ---- the tables and the book after an accepted event that changes the row that it names and no other
 
@@ -70,7 +70,7 @@ module _ (t : Tables) (s : soundTables t ≡ true) (e : Instruction) (q : 0 ≡ 
   within = omega (arith, row-used t s (e .a) h, used-read t s)
 
   put-used : UsedRows t (t .header) j rows
-  put-used = used-rows-put t s (t .header) (t .journal) j (b .rows) (used-rows-before t s) (e .a - 1) r within w
+  put-used = rows-put t (t .header) (t .journal) j (b .rows) (used-rows-before t s) (e .a - 1) r within w
 
   length-rows : length rows ≡ rowsUsed t
   length-rows = length-set (b .rows) (e .a - 1) r ∙ sym (used-read t s)
@@ -92,5 +92,5 @@ module _ (t : Tables) (s : soundTables t ≡ true) (e : Instruction) (q : 0 ≡ 
         posts-accepted t (tablesAt (t .header) (t .accounts) j″) s e (acceptanceOf (rowsUsed t) 0 0 0) q
         (acceptance-plain b e 0 (length-put b e (e .a) r c) (ne-eqb (e .kind) 9 kind-9) (rw (ne-eqb (e .kind) 7 kind-7)))
         (rw after-put
-        (used-rows-written t s (t .header) j″ (settle (e .account) rows) (used-rows-settle t s (t .header) j j″ rows put-used (e .account) (rw length-rows d))
+        (rows-written t (t .header) j″ (settle (e .account) rows) (rows-settle t (t .header) j j″ rows put-used (e .account) (rw length-rows d))
         (t .accounts) (b .accounts) refl (unfold bookOf in refl)))

@@ -9,9 +9,9 @@ use native.Mathlib.Decide.{ℕ-discrete}
 use mathlib.Core.List.{List, [], _∷_, _++_, map}
 use lib.ListN.{length, getD, set, length-set, length-append, length-map}
 use lib.Seq.{getD-set-same, getD-set-other}
-use lib.IntN.{ℤ, pos}
+use lib.IntN.{ℤ}
 use Rattle.records.specs.Layout.{headerWidth, dayPlace, usedPlace, headerSchedule}
-use Rattle.records.specs.Encoding.{natOf, word, rowAt, rowsOf, accountsOf}
+use Rattle.records.specs.Encoding.{word, rowAt, rowsOf, accountsOf}
 use Rattle.lists.proofs.ListLaws.{tabulate-at, length-tabulate}
 use Rattle.rules.specs.Rows.{Row, blank}
 use Rattle.rules.specs.Settlement.{settle}
@@ -20,7 +20,7 @@ use Rattle.rules.specs.Tables.{Tables, accountsIn, roomIn, rowsUsed, scheduleFr
 use Rattle.rules.proofs.SettlementLaws.{length-settle}
 use Rattle.rules.proofs.TableLaws.{sound-rows, header-length, journal-length}
 use Rattle.tables.specs.Changes.{RowChanged, RowsMapped}
-use Rattle.tables.proofs.ChangeLaws.{changed-rows, changed-append, mapped-all}
+use Rattle.tables.proofs.ChangeLaws.{changed-rows, changed-append, mapped-all, word-same, word-other}
 use Rattle.settlement.specs.Settling.{Journal, Settled}
 use Rattle.posting.specs.Posts.{tablesAt, RowRoom, RowAdded}
 use Rattle.posting.proofs.BookLaws.{row-holds}
@@ -106,10 +106,10 @@ module _ (t : Tables) (h j j′ : List ℤ) (rows : List Row) (u : UsedRows t h 
       c = rw (u .used) at (w .row)
 
       there : word h′ usedPlace ≡ length rows + 1
-      there = unfold word natOf in (rw (w .header) (ap natOf (getD-set-same h usedPlace _ (pos 0) (omega (arith, u .header-size))) ∙ rw (u .used)))
+      there = rw (w .header) (word-same h usedPlace _ (omega (arith, u .header-size)) ∙ rw (u .used))
 
       other : (k : ℕ) → k ≢ usedPlace → word h′ k ≡ word h k
-      other k q = unfold word in (rw (w .header) (ap natOf (getD-set-other h usedPlace k _ (pos 0) q)))
+      other k q = rw (w .header) (word-other h usedPlace _ k q)
 
   -- rows used one after the other
   pub rows-then : (acc h′ : List ℤ) (rows′ : List Row) → UsedRows (tablesAt h acc j) h′ j′ rows′ → UsedRows t h′ j′ rows′
@@ -178,28 +178,12 @@ module _ (t : Tables) (s : soundTables t ≡ true) where
   used-rows-before = rw (sound-rows t s) (rows-before t)
 
   module _ (h j j′ : List ℤ) (rows : List Row) (u : UsedRows t h j rows) where
-    pub used-rows-put : (i : ℕ) (r : Row) → i < length rows → RowChanged j j′ i r → UsedRows t h j′ (set rows i r)
-    used-rows-put = rows-put t h j j′ rows u
-
-    pub used-rows-map : (f : Row → Row) → RowsMapped f j j′ (length rows) → UsedRows t h j′ (map f rows)
-    used-rows-map = rows-map t h j j′ rows u
-
-    pub used-rows-settle : (a : ℕ) → Settled j j′ (length rows) a → UsedRows t h j′ (settle a rows)
-    used-rows-settle = rows-settle t h j j′ rows u
-
     pub used-rows-add : (h′ : List ℤ) (r : Row) → RowAdded h h′ j j′ r → UsedRows t h′ j′ (rows ++ (r ∷ []))
     used-rows-add = rows-add t h j j′ rows u (header-length t s)
 
   module _ (h j : List ℤ) (rows : List Row) (u : UsedRows t h j rows) where
     pub used-rows-room : length rows < roomIn t → RowRoom h j
     used-rows-room = rows-room t h j rows u (header-length t s)
-
-    pub used-rows-day : word h dayPlace ≡ bookOf t .day
-    used-rows-day = rows-day t h j rows u
-
-    pub used-rows-written : (acc : List ℤ) (xs : List Account) → length acc ≡ length (t .accounts) → accountsOf acc (accountsIn t) ≡ xs
-        → Written t (tablesAt h acc j) (withRows rows (withAccounts xs (bookOf t)))
-    used-rows-written = rows-written t h j rows u
 
     -- these rows can be settled
     pub used-rows-settles : length rows ≤ roomIn t → SmallAmounts rows → Journal j (length rows)

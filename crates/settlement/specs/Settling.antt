@@ -8,7 +8,7 @@ use lib.ListN.{length}
 use Rattle.records.specs.Layout.{rowWidth}
 use Rattle.records.specs.Encoding.{rowAt, rowsOf}
 use Rattle.lists.specs.Lists.{only}
-use Rattle.rules.specs.Rows.{remaining, sourceOf, payable}
+use Rattle.rules.specs.Rows.{Row, remaining, sourceOf, payable}
 use Rattle.rules.specs.Settlement.{moved, settle}
 
 -- a journal with room for the used rows, whose amounts a signed word holds
@@ -34,8 +34,12 @@ pub record NextDebit (t : List ℤ) (used a j k : ℕ) : Type 0 where
   pub passed : (i : ℕ) → j ≤ i → i < k → only (payable (rowsOf t used) a) remaining (rowAt t i) ≡ 0
   pub wants : k < used → 0 < only (payable (rowsOf t used) a) remaining (rowAt t k)
 
--- the used rows are those after settlement; the others are as before
-pub record Settled (t u : List ℤ) (used a : ℕ) : Type 0 where
+-- the used rows become those given; the others are as before
+pub record RowsBecome (t u : List ℤ) (used : ℕ) (new : List Row) : Type 0 where
   pub size : length u ≡ length t
-  pub rows : rowsOf u used ≡ settle a (rowsOf t used)
+  pub rows : rowsOf u used ≡ new
   pub rest : (k : ℕ) → used ≤ k → rowAt u k ≡ rowAt t k
+
+-- the used rows become those after settlement
+abbrev pub Settled : List ℤ → List ℤ → ℕ → ℕ → Type 0
+Settled t u used a = RowsBecome t u used (settle a (rowsOf t used))

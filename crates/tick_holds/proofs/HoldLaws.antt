@@ -32,12 +32,12 @@ use Rattle.tick_rules.specs.Ticks.{freed, settleThose}
 use Rattle.tick_rules.proofs.FreedLaws.{freed-settled, none-ended}
 use Rattle.tables.specs.Changes.{RowsMapped}
 use Rattle.tables.proofs.ChangeLaws.{mapped-all}
-use Rattle.settlement.specs.Settling.{Journal, Settled}
+use Rattle.settlement.specs.Settling.{Journal, RowsBecome}
 use Rattle.account_sums.specs.Tallies.{Tallied}
 use Rattle.account_sums.proofs.SumsLaws.{Share}
 use Rattle.posting.proofs.BookLaws.{day-read, used-read, count-read, used-room}
 use Rattle.tick_base.proofs.MidwayLaws.{sound-midway, midway-row}
-use Rattle.tick_holds.specs.Holds.{endsOf, EndingRows, Ends, RowsBecome, SettledThose, UnraisedRows}
+use Rattle.tick_holds.specs.Holds.{endsOf, EndingRows, Ends, SettledThose, UnraisedRows}
 
 -- ---- the share of a row
 
@@ -179,9 +179,6 @@ unraised-same t ending e z =
 pub release-due : (today : ℕ) (r : Row) → StorableRow (release today r) → r .due + (today - r .hold) < 2 ^ 63
 unfolding release
 release-due today r s = s .due
-
-pub settled-one : (a used : ℕ) (t u : List ℤ) → Settled t u used a → RowsBecome t u used (settle a (rowsOf t used))
-settled-one a used t u s = record { size = s .size; rows = s .rows; rest = s .rest }
 
 pub settled-not : (used : ℕ) (t : List ℤ) → RowsBecome t t used (rowsOf t used)
 settled-not used t = record { size = refl; rows = refl; rest = λ k h. refl }

@@ -15,6 +15,7 @@ use Rattle.rules.specs.Events.{release}
 use Rattle.rules.specs.Settlement.{settle}
 use Rattle.rules.specs.Tick.{holdEnds, beforeRaising}
 use Rattle.rules.specs.Tables.{Tables, rowsUsed, bookOf, soundTables}
+use Rattle.settlement.specs.Settling.{RowsBecome}
 use Rattle.tick_rules.specs.Ticks.{settleThose}
 
 -- a row's share in the holds of account n that end
@@ -35,12 +36,6 @@ pub record EndingRows (t : List ℤ) (used today : ℕ) : Type 0 where
 pub record Ends (t : Tables) (ending : Bool) : Type 0 where
   pub sound : soundTables t ≡ true
   pub told : ending ≡ exists (holdEnds (bookOf t .day + 1)) (bookOf t .rows)
-
--- the used rows become those given; the others are as before
-pub record RowsBecome (t u : List ℤ) (used : ℕ) (new : List Row) : Type 0 where
-  pub size : length u ≡ length t
-  pub rows : rowsOf u used ≡ new
-  pub rest : (k : ℕ) → used ≤ k → rowAt u k ≡ rowAt t k
 
 -- one account settled, where it is to be
 abbrev pub SettledIf : Bool → ℕ → List ℤ → List ℤ → ℕ → Type 0

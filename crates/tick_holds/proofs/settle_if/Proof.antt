@@ -1,5 +1,5 @@
 -- `settle_if` meets its contract.
-use Rattle.tick_holds.proofs.HoldLaws.{settled-one, settled-not}
+use Rattle.tick_holds.proofs.HoldLaws.{settled-not}
 use borrow.Author.Needs.{needs}
 use Rattle.tick_holds.proofs.settle_if.Statement.{statement}
 use Rattle.tick_holds.proofs.settle_if.Tie as tie
@@ -11,7 +11,7 @@ same-length : tie.Need-same-length
 same-length c = search needs
 
 returns : tie.Need-returns
-returns c = rw (c .before .before .before .if1 .taken) (settled-one _ _ _ _ (c .before .settle .ensures))
+returns c = rw (c .before .before .before .if1 .taken) (c .before .settle .ensures)
 
 returns-2 : tie.Need-returns-2
 returns-2 c = rw (c .if1 .left) (settled-not _ _)
