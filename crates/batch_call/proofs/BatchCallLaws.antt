@@ -32,12 +32,6 @@ use Rattle.batch_call.specs.BatchCalls.{RecordPosted, Batches}
 
 -- ---- batchRefusals
 
--- the refusals with what each test came to
-pub refusals-by : (t : Tables) (es : List Event) (w : List ℤ) (s m r : Bool) → soundTables t ≡ s → ltb mostEvents (length es) ≡ m → ltb (length w) (length es * answerWidth) ≡ r
-    → first ((1, not s) ∷ (2, m || r) ∷ []) ≡ first (batchRefusals t es w)
-unfolding batchRefusals
-refusals-by t es w s m r p q z = rw (p, q, z)
-
 -- refused: nothing is written
 pub batch-refused : (t : Tables) (es : List Event) (w : List ℤ) (n : ℕ) → n ≡ first (batchRefusals t es w) → n is 0 ≡ false → Batches t t es w w n
 batch-refused t es w n q z =

@@ -1,54 +1,25 @@
 // A batch of event records on tables of any lengths and contents: soundness and the lengths once, then each event posted in order and its
-// answer written. Uses lists, records, rules, preservation, tables, sound_passages, soundness, posting, lookups, batch_index, events and
-// answering.
+// answer written. Uses lists, records, rules, preservation, tables, sound_passages, posting, lookups, batch_index, events, answering and
+// call_refusals.
 use answering::event_of;
 use answering::write_answer;
 use batch_index::SEAT_WORDS;
 use batch_index::look_up_indexed;
 use batch_index::start_index;
 use batch_index::update_index;
+use call_refusals::batch::batch_refusal;
 use events::post_known;
 use records::Event;
 use sound_passages::passages::CELLS;
-use soundness::sound;
-use tables::layout::ANSWER_WIDTH;
 use tables::layout::USED_PLACE;
-use tables::limits::MOST_EVENTS;
 use tables::words::get;
 ghost use mathlib.Core.Path.{_≡_};
 ghost use mathlib.Core.Bool.{true};
-ghost use mathlib.Core.List.{List};
-ghost use lib.ListN.{length};
-ghost use Rattle.lists.specs.Tests.{first};
 ghost use Rattle.rules.specs.Tables.{soundTables};
-ghost use Rattle.rules.specs.Calls.{Event, batchRefusals};
 ghost use Rattle.posting.specs.Posts.{tablesAt};
 ghost use Rattle.batch_index.specs.Index.{Indexed, Empty};
 ghost use Rattle.answering.specs.Answers.{AnswerIn};
 ghost use Rattle.batch_call.specs.BatchCalls.{Begins, RecordPosted};
-
-// Why a batch of so many events is refused, 0 where it is not: 1 the book is not sound, 2 too many events, or fewer than five answer words
-// for each.
-pub fn batch_refusal(
-    header: &[i64],
-    accounts: &[i64],
-    journal: &[i64],
-    count: usize,
-    answers: &[i64],
-) -> u64
-    ensures { λ n. ⌜ ((es : List Event) → length es ≡ count → n ≡ first (batchRefusals (tablesAt (now (header .entry)) (now (accounts .entry)) (now (journal .entry))) es (now (answers .entry)))) ⌝ }
-{
-    if !sound(header, accounts, journal) {
-        return 1;
-    }
-    if MOST_EVENTS < count {
-        return 2;
-    }
-    if answers.len() < count * ANSWER_WIDTH {
-        return 2;
-    }
-    0
-}
 
 // Begins a batch: the number of its refusal, or 0, and then the two arrays, all 0 before, hold the index of the journal.
 pub fn begin_batch(

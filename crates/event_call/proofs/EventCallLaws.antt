@@ -22,15 +22,10 @@ use Rattle.tables.specs.Changes.{putAll}
 use Rattle.posting.specs.Posts.{Posts}
 use Rattle.answering.proofs.AnswerLaws.{small-storable, refusal-small, answer-storable}
 use Rattle.answering.proofs.WrittenLaws.{written-one}
+use Rattle.call_refusals.proofs.RefusalLaws.{event-refusals-by}
 use Rattle.event_call.specs.EventCalls.{callAnswer, AnswersTo, Calls}
 
 -- ---- eventRefusals
-
--- the refusals with what each test came to
-pub refusals-by : (t : Tables) (e w : List ℤ) (s m : Bool) → soundTables t ≡ s → not (length e is eventWidth) || ltb (length w) answerWidth ≡ m
-    → first ((1, not s) ∷ (2, m) ∷ []) ≡ first (eventRefusals t e w)
-unfolding eventRefusals
-refusals-by t e w s m p q = rw (p, q)
 
 -- the highest number is 2
 refusals-le : (s m : Bool) → first ((1, not s) ∷ (2, m) ∷ []) ≤ 2
@@ -41,7 +36,7 @@ refusals-le false m = omega arith
 
 number-le : (t : Tables) (e w : List ℤ) → first (eventRefusals t e w) ≤ 2
 number-le t e w =
-    rw (← refusals-by t e w (soundTables t) (not (length e is eventWidth) || ltb (length w) answerWidth) refl refl) (refusals-le (soundTables t) (not (length e is eventWidth) || ltb (length w) answerWidth))
+    rw (← event-refusals-by t e w (soundTables t) (not (length e is eventWidth) || ltb (length w) answerWidth) refl refl) (refusals-le (soundTables t) (not (length e is eventWidth) || ltb (length w) answerWidth))
 
 -- a call that is not refused has sound tables, seven words and room for an answer
 pub record Taken (t : Tables) (e w : List ℤ) : Type 0 where

@@ -1,38 +1,14 @@
 // A single event on tables of any lengths and contents: soundness, the lengths, the event, its answer written. Uses lists, records, rules,
-// preservation, tables, soundness, posting, events and answering.
+// preservation, tables, posting, events, answering and call_refusals.
 use answering::read_event;
 use answering::write_answer;
+use call_refusals::single::event_refusal;
 use events::post_event;
 use posting::answers::refused;
 use records::Answer;
-use soundness::sound;
 use tables::layout::ANSWER_WIDTH;
-use tables::layout::EVENT_WIDTH;
-ghost use mathlib.Core.Path.{_≡_};
-ghost use Rattle.lists.specs.Tests.{first};
-ghost use Rattle.rules.specs.Calls.{eventRefusals};
 ghost use Rattle.posting.specs.Posts.{tablesAt};
 ghost use Rattle.event_call.specs.EventCalls.{AnswersTo, Calls};
-
-// Why the call is refused before its event is read, 0 where it is not: 1 the book is not sound, 2 another length than seven words, or an
-// answer table of fewer than five.
-fn call_refusal(
-    header: &[i64],
-    accounts: &[i64],
-    journal: &[i64],
-    event: &[i64],
-    answer: &[i64],
-) -> u64
-    ensures { λ n. ⌜ n ≡ first (eventRefusals (tablesAt (now (header .entry)) (now (accounts .entry)) (now (journal .entry))) (now (event .entry)) (now (answer .entry))) ⌝ }
-{
-    if !sound(header, accounts, journal) {
-        return 1;
-    }
-    if (event.len() != EVENT_WIDTH) | (answer.len() < ANSWER_WIDTH) {
-        return 2;
-    }
-    0
-}
 
 // The answer, the tables changed where its number is 0. The answer table is read for its length alone.
 fn answer_to(
@@ -44,7 +20,7 @@ fn answer_to(
 ) -> Answer
     ensures { λ r. ⌜ AnswersTo (tablesAt (now (header .entry)) (now (accounts .entry)) (now (journal .entry))) (tablesAt (now (header .exit)) (now (accounts .exit)) (now (journal .exit))) (now (event .entry)) (now (answer .entry)) r ⌝ }
 {
-    let n = call_refusal(header, accounts, journal, event, answer);
+    let n = event_refusal(header, accounts, journal, event, answer);
     if n != 0 {
         return refused(n);
     }
