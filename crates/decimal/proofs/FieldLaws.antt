@@ -3,7 +3,6 @@ use mathlib.Core.Path.{_≡_, refl, sym, ap, _∙_}
 use mathlib.Core.Bool.{Bool, true, false, cond, _&&_, and-true}
 use mathlib.Core.List.{List, [], _∷_, _++_, append-nil}
 use Prim.Native.Nat.{ℕ, zero, suc, _+_, _-_, _≤_, _<_}
-use native.Mathlib.Nat.{not-suc-le-zero}
 use native.Mathlib.Omega.{arith}
 use native.Mathlib.Numerals.{add-one}
 use native.Mathlib.Decide.{ℕ-discrete}
@@ -12,35 +11,25 @@ use borrow.Author.Tests.{eqb-true, ne-eqb}
 use lib.IntN.{ℤ}
 use lib.ListN.{length, take, drop, set, length-set}
 use lib.Seq.{slice, length-slice, take-take, drop-drop, take-suc-set, drop-set-lt, take-nil, append-snoc}
-use Rattle.bytes.specs.Bytes.{indexOf, indexAfter, slice as part}
+use Rattle.bytes.specs.Bytes.{indexOf, slice as part}
 use Rattle.decimal.specs.Decimal.{numberOf, inFirst, fieldsOf, allNumbers, numbersIn}
+use Rattle.decimal.proofs.PartLaws.{parts-cut, parts-last}
 
 -- ---- a field and the rest
 
+fields-step : (b : ℕ) (bs : List ℕ) → fieldsOf (b ∷ bs) ≡ cond (eqb b 44) ([] ∷ fieldsOf bs) (inFirst b (fieldsOf bs))
+unfolding fieldsOf
+fields-step b bs = refl
+
 -- no comma: one field
 pub fields-last : (bs : List ℕ) → indexOf 44 bs ≡ length bs → fieldsOf bs ≡ bs ∷ []
-unfolding fieldsOf indexOf indexAfter inFirst
+unfolding fieldsOf inFirst
 fields-last [] e = refl
-fields-last (b ∷ bs) e = go (eqb b 44) e (fields-last bs)
-  where
-    go : (t : Bool) → indexAfter t (indexOf 44 bs) ≡ suc (length bs) → (indexOf 44 bs ≡ length bs → fieldsOf bs ≡ bs ∷ [])
-        → cond t ([] ∷ fieldsOf bs) (inFirst b (fieldsOf bs)) ≡ (b ∷ bs) ∷ []
-    go true q f = absurd (omega arith)
-    go false q f = ap (inFirst b) (f (omega arith))
+fields-last (b ∷ bs) e = parts-last 44 fieldsOf fields-step (λ d. refl) (b ∷ bs) e (omega arith)
 
 -- the first comma ends the first field
 pub fields-cut : (bs : List ℕ) (k : ℕ) → indexOf 44 bs ≡ k → k < length bs → fieldsOf bs ≡ take k bs ∷ fieldsOf (drop (suc k) bs)
-unfolding fieldsOf indexOf indexAfter inFirst
-fields-cut [] k e h = absurd (not-suc-le-zero h)
-fields-cut (b ∷ bs) k e h = go (eqb b 44) k e h (fields-cut bs)
-  where
-    go : (t : Bool) (k : ℕ) → indexAfter t (indexOf 44 bs) ≡ k → k < suc (length bs)
-        → ((j : ℕ) → indexOf 44 bs ≡ j → j < length bs → fieldsOf bs ≡ take j bs ∷ fieldsOf (drop (suc j) bs))
-        → cond t ([] ∷ fieldsOf bs) (inFirst b (fieldsOf bs)) ≡ take k (b ∷ bs) ∷ fieldsOf (drop (suc k) (b ∷ bs))
-    go true zero q l f = refl
-    go true (suc k) q l f = absurd (omega arith)
-    go false zero q l f = absurd (omega arith)
-    go false (suc k) q l f = ap (inFirst b) (f k (omega arith) (omega arith))
+fields-cut bs k e h = rw (append-nil bs, append-nil (drop (suc k) bs)) at (parts-cut 44 fieldsOf fields-step bs k [] e h)
 
 -- the first elements from a place on
 pub take-of-drop : (a k : ℕ) (xs : List ℕ) → take k (drop a xs) ≡ drop a (take (a + k) xs)
