@@ -13,10 +13,10 @@ use Rattle.lists.specs.Lists.{sumBy, tabulate}
 use Rattle.lists.proofs.ListLaws.{zeros}
 use Rattle.lists.proofs.SumLaws.{sumBy-more}
 use Rattle.records.specs.Encoding.{rowAt, rowsOf}
-use Rattle.rules.specs.Limits.{mostRows, mostAccounts, highestRefund}
+use Rattle.records.specs.Limits.{mostRows, mostAccounts, highestRefund}
 use Rattle.rules.specs.Rows.{Row, Test, remaining, source, debit, held}
 use Rattle.account_sums.specs.Tallies.{returnOf, drawnOf, moneyOf, paidOf, debtOf, owedOf}
-use Rattle.account_sums.specs.Columns.{Column, Low, Tallies, raised, withSource, withDebit, Addable}
+use Rattle.account_sums.specs.Columns.{Column, Low, Tallies, raised, withSource, withDebit, Addable, sumsSize}
 use Rattle.account_sums.proofs.SumsLaws.{Share, part-le, share-own, share-other, returnedCheck, share-return, share-drawn, share-money, share-paid, share-debt, share-owed, source-no-debit, no-source-return}
 
 -- ---- three sums raised
@@ -92,20 +92,20 @@ module _ (f : ℕ → Row → ℕ) (u : Test) (v : Row → ℕ) (share : Share f
 
 -- ---- the six sums
 
-pub tallies-none : (t : List ℤ) (used : ℕ) → Tallies t used (replicate 1542 0) 0
+pub tallies-none : (t : List ℤ) (used : ℕ) → Tallies t used (replicate sumsSize 0) 0
 tallies-none t used =
-    record { sized = length-replicate {A = ℕ} 1542 0; low = λ p. omega (arith, zeros 1542 p); returns = none returnOf 0; draws = none drawnOf 1; moneys = none moneyOf 2; payments = none paidOf 3; debts = none (debtOf (rowsOf t used)) 4; owings = none owedOf 5 }
+    record { sized = length-replicate {A = ℕ} sumsSize 0; low = λ p. omega (arith, zeros sumsSize p); returns = none returnOf 0; draws = none drawnOf 1; moneys = none moneyOf 2; payments = none paidOf 3; debts = none (debtOf (rowsOf t used)) 4; owings = none owedOf 5 }
   where
-    none : (f : ℕ → Row → ℕ) (k : ℕ) → Column f k t (replicate 1542 0) 0
-    none f k = unfold sumBy tabulate in record { each = λ n b. zeros 1542 (n * 6 + k) }
+    none : (f : ℕ → Row → ℕ) (k : ℕ) → Column f k t (replicate sumsSize 0) 0
+    none f k = unfold sumBy tabulate in record { each = λ n b. zeros sumsSize (n * 6 + k) }
 
 -- a row that can be added, where the sums are of fewer rows than there can be
 pub addable : (t : List ℤ) (used : ℕ) (s : List ℕ) (i : ℕ) → Tallies t used s i → i ≤ mostRows → (r : Row) → r .account ≤ mostAccounts → r .amount ≤ highestRefund → r .settled ≤ r .amount → Addable s r
-addable t used s i w h r a b c = record { seat = a; amount = b; settled = c; low = λ p. omega (arith, w .low p) }
+addable t used s i w h r a b c = record { slot = a; amount = b; settled = c; low = λ p. omega (arith, w .low p) }
 
 module _ (t : List ℤ) (used : ℕ) (s : List ℕ) (i : ℕ) (w : Tallies t used s i) (r : Row) (e : r ≡ rowAt t i) (a : Addable s r) where
-  seat-low : r .account * 6 + 5 < length s
-  seat-low = rw (w .sized) (omega (arith, a .seat))
+  slot-low : r .account * 6 + 5 < length s
+  slot-low = rw (w .sized) (omega (arith, a .slot))
 
   own-account : r .account ≡ rowAt t i .account
   own-account = rw e
@@ -113,7 +113,7 @@ module _ (t : List ℤ) (used : ℕ) (s : List ℕ) (i : ℕ) (w : Tallies t use
   pub source-added : (returned : Bool) → returned ≡ returnedCheck r → source r ≡ true → Tallies t used (withSource s r returned) (i + 1)
   unfolding withSource
   source-added returned q h =
-      let b : r .account * 6 + 2 < length s = omega (arith, seat-low) in
+      let b : r .account * 6 + 2 < length s = omega (arith, slot-low) in
       let g : source (rowAt t i) ≡ true = rw e at h in
       let d = source-no-debit (rowAt t i) g in
       record {
@@ -133,7 +133,7 @@ module _ (t : List ℤ) (used : ℕ) (s : List ℕ) (i : ℕ) (w : Tallies t use
   pub debit-added : (kept : Bool) → kept ≡ held (rowsOf t used) r → source r ≡ false → debit r ≡ true → Tallies t used (withDebit s r kept) (i + 1)
   unfolding withDebit
   debit-added kept q h g =
-      let b : r .account * 6 + 3 + 2 < length s = omega (arith, seat-low) in
+      let b : r .account * 6 + 3 + 2 < length s = omega (arith, slot-low) in
       let n : source (rowAt t i) ≡ false = rw e at h in
       let d : debit (rowAt t i) ≡ true = rw e at g in
       record {

@@ -10,12 +10,13 @@ use lib.Dec.{eqb, leb}
 use borrow.Author.Tests.{eq-eqb, ne-eqb, eqb-false, leb-true}
 use lib.IntN.{ℤ}
 use lib.ListN.{getD, set}
+use Rattle.records.specs.Codes.{KindRefund}
 use Rattle.lists.specs.Tests.{_is_}
 use Rattle.lists.specs.Lists.{only}
 use Rattle.lists.proofs.TestLaws.{and-left, and-right, or-left, or-right}
 use Rattle.records.specs.Encoding.{rowAt}
-use Rattle.rules.specs.Limits.{highestRefund}
-use Rattle.rules.specs.Rows.{Row, Test, Payment, remaining, source, debit, held, sourceOf, debitOf, payable}
+use Rattle.records.specs.Limits.{highestRefund, slotCount}
+use Rattle.rules.specs.Rows.{Row, Test, KindPayment, remaining, source, debit, held, sourceOf, debitOf, payable}
 use Rattle.rules.specs.Soundness.{kindFits, returnedOf}
 use Rattle.tables.specs.Changes.{RowIn}
 use Rattle.account_sums.specs.Tallies.{Tallied, returnOf, drawnOf, moneyOf, paidOf, debtOf, owedOf, Countable}
@@ -44,40 +45,40 @@ module _ (f : ℕ → Row → ℕ) (u : Test) (v : Row → ℕ) (share : Share f
       go false = omega arith
 
   -- a row that fails the test leaves the sums
-  pub share-skipped : (t : List ℤ) (xs : List ℕ) (i : ℕ) → Tallied f 257 t xs i → u (rowAt t i) ≡ false → Tallied f 257 t xs (i + 1)
-  share-skipped t xs i s e = tallied-skip f 257 t xs i s (λ n b. share .form n (rowAt t i) ∙ rw (e, and-false))
+  pub share-skipped : (t : List ℤ) (xs : List ℕ) (i : ℕ) → Tallied f slotCount t xs i → u (rowAt t i) ≡ false → Tallied f slotCount t xs (i + 1)
+  share-skipped t xs i s e = tallied-skip f slotCount t xs i s (λ n b. share .form n (rowAt t i) ∙ rw (e, and-false))
 
   -- row i is added: a is its account, w its share
-  module _ (t : List ℤ) (xs : List ℕ) (i : ℕ) (s : Tallied f 257 t xs i) (used : ℕ) (c : Countable t used) (h : i < used) (a : ℕ) (e : a ≡ rowAt t i .account) (w : ℕ) (q : w ≡ cond (u (rowAt t i)) (v (rowAt t i)) 0) where
-    pub seat-asked : ((k : ℕ) → k < used → v (rowAt t k) ≤ highestRefund) → (a < 257) × (getD xs a 0 + w < 2 ^ 64)
-    seat-asked small =
-        let d : a < 257 = rw e (omega (arith, c .account i h)) in
+  module _ (t : List ℤ) (xs : List ℕ) (i : ℕ) (s : Tallied f slotCount t xs i) (used : ℕ) (c : Countable t used) (h : i < used) (a : ℕ) (e : a ≡ rowAt t i .account) (w : ℕ) (q : w ≡ cond (u (rowAt t i)) (v (rowAt t i)) 0) where
+    pub slot-asked : ((k : ℕ) → k < used → v (rowAt t k) ≤ highestRefund) → (a < slotCount) × (getD xs a 0 + w < 2 ^ 64)
+    slot-asked small =
+        let d : a < slotCount = rw e (omega (arith, c .account i h)) in
         let b : w ≤ highestRefund = rw q (part-le (u (rowAt t i)) (v (rowAt t i)) highestRefund (small i h)) in
         let few = c .few in
-        let sum = tallied-small f 257 t highestRefund xs i a s d (λ k m. omega (arith, share-le a (rowAt t k), small k (omega arith))) in
+        let sum = tallied-small f slotCount t highestRefund xs i a s d (λ k m. omega (arith, share-le a (rowAt t k), small k (omega arith))) in
         (d, omega arith)
 
-    pub seat-added : (ys : List ℕ) → ys ≡ set xs a (getD xs a 0 + w) → Tallied f 257 t ys (i + 1)
-    seat-added ys z =
-        let d : a < 257 = rw e (omega (arith, c .account i h)) in
-        rw z (tallied-add f 257 t xs i a w s d (q ∙ sym (share-own a (rowAt t i) e)) (λ m n. share-other m (rowAt t i) (λ x. n (x ∙ sym e))))
+    pub slot-added : (ys : List ℕ) → ys ≡ set xs a (getD xs a 0 + w) → Tallied f slotCount t ys (i + 1)
+    slot-added ys z =
+        let d : a < slotCount = rw e (omega (arith, c .account i h)) in
+        rw z (tallied-add f slotCount t xs i a w s d (q ∙ sym (share-own a (rowAt t i) e)) (λ m n. share-other m (rowAt t i) (λ x. n (x ∙ sym e))))
 
   -- the same, where the row was read: r is the row
-  module _ (t : List ℤ) (xs : List ℕ) (i : ℕ) (s : Tallied f 257 t xs i) (used : ℕ) (c : Countable t used) (h : i < used) (r : Row) (e : r ≡ rowAt t i) (w : ℕ) (q : w ≡ cond (u r) (v r) 0) where
-    pub share-asked : ((k : ℕ) → k < used → v (rowAt t k) ≤ highestRefund) → (r .account < 257) × (getD xs (r .account) 0 + w < 2 ^ 64)
-    share-asked = seat-asked t xs i s used c h (r .account) (rw e) w (q ∙ rw e)
+  module _ (t : List ℤ) (xs : List ℕ) (i : ℕ) (s : Tallied f slotCount t xs i) (used : ℕ) (c : Countable t used) (h : i < used) (r : Row) (e : r ≡ rowAt t i) (w : ℕ) (q : w ≡ cond (u r) (v r) 0) where
+    pub share-asked : ((k : ℕ) → k < used → v (rowAt t k) ≤ highestRefund) → (r .account < slotCount) × (getD xs (r .account) 0 + w < 2 ^ 64)
+    share-asked = slot-asked t xs i s used c h (r .account) (rw e) w (q ∙ rw e)
 
-    pub share-added : (ys : List ℕ) → ys ≡ set xs (r .account) (getD xs (r .account) 0 + w) → Tallied f 257 t ys (i + 1)
-    share-added = seat-added t xs i s used c h (r .account) (rw e) w (q ∙ rw e)
+    pub share-added : (ys : List ℕ) → ys ≡ set xs (r .account) (getD xs (r .account) 0 + w) → Tallied f slotCount t ys (i + 1)
+    share-added = slot-added t xs i s used c h (r .account) (rw e) w (q ∙ rw e)
 
 -- ---- the six sums
 
 abbrev pub returnedCheck : Test
-returnedCheck r = r .kind is Payment && r .mark is 4
+returnedCheck r = r .kind is KindPayment && r .mark is 4
 
 pub share-return : Share returnOf returnedCheck (λ r. 1)
 unfolding returnOf returnedOf
-share-return = record { form = λ n r. rw (and-assoc (eqb (r .account) n) (r .kind is Payment) (r .mark is 4)) }
+share-return = record { form = λ n r. rw (and-assoc (eqb (r .account) n) (r .kind is KindPayment) (r .mark is 4)) }
 
 pub share-drawn : Share drawnOf source (λ r. r .settled)
 unfolding only sourceOf
@@ -124,7 +125,7 @@ no-source-debit r k e =
         | yes w ↦ rw w
         | no w ↦ elim (ℕ-discrete (r .kind) 3) [
           | yes x ↦ rw x
-          | no x ↦ let y : r .kind ≡ 6 = omega arith in rw y
+          | no x ↦ let y : r .kind ≡ KindRefund = omega arith in rw y
         ]
       ]
     ]

@@ -7,20 +7,24 @@ use lib.IntN.{ℤ}
 use lib.ListN.{length, getD, set}
 use Rattle.lists.specs.Lists.{sumBy}
 use Rattle.records.specs.Encoding.{rowsOf}
-use Rattle.rules.specs.Limits.{mostRows, mostAccounts, highestRefund}
+use Rattle.records.specs.Limits.{mostRows, mostAccounts, highestRefund, slotCount}
 use Rattle.rules.specs.Rows.{Row, remaining}
 use Rattle.account_sums.specs.Tallies.{returnOf, drawnOf, moneyOf, paidOf, debtOf, owedOf}
 
+-- six sums for each slot
+abbrev pub sumsSize : ℕ
+sumsSize = 1_542
+
 -- place k of each account holds the sums of f over the first i rows
 pub record Column (f : ℕ → Row → ℕ) (k : ℕ) (t : List ℤ) (sums : List ℕ) (i : ℕ) : Type 0 where
-  pub each : (n : ℕ) → n < 257 → getD sums (n * 6 + k) 0 ≡ sumBy (f n) (rowsOf t i)
+  pub each : (n : ℕ) → n < slotCount → getD sums (n * 6 + k) 0 ≡ sumBy (f n) (rowsOf t i)
 
 -- no sum is above what i rows can come to
 abbrev pub Low : List ℕ → ℕ → Type 0
 Low sums i = (p : ℕ) → getD sums p 0 ≤ i * highestRefund
 
 pub record Tallies (t : List ℤ) (used : ℕ) (sums : List ℕ) (i : ℕ) : Type 0 where
-  pub sized : length sums ≡ 1542
+  pub sized : length sums ≡ sumsSize
   pub low : Low sums i
   pub returns : Column returnOf 0 t sums i
   pub draws : Column drawnOf 1 t sums i
@@ -44,7 +48,7 @@ withDebit s r held = raised s (r .account * 6 + 3) (r .settled) (cond (not held)
 
 -- a row whose account has a place, and whose amount leaves the sums in range
 pub record Addable (sums : List ℕ) (r : Row) : Type 0 where
-  pub seat : r .account ≤ mostAccounts
+  pub slot : r .account ≤ mostAccounts
   pub amount : r .amount ≤ highestRefund
   pub settled : r .settled ≤ r .amount
   pub low : Low sums mostRows

@@ -8,7 +8,7 @@ use lib.ListN.{length, getD}
 use Rattle.lists.specs.Lists.{sumBy, only}
 use Rattle.records.specs.Layout.{rowWidth}
 use Rattle.records.specs.Encoding.{rowAt, rowsOf}
-use Rattle.rules.specs.Limits.{mostRows, mostAccounts, highestRefund}
+use Rattle.records.specs.Limits.{mostRows, mostAccounts, highestRefund}
 use Rattle.rules.specs.Rows.{Row, remaining, sourceOf, debitOf, payable}
 use Rattle.rules.specs.Soundness.{kindFits, returnedOf}
 

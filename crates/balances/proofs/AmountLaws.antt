@@ -10,7 +10,7 @@ use borrow.Author.Tests.{eq-eqb, ne-eqb}
 use Rattle.records.specs.Encoding.{rowAt, rowsOf}
 use Rattle.lists.specs.Lists.{sumBy, only, tabulate}
 use Rattle.lists.proofs.SumLaws.{sumBy-more, sumBy-small, only-le}
-use Rattle.rules.specs.Limits.{highestRefund}
+use Rattle.records.specs.Limits.{highestRefund}
 use Rattle.rules.specs.Rows.{Row, Test, source, debit, sourceOf, debitOf}
 use Rattle.rules.specs.Book.{sources, debits}
 use Rattle.posting.specs.Posts.{Amounts}

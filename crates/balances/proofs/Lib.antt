@@ -1,2 +1,2 @@
 pub mod AmountLaws
-pub mod TopUpLaws
+pub mod TopupLaws

@@ -7,7 +7,7 @@ use lib.IntN.{ℤ}
 use lib.Dec.{leb, ltb}
 use Rattle.records.specs.Encoding.{rowsOf}
 use Rattle.lists.specs.Tests.{_is_}
-use Rattle.rules.specs.Book.{Account, Open}
+use Rattle.rules.specs.Book.{Account, StateOpen}
 use Rattle.rules.specs.Book as book
 use Rattle.balances.specs.declared.Sums.{Sums}
 
@@ -17,8 +17,8 @@ pub record Summed (t : List ℤ) (a i : ℕ) (s : Sums) : Type 0 where
   pub debits : s .debits ≡ book.debits (rowsOf t i) a
 
 -- "Due when open, amount above 0, last decline not today": all but the balance
-unfoldable pub mayTopUp : Account → ℕ → Bool
-mayTopUp x today = x .state is Open && ltb 0 (x .topup) && not (x .declined is today)
+unfoldable pub mayTopup : Account → ℕ → Bool
+mayTopup x today = x .state is StateOpen && ltb 0 (x .topup) && not (x .declined is today)
 
 -- "balance at most the threshold", the balance by its two sums
 unfoldable pub isLow : Account → Sums → Bool

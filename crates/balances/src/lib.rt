@@ -1,24 +1,24 @@
-// The sums of an account's sources and of its debits, and whether its top-up is due. Uses lists, records, rules, tables, table_rows,
-// table_accounts, row_tests, account_sums and posting.
+// The sums of an account's sources and of its debits, and whether its top-up is due.
 use account_sums::part;
 use records::Account;
+use records::codes::STATE_OPEN;
+use records::layout::ACCOUNT_WIDTH;
+use records::layout::DAY_PLACE;
+use records::layout::USED_PLACE;
 use row_tests::is_debit;
 use row_tests::is_source;
 use table_accounts::account_numbered;
 use table_rows::account_at;
 use table_rows::read_row;
-use tables::codes::OPEN;
-use tables::layout::ACCOUNT_WIDTH;
-use tables::layout::DAY_PLACE;
-use tables::layout::USED_PLACE;
 use tables::words::get;
 ghost use mathlib.Core.Path.{_≡_};
 ghost use mathlib.Core.Bool.{true};
 ghost use Prim.Native.Nat.{_+_, _^_, _<_};
-ghost use Rattle.rules.specs.Book.{topUpDue};
+ghost use Rattle.rules.specs.Book.{topupDue};
 ghost use Rattle.rules.specs.Tables.{bookOf, soundTables};
-ghost use Rattle.posting.specs.Posts.{tablesAt, Amounts};
-ghost use Rattle.balances.specs.Summed.{Summed, mayTopUp, isLow};
+ghost use Rattle.posting.specs.Posts.{Amounts};
+ghost use Rattle.balances.specs.Summed.{Summed, mayTopup, isLow};
+ghost use Rattle.rules.specs.Lent.{lent, atEntry};
 
 // An account's sums: of its sources, and of its debits, held ones included.
 pub struct Sums {
@@ -59,10 +59,10 @@ pub fn sums_of(journal: &[i64], used: usize, account: u64) -> Sums
 }
 
 // Open, amount above 0, last decline not today.
-pub fn may_top_up(x: Account, today: u64) -> bool
-    ensures { λ b. ⌜ b ≡ mayTopUp x today ⌝ }
+pub fn may_topup(x: Account, today: u64) -> bool
+    ensures { λ b. ⌜ b ≡ mayTopup x today ⌝ }
 {
-    (x.state == OPEN) & (0 < x.topup) & (x.declined != today)
+    (x.state == STATE_OPEN) & (0 < x.topup) & (x.declined != today)
 }
 
 // Balance at most the threshold.
@@ -75,12 +75,12 @@ pub fn is_low(x: Account, s: Sums) -> bool
 }
 
 // Whether the account's top-up is due. The sums are taken only where they decide.
-pub fn top_up_due(header: &[i64], accounts: &[i64], journal: &[i64], n: u64) -> bool
-    requires { ⌜ soundTables (tablesAt (now header) (now accounts) (now journal)) ≡ true ⌝ }
-    ensures { λ b. ⌜ b ≡ topUpDue (bookOf (tablesAt (now (header .entry)) (now (accounts .entry)) (now (journal .entry)))) n ⌝ }
+pub fn topup_due(header: &[i64], accounts: &[i64], journal: &[i64], n: u64) -> bool
+    requires { ⌜ soundTables (lent header accounts journal) ≡ true ⌝ }
+    ensures { λ b. ⌜ b ≡ topupDue (bookOf (atEntry header accounts journal)) n ⌝ }
 {
     let x = account_numbered(accounts, accounts.len() / ACCOUNT_WIDTH, n);
-    if !may_top_up(x, get(header, DAY_PLACE)) {
+    if !may_topup(x, get(header, DAY_PLACE)) {
         return false;
     }
     let used = get(header, USED_PLACE) as usize;

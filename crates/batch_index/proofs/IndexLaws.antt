@@ -9,32 +9,33 @@ use lib.Dec.{leb}
 use lib.IntN.{ℤ}
 use lib.ListN.{length, getD, List·getD-eq-default}
 use borrow.Author.Tests.{lt-ltb, le-ltb, le-leb, lt-leb}
+use Rattle.records.specs.Codes.{EventToll, EventTopupResult}
 use Rattle.records.specs.Layout.{dayPlace}
 use Rattle.records.specs.Encoding.{word, rowAt, rowsOf, accountsOf}
 use Rattle.lists.specs.Lists.{sumBy, only, exists}
 use Rattle.lists.proofs.ListLaws.{every-all}
 use Rattle.lists.proofs.SumLaws.{sumBy-small, only-le}
-use Rattle.rules.specs.Limits.{mostRows, highestRefund}
-use Rattle.rules.specs.Rows.{Toll, blank}
-use Rattle.rules.specs.Book.{Account, unused, Instruction, account, accountNo, sources, debits, lowBalance, topUpDue}
+use Rattle.records.specs.Limits.{mostRows, highestRefund, slotCount}
+use Rattle.rules.specs.Rows.{KindToll, blank}
+use Rattle.rules.specs.Book.{Account, unused, Instruction, account, accountNo, sources, debits, lowBalance, topupDue}
 use Rattle.rules.specs.Tables.{Tables, accountsIn, rowsUsed, bookOf, soundTables}
 use Rattle.rules.proofs.TableLaws.{sound-book, sound-rows}
 use Rattle.posting.proofs.BookLaws.{account-read, day-read, count-small, count-read, account-holds}
 use Rattle.sound_passages.specs.Trees.{passagesDiffer, TreesOf, CellFor, Inserted}
 use Rattle.sound_passages.proofs.TreeLaws.{trees-none}
 use Rattle.account_sums.specs.Tallies.{Countable}
-use Rattle.balances.specs.Summed.{mayTopUp, isLow}
+use Rattle.balances.specs.Summed.{mayTopup, isLow}
 use Rattle.tick_base.proofs.MidwayLaws.{sound-midway, midway-countable}
-use Rattle.lookups.specs.Lookups.{NothingLeft, LooksUp}
-use Rattle.lookups.proofs.PassageLaws.{tollOf, other-kind, other-passage, passage-found, passage-absent}
-use Rattle.batch_index.specs.Index.{ofSide, firstAt, sumAt, seatWord, Seated, IndexOf, Indexed, Empty, Indexable}
+use Rattle.event_lookups.specs.Lookups.{NothingLeft, LooksUp}
+use Rattle.event_lookups.proofs.PassageLaws.{tollOf, other-kind, other-passage, passage-found, passage-absent}
+use Rattle.batch_index.specs.Index.{ofSide, firstAt, sumAt, slotWord, SlotsHold, IndexOf, Indexed, Empty, Indexable, indexSize}
 use Rattle.batch_index.proofs.SideLaws.{side-sources, side-debits}
-use Rattle.batch_index.proofs.SeatLaws.{seated-none}
+use Rattle.batch_index.proofs.SlotLaws.{slots-hold-none}
 
 -- ---- the index is made
 
-pub index-none : (j : List ℤ) (cells seats : List ℕ) → Empty cells seats → IndexOf j 0 cells seats
-index-none j cells seats e = record { trees = rw (e .no-cell) (trees-none mostRows j 32768 refl (omega arith) (omega arith)); seated = rw (e .no-seat) (seated-none j 1028 refl) }
+pub index-none : (j : List ℤ) (cells slots : List ℕ) → Empty cells slots → IndexOf j 0 cells slots
+index-none j cells slots e = record { trees = rw (e .no-cell) (trees-none mostRows j 32768 refl (omega arith) (omega arith)); slots-hold = rw (e .no-slot) (slots-hold-none j indexSize refl) }
 
 -- fewer rows
 pub countable-first : (j : List ℤ) (used n : ℕ) → Countable j used → n ≤ used → Countable j n
@@ -60,12 +61,12 @@ sound-indexable t s = record { rows = midway-countable (bookOf t .day) t (sound-
 
 -- ---- a passage number
 
-pub cell-for-stands : (t : Tables) → soundTables t ≡ true → (cells : List ℕ) (used x r : ℕ) → used ≡ rowsUsed t → CellFor mostRows (t .journal) cells used x r
+pub cell-for-duplicate : (t : Tables) → soundTables t ≡ true → (cells : List ℕ) (used x r : ℕ) → used ≡ rowsUsed t → CellFor mostRows (t .journal) cells used x r
     → leb 32768 r ≡ exists (tollOf x) (bookOf t .rows)
-cell-for-stands t s cells used x r u p = rw (sound-rows t s, ← u) (go (decLt r 32768))
+cell-for-duplicate t s cells used x r u p = rw (sound-rows t s, ← u) (go (decLt r 32768))
   where
     go : Dec (r < 32768) → leb 32768 r ≡ exists (tollOf x) (rowsOf (t .journal) used)
-    go (yes h) = lt-leb 32768 r h ∙ passage-absent (t .journal) x used (λ k l. elim (ℕ-discrete (rowAt (t .journal) k .kind) Toll) [
+    go (yes h) = lt-leb 32768 r h ∙ passage-absent (t .journal) x used (λ k l. elim (ℕ-discrete (rowAt (t .journal) k .kind) KindToll) [
       | yes q ↦ other-passage x (rowAt (t .journal) k) (λ w. p .none h k l q w)
       | no q ↦ other-kind x (rowAt (t .journal) k) q
     ])
@@ -73,34 +74,34 @@ cell-for-stands t s cells used x r u p = rw (sound-rows t s, ← u) (go (decLt r
         let a = p .taken (r - 32768) (omega arith) in
         le-leb 32768 r (omega arith) ∙ passage-found (t .journal) x used (r - 32768) (a .0) (a .1) (a .2)
 
--- ---- the words of a seat
+-- ---- the words of a slot
 
--- the first row of a side, or row 0 where the account has no seat
+-- the first row of a side, or row 0 where the account has no slot
 pub record FirstRow (j : List ℤ) (n s a x : ℕ) : Type 0 where
   pub within : x ≤ n
   pub passed : NothingLeft (ofSide s a) j x
 
-pub first-word : (j : List ℤ) (n : ℕ) (seats : List ℕ) → Seated j n 0 seats → (s a x : ℕ) → s < 2 → x ≡ seatWord seats a s → FirstRow j n s a x
-unfolding seatWord
-first-word j n seats t s a x h e = go (decLt a 257)
+pub first-word : (j : List ℤ) (n : ℕ) (slots : List ℕ) → SlotsHold j n 0 slots → (s a x : ℕ) → s < 2 → x ≡ slotWord slots a s → FirstRow j n s a x
+unfolding slotWord
+first-word j n slots t s a x h e = go (decLt a slotCount)
   where
-    go : Dec (a < 257) → FirstRow j n s a x
+    go : Dec (a < slotCount) → FirstRow j n s a x
     go (yes b) =
-        let q : x ≡ getD seats (firstAt a s) 0 = rw (lt-ltb a 257 b) at e in
+        let q : x ≡ getD slots (firstAt a s) 0 = rw (lt-ltb a slotCount b) at e in
         record { within = omega (arith, t .first-in s a h b); passed = λ k l. t .passed s a h b k (omega arith) (omega arith) }
     go (no b) =
-        let q : x ≡ 0 = rw (le-ltb a 257 (omega arith)) at e in
+        let q : x ≡ 0 = rw (le-ltb a slotCount (omega arith)) at e in
         record { within = omega arith; passed = λ k l. absurd (omega arith) }
 
-pub looks-up-by : (t : Tables) (cells seats : List ℕ) → Indexed t cells seats → (e : Instruction) (b d : Bool) (x y : ℕ)
-    → x ≡ seatWord seats (e .account) 0 → y ≡ seatWord seats (e .account) 1
-    → (e .kind ≡ 2 → b ≡ exists (tollOf (e .a)) (bookOf t .rows)) → (e .kind ≡ 7 → d ≡ topUpDue (bookOf t) (e .account))
-    → LooksUp t e (record { stands = b; due = d; source = x; debit = y })
-looks-up-by t cells seats w e b d x y p q f g =
-    let m = first-word (t .journal) (rowsUsed t) seats (w .seated) 0 (e .account) x (omega arith) p in
-    let n = first-word (t .journal) (rowsUsed t) seats (w .seated) 1 (e .account) y (omega arith) q in
+pub looks-up-by : (t : Tables) (cells slots : List ℕ) → Indexed t cells slots → (e : Instruction) (b d : Bool) (x y : ℕ)
+    → x ≡ slotWord slots (e .account) 0 → y ≡ slotWord slots (e .account) 1
+    → (e .kind ≡ EventToll → b ≡ exists (tollOf (e .a)) (bookOf t .rows)) → (e .kind ≡ EventTopupResult → d ≡ topupDue (bookOf t) (e .account))
+    → LooksUp t e (record { duplicate = b; due = d; source = x; debit = y })
+looks-up-by t cells slots w e b d x y p q f g =
+    let m = first-word (t .journal) (rowsUsed t) slots (w .slots-hold) 0 (e .account) x (omega arith) p in
+    let n = first-word (t .journal) (rowsUsed t) slots (w .slots-hold) 1 (e .account) y (omega arith) q in
     record {
-      stands = f;
+      duplicate = f;
       due = g;
       source-in = m .within;
       debit-in = n .within;
@@ -110,39 +111,39 @@ looks-up-by t cells seats w e b d x y p q f g =
 
 -- ---- a top-up
 
-module _ (t : Tables) (s : soundTables t ≡ true) (cells seats : List ℕ) (w : Indexed t cells seats) (n : ℕ) (x : Account) (e : x ≡ accountNo (accountsOf (t .accounts) (accountsIn t)) n) (charged : ℕ) (c : charged ≡ seatWord seats n 3) where
+module _ (t : Tables) (s : soundTables t ≡ true) (cells slots : List ℕ) (w : Indexed t cells slots) (n : ℕ) (x : Account) (e : x ≡ accountNo (accountsOf (t .accounts) (accountsIn t)) n) (charged : ℕ) (c : charged ≡ slotWord slots n 3) where
   read : x ≡ account (bookOf t) n
   read = e ∙ account-read t s n
 
-  -- the sum of a side of an account that has a seat
-  sum-word : (v g : ℕ) → v < 2 → g ≡ seatWord seats n (2 + v) → n < 257 → g ≡ sumBy (only (ofSide v n) (λ r. r .amount)) (bookOf t .rows)
-  unfolding seatWord
+  -- the sum of a side of an account that has a slot
+  sum-word : (v g : ℕ) → v < 2 → g ≡ slotWord slots n (2 + v) → n < slotCount → g ≡ sumBy (only (ofSide v n) (λ r. r .amount)) (bookOf t .rows)
+  unfolding slotWord
   sum-word v g h q b =
       let z : n * 4 + (2 + v) ≡ sumAt n v = omega arith in
-      let u : g ≡ getD seats (n * 4 + (2 + v)) 0 = rw (lt-ltb n 257 b) at q in
-      rw (sound-rows t s) ((rw z at u) ∙ w .seated .summed v n h b)
+      let u : g ≡ getD slots (n * 4 + (2 + v)) 0 = rw (lt-ltb n slotCount b) at q in
+      rw (sound-rows t s) ((rw z at u) ∙ w .slots-hold .summed v n h b)
 
   pub charged-fits : charged + x .threshold < 2 ^ 64
-  unfolding seatWord
+  unfolding slotWord
   charged-fits =
       let h : x .threshold < 2 ^ 63 = rw read (account-holds t s n .threshold) in
       let r = sound-indexable t s .rows in
       let l = r .few in
-      let small : charged ≤ rowsUsed t * highestRefund = go (decLt n 257) in
+      let small : charged ≤ rowsUsed t * highestRefund = go (decLt n slotCount) in
       omega arith
     where
-      go : Dec (n < 257) → charged ≤ rowsUsed t * highestRefund
+      go : Dec (n < slotCount) → charged ≤ rowsUsed t * highestRefund
       go (yes b) =
           let r = sound-indexable t s .rows in
           let q : charged ≡ sumBy (only (ofSide 1 n) (λ y. y .amount)) (rowsOf (t .journal) (rowsUsed t)) = rw (sound-rows t s) at (sum-word 1 charged (omega arith) c b) in
           omega (arith, sumBy-small (only (ofSide 1 n) (λ y. y .amount)) (rowAt (t .journal)) highestRefund (rowsUsed t) (λ k l. omega (arith, only-le (ofSide 1 n) (λ y. y .amount) (rowAt (t .journal) k), r .amount k l)))
-      go (no b) = let q : charged ≡ 0 = unfold seatWord in (rw (le-ltb n 257 (omega arith)) at c) in omega arith
+      go (no b) = let q : charged ≡ 0 = unfold slotWord in (rw (le-ltb n slotCount (omega arith)) at c) in omega arith
 
-  pub due-by-seat : (gained today : ℕ) → gained ≡ seatWord seats n 2 → today ≡ word (t .header) dayPlace → (mayTopUp x today && isLow x (record { sources = gained; debits = charged })) ≡ topUpDue (bookOf t) n
-  unfolding mayTopUp isLow topUpDue lowBalance
-  due-by-seat gained today g d = go (decLt n 257)
+  pub due-by-slot : (gained today : ℕ) → gained ≡ slotWord slots n 2 → today ≡ word (t .header) dayPlace → (mayTopup x today && isLow x (record { sources = gained; debits = charged })) ≡ topupDue (bookOf t) n
+  unfolding mayTopup isLow topupDue lowBalance
+  due-by-slot gained today g d = go (decLt n slotCount)
     where
-      go : Dec (n < 257) → (mayTopUp x today && isLow x (record { sources = gained; debits = charged })) ≡ topUpDue (bookOf t) n
+      go : Dec (n < slotCount) → (mayTopup x today && isLow x (record { sources = gained; debits = charged })) ≡ topupDue (bookOf t) n
       go (yes b) =
           let p : gained ≡ sources (bookOf t .rows) n = unfold sources in (rw (side-sources n) at (sum-word 0 gained (omega arith) g b)) in
           let q : charged ≡ debits (bookOf t .rows) n = unfold debits in (rw (side-debits n) at (sum-word 1 charged (omega arith) c b)) in

@@ -10,7 +10,7 @@ use Rattle.records.specs.Encoding.{rowAt, rowsOf}
 use Rattle.lists.specs.Lists.{sumBy, only}
 use Rattle.lists.proofs.ListLaws.{length-tabulate, tabulate-at}
 use Rattle.lists.proofs.SumLaws.{sumBy-longer}
-use Rattle.rules.specs.Limits.{mostRows}
+use Rattle.records.specs.Limits.{mostRows}
 use Rattle.rules.specs.Rows.{Row, blank, remaining}
 use Rattle.rules.specs.Book.{Instruction, Answer, Book}
 use Rattle.rules.specs.Soundness.{sound}
@@ -71,12 +71,12 @@ module _ (j i : List ℤ) (n : ℕ) (kept : (k : ℕ) → k < n → RowKept (row
       rw (tabulate-at (rowAt j) n k blank l, tabulate-at (rowAt i) n k blank l) (sym (amount-kept s a (rowAt j k) (rowAt i k) (kept k l))))
       (λ k l h. absurd (omega arith))
 
-  pub index-kept : (cells seats : List ℕ) → IndexOf j n cells seats → IndexOf i n cells seats
-  index-kept cells seats x =
-      let t = x .seated in
+  pub index-kept : (cells slots : List ℕ) → IndexOf j n cells slots → IndexOf i n cells slots
+  index-kept cells slots x =
+      let t = x .slots-hold in
       record {
         trees = trees-kept cells (x .trees);
-        seated = record {
+        slots-hold = record {
           sized = t .sized;
           first-in = t .first-in;
           passed = λ s a h b k l q.
@@ -121,11 +121,11 @@ module _ (t : Tables) (s : soundTables t ≡ true) (e : Instruction) where
       rw (← p, ← written-row after after-sound k m) (post-keeps-rows (bookOf t) e .each k l)
 
   -- the index of the rows before an event is one of the tables after it
-  pub index-posted : (cells seats : List ℕ) → Indexed t cells seats → IndexedTo (tablesOf after) (rowsUsed t) cells seats
+  pub index-posted : (cells slots : List ℕ) → Indexed t cells slots → IndexedTo (tablesOf after) (rowsUsed t) cells slots
   index-posted = index-kept (t .journal) (tablesOf after .journal) (rowsUsed t) row-posted
 
 -- what update_index asks of the tables after an event that was posted
-pub update-asked : (t u : Tables) (e : Instruction) (r : Answer) (before : ℕ) → before ≡ rowsUsed t → soundTables t ≡ true → Posts t u e r → (cells seats : List ℕ)
-    → Indexed t cells seats → (soundTables u ≡ true) × (before ≤ rowsUsed u) × IndexedTo u before cells seats
-update-asked t u e r before b s p cells seats x =
-    rw (p .tables, b) (soundTables-tablesOf (post (bookOf t) e .book) (after-sound t s e), used-posted t s e, index-posted t s e cells seats x)
+pub update-asked : (t u : Tables) (e : Instruction) (r : Answer) (before : ℕ) → before ≡ rowsUsed t → soundTables t ≡ true → Posts t u e r → (cells slots : List ℕ)
+    → Indexed t cells slots → (soundTables u ≡ true) × (before ≤ rowsUsed u) × IndexedTo u before cells slots
+update-asked t u e r before b s p cells slots x =
+    rw (p .tables, b) (soundTables-tablesOf (post (bookOf t) e .book) (after-sound t s e), used-posted t s e, index-posted t s e cells slots x)

@@ -1,4 +1,4 @@
 pub mod SideLaws
-pub mod SeatLaws
+pub mod SlotLaws
 pub mod IndexLaws
 pub mod KeptLaws

@@ -1,15 +1,18 @@
 // The index that a batch keeps of the journal in two arrays of its own, so that no event searches all rows: the trees of passage numbers
-// and, for each account, from which row on something of its sources and of its debits can be left, and the sums of both. Uses lists,
-// records, rules, preservation, tables, table_rows, table_accounts, row_tests, sound_passages, account_sums, posting, balances, lookups
-// and tick_base.
+// and, for each account, from which row on something of its sources and of its debits can be left, and the sums of both.
 use balances::Sums;
 use balances::is_low;
-use balances::may_top_up;
-use lookups::Lookup;
-use lookups::RESULT_EVENT;
-use lookups::TOLL_EVENT;
+use balances::may_topup;
+use event_lookups::Lookup;
 use records::Instruction;
 use records::Row;
+use records::codes::EVENT_TOLL;
+use records::codes::EVENT_TOPUP_RESULT;
+use records::layout::ACCOUNT_WIDTH;
+use records::layout::DAY_PLACE;
+use records::layout::USED_PLACE;
+use records::limits::MOST_ROWS;
+use records::limits::SLOT_COUNT;
 use row_tests::is_source;
 use row_tests::remaining_of;
 use sound_passages::passages::CELLS;
@@ -18,10 +21,6 @@ use sound_passages::passages::insert;
 use table_accounts::account_numbered;
 use table_rows::account_at;
 use table_rows::read_row;
-use tables::layout::ACCOUNT_WIDTH;
-use tables::layout::DAY_PLACE;
-use tables::layout::USED_PLACE;
-use tables::limits::MOST_ROWS;
 use tables::words::get;
 ghost use mathlib.Core.Path.{_≡_};
 ghost use mathlib.Core.Bool.{true};
@@ -32,14 +31,16 @@ ghost use Rattle.records.specs.Encoding.{rowAt};
 ghost use Rattle.lists.specs.Lists.{only};
 ghost use Rattle.rules.specs.Rows.{remaining};
 ghost use Rattle.rules.specs.Soundness.{kindFits};
-ghost use Rattle.rules.specs.Tables.{tablesAt, rowsUsed, soundTables};
+ghost use Rattle.rules.specs.Tables.{rowsUsed, soundTables};
 ghost use Rattle.tables.specs.Changes.{RowIn};
 ghost use Rattle.account_sums.specs.Tallies.{Countable};
-ghost use Rattle.lookups.specs.Lookups.{LooksUp};
-ghost use Rattle.batch_index.specs.Index.{ofSide, sideOf, firstAt, seatWord, Seated, Reset, NextOpen, IndexOf, IndexedTo, Indexed, Empty, Indexable};
+ghost use Rattle.event_lookups.specs.Lookups.{LooksUp};
+ghost use Rattle.batch_index.specs.Index.{ofSide, sideOf, firstAt, slotWord, SlotsHold, Reset, NextOpen, IndexOf, IndexedTo, Indexed, Empty, Indexable, indexSize};
+ghost use Rattle.rules.specs.Lent.{lent, atEntry};
+ghost use Rattle.records.specs.Limits.{slotCount};
 
-// Account numbers 0 to 256 have a seat of four words: the first row of each side, and then the sum of each side.
-const SEATS: usize = 257;
+// Account numbers 0 to 256 have a slot of four words: the first row of each side, and then the sum of each side.
+const SLOTS: usize = SLOT_COUNT;
 
 const WORDS: usize = 4;
 
@@ -49,9 +50,9 @@ const SOURCES: usize = 0;
 
 const DEBITS: usize = 1;
 
-pub const SEAT_WORDS: usize = 1028;
+pub const SLOT_WORDS: usize = 1028;
 
-// ---- the seats
+// ---- the slots
 
 fn side_of(r: Row) -> usize
     ensures { λ s. ⌜ s ≡ sideOf r ⌝ }
@@ -63,58 +64,58 @@ fn side_of(r: Row) -> usize
 }
 
 // Row i's amount goes to its account's sum of its side.
-fn add_amount(journal: &[i64], i: usize, seats: &mut [u64; SEAT_WORDS])
-    requires { ⌜ Countable (now journal) (i + 1) × Seated (now journal) i 0 (now seats) ⌝ }
-    ensures { λ _. ⌜ Seated (now (journal .entry)) (i + 1) 0 (now (seats .exit)) ⌝ }
+fn add_amount(journal: &[i64], i: usize, slots: &mut [u64; SLOT_WORDS])
+    requires { ⌜ Countable (now journal) (i + 1) × SlotsHold (now journal) i 0 (now slots) ⌝ }
+    ensures { λ _. ⌜ SlotsHold (now (journal .entry)) (i + 1) 0 (now (slots .exit)) ⌝ }
 {
     let r = read_row(journal, i);
     let side = side_of(r);
     let at = r.account as usize * WORDS + SUMS + side;
-    let old = seats[at];
-    seats[at] = old + r.amount;
+    let old = slots[at];
+    slots[at] = old + r.amount;
 }
 
-fn put_first(seats: &mut [u64; SEAT_WORDS], account: usize, side: usize, row: usize)
-    requires { ⌜ (account < 257) × (side < 2) ⌝ }
-    ensures { λ _. ⌜ now (seats .exit) ≡ set (now (seats .entry)) (firstAt account side) row ⌝ }
+fn put_first(slots: &mut [u64; SLOT_WORDS], account: usize, side: usize, row: usize)
+    requires { ⌜ (account < slotCount) × (side < 2) ⌝ }
+    ensures { λ _. ⌜ now (slots .exit) ≡ set (now (slots .entry)) (firstAt account side) row ⌝ }
 {
-    seats[account * WORDS + side] = row as u64;
+    slots[account * WORDS + side] = row as u64;
 }
 
 // Every first row becomes the end of the used rows.
-fn reset_firsts(used: usize, seats: &mut [u64; SEAT_WORDS])
-    requires { ⌜ length (now seats) ≡ 1028 ⌝ }
-    ensures { λ _. ⌜ Reset used (now (seats .entry)) (now (seats .exit)) ⌝ }
+fn reset_firsts(used: usize, slots: &mut [u64; SLOT_WORDS])
+    requires { ⌜ length (now slots) ≡ indexSize ⌝ }
+    ensures { λ _. ⌜ Reset used (now (slots .entry)) (now (slots .exit)) ⌝ }
 {
     let mut a = 0;
-    while a < SEATS {
-        put_first(seats, a, SOURCES, used);
-        put_first(seats, a, DEBITS, used);
+    while a < SLOTS {
+        put_first(slots, a, SOURCES, used);
+        put_first(slots, a, DEBITS, used);
         a += 1;
     }
 }
 
 // Row i becomes the first row of its side, where something of it is left.
-fn note_first(journal: &[i64], used: usize, i: usize, seats: &mut [u64; SEAT_WORDS])
-    requires { ⌜ Countable (now journal) used × (i < used) × Seated (now journal) used (i + 1) (now seats) ⌝ }
-    ensures { λ _. ⌜ Seated (now (journal .entry)) used i (now (seats .exit)) ⌝ }
+fn note_first(journal: &[i64], used: usize, i: usize, slots: &mut [u64; SLOT_WORDS])
+    requires { ⌜ Countable (now journal) used × (i < used) × SlotsHold (now journal) used (i + 1) (now slots) ⌝ }
+    ensures { λ _. ⌜ SlotsHold (now (journal .entry)) used i (now (slots .exit)) ⌝ }
 {
     let r = read_row(journal, i);
     if remaining_of(r) == 0 {
         return;
     }
-    put_first(seats, r.account as usize, side_of(r), i);
+    put_first(slots, r.account as usize, side_of(r), i);
 }
 
 // The first row of each side of each account with something left: rows are taken from the last to the first, and the earlier one stays.
-fn find_firsts(journal: &[i64], used: usize, seats: &mut [u64; SEAT_WORDS])
-    requires { ⌜ Countable (now journal) used × Seated (now journal) used used (now seats) ⌝ }
-    ensures { λ _. ⌜ Seated (now (journal .entry)) used 0 (now (seats .exit)) ⌝ }
+fn find_firsts(journal: &[i64], used: usize, slots: &mut [u64; SLOT_WORDS])
+    requires { ⌜ Countable (now journal) used × SlotsHold (now journal) used used (now slots) ⌝ }
+    ensures { λ _. ⌜ SlotsHold (now (journal .entry)) used 0 (now (slots .exit)) ⌝ }
 {
     let mut i = used;
     while 0 < i {
         i -= 1;
-        note_first(journal, used, i, seats);
+        note_first(journal, used, i, slots);
     }
 }
 
@@ -154,23 +155,26 @@ fn move_first(
     used: usize,
     account: usize,
     side: usize,
-    seats: &mut [u64; SEAT_WORDS],
+    slots: &mut [u64; SLOT_WORDS],
 )
-    requires { ⌜ Countable (now journal) used × (account < 257) × (side < 2) × Seated (now journal) used 0 (now seats) ⌝ }
-    ensures { λ _. ⌜ Seated (now (journal .entry)) used 0 (now (seats .exit)) ⌝ }
+    requires { ⌜ Countable (now journal) used
+        × (account < slotCount)
+        × (side < 2)
+        × SlotsHold (now journal) used 0 (now slots) ⌝ }
+    ensures { λ _. ⌜ SlotsHold (now (journal .entry)) used 0 (now (slots .exit)) ⌝ }
 {
-    let first = seats[account * WORDS + side] as usize;
+    let first = slots[account * WORDS + side] as usize;
     let next = next_open(journal, used, account as u64, side, first);
-    put_first(seats, account, side, next);
+    put_first(slots, account, side, next);
 }
 
-// A word of the account's seat, 0 where it has none.
-fn seat_word(seats: &[u64; SEAT_WORDS], account: u64, word: usize) -> u64
+// A word of the account's slot, 0 where it has none.
+fn slot_word(slots: &[u64; SLOT_WORDS], account: u64, word: usize) -> u64
     requires { ⌜ word < 4 ⌝ }
-    ensures { λ x. ⌜ x ≡ seatWord (now (seats .entry)) account word ⌝ }
+    ensures { λ x. ⌜ x ≡ slotWord (now (slots .entry)) account word ⌝ }
 {
-    if account < SEATS as u64 {
-        return seats[account as usize * WORDS + word];
+    if account < SLOTS as u64 {
+        return slots[account as usize * WORDS + word];
     }
     0
 }
@@ -183,15 +187,15 @@ fn index_rows(
     from: usize,
     used: usize,
     cells: &mut [u16; CELLS],
-    seats: &mut [u64; SEAT_WORDS],
+    slots: &mut [u64; SLOT_WORDS],
 )
-    requires { ⌜ Indexable (now journal) used × (from ≤ used) × IndexOf (now journal) from (now cells) (now seats) ⌝ }
-    ensures { λ _. ⌜ IndexOf (now (journal .entry)) used (now (cells .exit)) (now (seats .exit)) ⌝ }
+    requires { ⌜ Indexable (now journal) used × (from ≤ used) × IndexOf (now journal) from (now cells) (now slots) ⌝ }
+    ensures { λ _. ⌜ IndexOf (now (journal .entry)) used (now (cells .exit)) (now (slots .exit)) ⌝ }
 {
     let mut i = from;
     while i < used {
         insert(journal, cells, MOST_ROWS, i);
-        add_amount(journal, i, seats);
+        add_amount(journal, i, slots);
         i += 1;
     }
 }
@@ -202,15 +206,15 @@ pub fn start_index(
     accounts: &[i64],
     journal: &[i64],
     cells: &mut [u16; CELLS],
-    seats: &mut [u64; SEAT_WORDS],
+    slots: &mut [u64; SLOT_WORDS],
 )
-    requires { ⌜ (soundTables (tablesAt (now header) (now accounts) (now journal)) ≡ true) × Empty (now cells) (now seats) ⌝ }
-    ensures { λ _. ⌜ Indexed (tablesAt (now (header .entry)) (now (accounts .entry)) (now (journal .entry))) (now (cells .exit)) (now (seats .exit)) ⌝ }
+    requires { ⌜ (soundTables (lent header accounts journal) ≡ true) × Empty (now cells) (now slots) ⌝ }
+    ensures { λ _. ⌜ Indexed (atEntry header accounts journal) (now (cells .exit)) (now (slots .exit)) ⌝ }
 {
     let used = get(header, USED_PLACE) as usize;
-    index_rows(journal, 0, used, cells, seats);
-    reset_firsts(used, seats);
-    find_firsts(journal, used, seats);
+    index_rows(journal, 0, used, cells, slots);
+    reset_firsts(used, slots);
+    find_firsts(journal, used, slots);
 }
 
 // What the index has for an event, without a pass over the journal.
@@ -219,20 +223,21 @@ pub fn look_up_indexed(
     accounts: &[i64],
     journal: &[i64],
     cells: &[u16; CELLS],
-    seats: &[u64; SEAT_WORDS],
+    slots: &[u64; SLOT_WORDS],
     e: Instruction,
 ) -> Lookup
-    requires { ⌜ (soundTables (tablesAt (now header) (now accounts) (now journal)) ≡ true) × Indexed (tablesAt (now header) (now accounts) (now journal)) (now cells) (now seats) ⌝ }
-    ensures { λ k. ⌜ LooksUp (tablesAt (now (header .entry)) (now (accounts .entry)) (now (journal .entry))) e k ⌝ }
+    requires { ⌜ (soundTables (lent header accounts journal) ≡ true)
+        × Indexed (lent header accounts journal) (now cells) (now slots) ⌝ }
+    ensures { λ k. ⌜ LooksUp (atEntry header accounts journal) e k ⌝ }
 {
     let mut found = Lookup {
-        stands: false,
+        duplicate: false,
         due: false,
-        source: seat_word(seats, e.account, SOURCES) as usize,
-        debit: seat_word(seats, e.account, DEBITS) as usize,
+        source: slot_word(slots, e.account, SOURCES) as usize,
+        debit: slot_word(slots, e.account, DEBITS) as usize,
     };
-    if e.kind == TOLL_EVENT {
-        found.stands = cell_for(
+    if e.kind == EVENT_TOLL {
+        found.duplicate = cell_for(
             journal,
             cells,
             MOST_ROWS,
@@ -242,13 +247,13 @@ pub fn look_up_indexed(
             >= CELLS;
         return found;
     }
-    if e.kind == RESULT_EVENT {
+    if e.kind == EVENT_TOPUP_RESULT {
         let x = account_numbered(accounts, accounts.len() / ACCOUNT_WIDTH, e.account);
         let s = Sums {
-            sources: seat_word(seats, e.account, SUMS + SOURCES),
-            debits: seat_word(seats, e.account, SUMS + DEBITS),
+            sources: slot_word(slots, e.account, SUMS + SOURCES),
+            debits: slot_word(slots, e.account, SUMS + DEBITS),
         };
-        found.due = may_top_up(x, get(header, DAY_PLACE)) & is_low(x, s);
+        found.due = may_topup(x, get(header, DAY_PLACE)) & is_low(x, s);
     }
     found
 }
@@ -262,15 +267,17 @@ pub fn update_index(
     before: usize,
     account: u64,
     cells: &mut [u16; CELLS],
-    seats: &mut [u64; SEAT_WORDS],
+    slots: &mut [u64; SLOT_WORDS],
 )
-    requires { ⌜ (soundTables (tablesAt (now header) (now accounts) (now journal)) ≡ true) × (before ≤ rowsUsed (tablesAt (now header) (now accounts) (now journal))) × IndexedTo (tablesAt (now header) (now accounts) (now journal)) before (now cells) (now seats) ⌝ }
-    ensures { λ _. ⌜ Indexed (tablesAt (now (header .entry)) (now (accounts .entry)) (now (journal .entry))) (now (cells .exit)) (now (seats .exit)) ⌝ }
+    requires { ⌜ (soundTables (lent header accounts journal) ≡ true)
+        × (before ≤ rowsUsed (lent header accounts journal))
+        × IndexedTo (lent header accounts journal) before (now cells) (now slots) ⌝ }
+    ensures { λ _. ⌜ Indexed (atEntry header accounts journal) (now (cells .exit)) (now (slots .exit)) ⌝ }
 {
     let used = get(header, USED_PLACE) as usize;
-    index_rows(journal, before, used, cells, seats);
-    if account < SEATS as u64 {
-        move_first(journal, used, account as usize, SOURCES, seats);
-        move_first(journal, used, account as usize, DEBITS, seats);
+    index_rows(journal, before, used, cells, slots);
+    if account < SLOTS as u64 {
+        move_first(journal, used, account as usize, SOURCES, slots);
+        move_first(journal, used, account as usize, DEBITS, slots);
     }
 }

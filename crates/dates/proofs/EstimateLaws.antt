@@ -19,8 +19,8 @@ div-rises x y (suc k) h = go (leb (x / suc k) (y / suc k)) refl
     go : (t : Bool) → leb (x / suc k) (y / suc k) ≡ t → x / suc k ≤ y / suc k
     go true e = leb-true (x / suc k) (y / suc k) e
     go false e =
-        let less : y / suc k < x / suc k = leb-false (x / suc k) (y / suc k) e in
-        let early = div-lt-iff-lt-mul {k = suc k} {x = y} {y = x / suc k} (omega arith) .0 less in
+        let minus : y / suc k < x / suc k = leb-false (x / suc k) (y / suc k) e in
+        let early = div-lt-iff-lt-mul {k = suc k} {x = y} {y = x / suc k} (omega arith) .0 minus in
         omega (arith, div-mul-le-self x (suc k))
 
 estimate-rises : (offset months days a b : ℕ) → a ≤ b → estimate offset months days a ≤ estimate offset months days b

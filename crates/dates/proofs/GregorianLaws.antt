@@ -82,8 +82,8 @@ dateFrom-month (suc n) k m day begun near lies =
         rw (e, dateFrom, same)
     go further false e =
         let past : monthStart (suc k) ≤ day = omega (arith, leb-false) in
-        let less : day - monthStart k + 1 - daysOfMonth k ≡ day - monthStart (suc k) + 1 = omega arith in
-        rw (e, dateFrom, less) (further past)
+        let minus : day - monthStart k + 1 - daysOfMonth k ≡ day - monthStart (suc k) + 1 = omega arith in
+        rw (e, dateFrom, minus) (further past)
 
 -- the date of a day, read off the month that it lies in
 pub dateOf-month

@@ -1,5 +1,5 @@
-// The texts of the listing: numbers and dates as bytes in a lent buffer, and the numbers of a line read back. Uses lists and dates, and
-// the kit's io and bytes. Document 01 is the scope document of the toll account ledger.
+// The texts of the listing: numbers and dates as bytes in a lent buffer, and the numbers of a line read back. Document 01 is the scope
+// document of the toll account ledger.
 ghost use mathlib.Core.Path.{_≡_};
 ghost use mathlib.Core.List.{[], _∷_, _++_};
 ghost use Prim.Native.Nat.{_+_, _≤_, _<_, _^_};

@@ -8,15 +8,17 @@ use lib.ListN.{length}
 use lib.IntN.{ℤ}
 use lib.Dec.{leb}
 use borrow.Author.Tests.{leb-true, not-false}
+use Rattle.records.specs.Numbers.{Malformed, Unknown, Taken}
+use Rattle.records.specs.Codes.{EventOpen}
 use Rattle.records.specs.Encoding.{StorableAccount}
 use Rattle.records.specs.AccountOperations.{opened}
 use Rattle.lists.specs.Tests.{_is_, _from_to_, _implies_, first}
 use Rattle.lists.proofs.TestLaws.{and-left, and-right}
-use Rattle.rules.specs.Limits.{highestTopUp}
-use Rattle.rules.specs.Book.{Account, Instruction, Unused, Book, account, putAccount}
+use Rattle.records.specs.Limits.{highestTopup}
+use Rattle.rules.specs.Book.{Account, Instruction, StateUnused, Book, account, putAccount}
 use Rattle.rules.specs.Events.{openAccount}
 use Rattle.rules.specs.Refusals.{changeOf, zeroFrom-c, openForm, formOf, wellFormed, unknown, taken, onClosed, unclassed, misdated, duplicate, barred, noRow, untimely, lastDay, refusals, answerNumber}
-use Rattle.rules.specs.Posting.{removesTopUp}
+use Rattle.rules.specs.Posting.{removesTopup}
 use Rattle.rules.specs.Tables.{Tables, accountsIn, rowsUsed, bookOf, soundTables}
 use Rattle.preservation.proofs.Accepted.{accepted}
 use Rattle.tables.specs.Changes.{AccountChanged}
@@ -28,9 +30,9 @@ use Rattle.event_accounts.specs.AccountEvents.{openRefusals}
 
 module _ (b : Book) (e : Instruction) (fit : length (b .rows) ≤ b .room) where
   abbrev event1 : Instruction
-  event1 = ofKind 1 e
+  event1 = ofKind EventOpen e
 
-  change-open : changeOf 1 b event1 .rows ≡ b .rows
+  change-open : changeOf EventOpen b event1 .rows ≡ b .rows
   unfolding changeOf openAccount
   change-open = refl
 
@@ -40,19 +42,19 @@ module _ (b : Book) (e : Instruction) (fit : length (b .rows) ≤ b .room) where
       rw (never-full b event1 change-open fit, never-above b event1 change-open, or-false (not (e .account from 1 to length (b .accounts))))
 
 -- the number that event 1 gets
-pub answer-open : (b : Book) (e : Instruction) → length (b .rows) ≤ b .room → e .kind ≡ 1 → answerNumber b e ≡ first (openRefusals b e)
+pub answer-open : (b : Book) (e : Instruction) → length (b .rows) ≤ b .room → e .kind ≡ EventOpen → answerNumber b e ≡ first (openRefusals b e)
 answer-open b e h k = at-kind (λ x. answerNumber b x ≡ first (openRefusals b x)) e 1 k (answer-1 b e h)
 
 -- the same on sound tables, with what each test came to
-pub open-by : (t : Tables) → soundTables t ≡ true → (e : Instruction) → e .kind ≡ 1 → (f i u : Bool) → openForm e ≡ f
-    → e .account from 1 to accountsIn t ≡ i → account (bookOf t) (e .account) .state is Unused ≡ u
-    → first ((2, not f) ∷ (3, not i) ∷ (4, not u) ∷ []) ≡ answerNumber (bookOf t) e
+pub open-by : (t : Tables) → soundTables t ≡ true → (e : Instruction) → e .kind ≡ EventOpen → (f i u : Bool) → openForm e ≡ f
+    → e .account from 1 to accountsIn t ≡ i → account (bookOf t) (e .account) .state is StateUnused ≡ u
+    → first ((Malformed, not f) ∷ (Unknown, not i) ∷ (Taken, not u) ∷ []) ≡ answerNumber (bookOf t) e
 unfolding openRefusals
 open-by t s e k f i u x y v = rw (answer-open (bookOf t) e (rows-fit t s) k, x, ← count-read t s, y, v)
 
 -- ---- what an accepted event 1 leaves
 
-module _ (t : Tables) (s : soundTables t ≡ true) (e : Instruction) (k : e .kind ≡ 1) (q : 0 ≡ answerNumber (bookOf t) e) where
+module _ (t : Tables) (s : soundTables t ≡ true) (e : Instruction) (k : e .kind ≡ EventOpen) (q : 0 ≡ answerNumber (bookOf t) e) where
   abbrev newAccount : Account
   newAccount = opened (e .a) (e .b)
 
@@ -67,16 +69,16 @@ module _ (t : Tables) (s : soundTables t ≡ true) (e : Instruction) (k : e .kin
   pub open-storable : StorableAccount newAccount
   unfolding openForm
   open-storable =
-      let threshold-part : Bool = leb (e .a) highestTopUp in
-      let amount-part : Bool = leb (e .b) highestTopUp in
+      let threshold-part : Bool = leb (e .a) highestTopup in
+      let amount-part : Bool = leb (e .b) highestTopup in
       let zero-part : Bool = e .b is 0 implies e .a is 0 in
       let both = and-left (threshold-part && amount-part) zero-part (and-left (threshold-part && amount-part && zero-part) (zeroFrom-c e) formed) in
       record {
         state = omega arith;
         request = omega arith;
         returned = omega arith;
-        threshold = omega (arith, leb-true (e .a) highestTopUp (and-left threshold-part amount-part both));
-        topup = omega (arith, leb-true (e .b) highestTopUp (and-right threshold-part amount-part both));
+        threshold = omega (arith, leb-true (e .a) highestTopup (and-left threshold-part amount-part both));
+        topup = omega (arith, leb-true (e .b) highestTopup (and-right threshold-part amount-part both));
         declines = omega arith;
         declined = omega arith;
       }
@@ -85,7 +87,7 @@ module _ (t : Tables) (s : soundTables t ≡ true) (e : Instruction) (k : e .kin
       → Posts t (tablesAt (t .header) acc (t .journal)) e (acceptanceOf (rowsUsed t) 0 0 0)
   open-posts acc w =
       let p = account-posts t s e (rw k) q newAccount changed acc w in
-      rw keeps-top-up at p
+      rw keeps-topup at p
     where
-      keeps-top-up : removesTopUp (bookOf t) e ≡ false
-      keeps-top-up = unfold removesTopUp in (rw k)
+      keeps-topup : removesTopup (bookOf t) e ≡ false
+      keeps-topup = unfold removesTopup in (rw k)

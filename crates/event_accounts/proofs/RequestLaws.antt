@@ -6,13 +6,15 @@ use native.Mathlib.Omega.{arith}
 use mathlib.Core.List.{List, [], _∷_}
 use lib.ListN.{length}
 use lib.IntN.{ℤ}
+use Rattle.records.specs.Numbers.{Malformed, Unknown, Closed, Untimely}
+use Rattle.records.specs.Codes.{EventCloseRequest}
 use Rattle.records.specs.Encoding.{StorableAccount}
 use Rattle.records.specs.AccountOperations.{closeRequestedOn}
 use Rattle.lists.specs.Tests.{_is_, first}
-use Rattle.rules.specs.Book.{Account, Instruction, Unused, Pending, Closed, Book, account, putAccount}
+use Rattle.rules.specs.Book.{Account, Instruction, StateUnused, StatePending, StateClosed, Book, account, putAccount}
 use Rattle.rules.specs.Events.{requestClose}
 use Rattle.rules.specs.Refusals.{changeOf, requestForm, formOf, wellFormed, unknown, taken, onClosed, unclassed, misdated, duplicate, barred, noRow, untimely, lastDay, refusals, answerNumber}
-use Rattle.rules.specs.Posting.{removesTopUp}
+use Rattle.rules.specs.Posting.{removesTopup}
 use Rattle.rules.specs.Tables.{Tables, rowsUsed, bookOf, soundTables}
 use Rattle.rules.proofs.StorableLaws.{day-le}
 use Rattle.rules.proofs.TableLaws.{sound-book}
@@ -25,9 +27,9 @@ use Rattle.event_accounts.specs.AccountEvents.{requestRefusals}
 
 module _ (b : Book) (e : Instruction) (fit : length (b .rows) ≤ b .room) where
   abbrev event8 : Instruction
-  event8 = ofKind 8 e
+  event8 = ofKind EventCloseRequest e
 
-  change-request : changeOf 8 b event8 .rows ≡ b .rows
+  change-request : changeOf EventCloseRequest b event8 .rows ≡ b .rows
   unfolding changeOf requestClose
   change-request = refl
 
@@ -36,13 +38,13 @@ module _ (b : Book) (e : Instruction) (fit : length (b .rows) ≤ b .room) where
   answer-8 = rw (never-full b event8 change-request fit, never-above b event8 change-request, unknown-unused b (e .account))
 
 -- the number that event 8 gets
-pub answer-request : (b : Book) (e : Instruction) → length (b .rows) ≤ b .room → e .kind ≡ 8 → answerNumber b e ≡ first (requestRefusals b e)
+pub answer-request : (b : Book) (e : Instruction) → length (b .rows) ≤ b .room → e .kind ≡ EventCloseRequest → answerNumber b e ≡ first (requestRefusals b e)
 answer-request b e h k = at-kind (λ x. answerNumber b x ≡ first (requestRefusals b x)) e 8 k (answer-8 b e h)
 
 -- the same on sound tables, with what each test came to
-pub request-by : (t : Tables) → soundTables t ≡ true → (e : Instruction) → e .kind ≡ 8 → (f u c p : Bool) → requestForm e ≡ f
-    → account (bookOf t) (e .account) .state is Unused ≡ u → account (bookOf t) (e .account) .state is Closed ≡ c → account (bookOf t) (e .account) .state is Pending ≡ p
-    → first ((2, not f) ∷ (3, u) ∷ (5, c) ∷ (11, p) ∷ []) ≡ answerNumber (bookOf t) e
+pub request-by : (t : Tables) → soundTables t ≡ true → (e : Instruction) → e .kind ≡ EventCloseRequest → (f u c p : Bool) → requestForm e ≡ f
+    → account (bookOf t) (e .account) .state is StateUnused ≡ u → account (bookOf t) (e .account) .state is StateClosed ≡ c → account (bookOf t) (e .account) .state is StatePending ≡ p
+    → first ((Malformed, not f) ∷ (Unknown, u) ∷ (Closed, c) ∷ (Untimely, p) ∷ []) ≡ answerNumber (bookOf t) e
 unfolding requestRefusals
 request-by t s e k f u c p x y v w = rw (answer-request (bookOf t) e (rows-fit t s) k, x, y, v, w)
 
@@ -65,7 +67,7 @@ module _ (t : Tables) (s : soundTables t ≡ true) (e : Instruction) where
         declined = x .declined;
       }
 
-  module _ (k : e .kind ≡ 8) (q : 0 ≡ answerNumber (bookOf t) e) where
+  module _ (k : e .kind ≡ EventCloseRequest) (q : 0 ≡ answerNumber (bookOf t) e) where
     changed : changeOf (e .kind) (bookOf t) e ≡ putAccount (e .account) pendingAccount (bookOf t)
     unfolding changeOf requestClose
     changed =
@@ -75,7 +77,7 @@ module _ (t : Tables) (s : soundTables t ≡ true) (e : Instruction) where
         → Posts t (tablesAt (t .header) acc (t .journal)) e (acceptanceOf (rowsUsed t) 0 0 0)
     request-posts acc w =
         let p = account-posts t s e (rw k) q pendingAccount changed acc w in
-        rw keeps-top-up at p
+        rw keeps-topup at p
       where
-        keeps-top-up : removesTopUp (bookOf t) e ≡ false
-        keeps-top-up = unfold removesTopUp in (rw k)
+        keeps-topup : removesTopup (bookOf t) e ≡ false
+        keeps-topup = unfold removesTopup in (rw k)

@@ -1,20 +1,24 @@
-// Events 1 and 8, which change an account alone. Uses lists, records, rules, preservation, tables, table_accounts, forms, posting and
-// posting_laws.
-use forms::open_form;
-use forms::request_form;
+// Events 1 and 8, which change an account alone.
+use event_forms::open_form;
+use event_forms::request_form;
 use posting::answers::posted;
 use posting::answers::refused;
 use records::Account;
 use records::Answer;
 use records::Instruction;
+use records::codes::STATE_CLOSED;
+use records::codes::STATE_PENDING;
+use records::codes::STATE_UNUSED;
+use records::layout::ACCOUNT_WIDTH;
+use records::layout::DAY_PLACE;
+use records::layout::USED_PLACE;
+use records::numbers::CLOSED;
+use records::numbers::MALFORMED;
+use records::numbers::TAKEN;
+use records::numbers::UNKNOWN;
+use records::numbers::UNTIMELY;
 use table_accounts::account_numbered;
 use table_accounts::write_account;
-use tables::codes::CLOSED;
-use tables::codes::PENDING;
-use tables::codes::UNUSED;
-use tables::layout::ACCOUNT_WIDTH;
-use tables::layout::DAY_PLACE;
-use tables::layout::USED_PLACE;
 use tables::words::get;
 ghost use mathlib.Core.Path.{_≡_};
 ghost use mathlib.Core.Bool.{true};
@@ -23,30 +27,33 @@ ghost use lib.IntN.{ℤ};
 ghost use Rattle.rules.specs.Refusals.{answerNumber};
 ghost use Rattle.rules.specs.Tables.{bookOf, soundTables};
 ghost use Rattle.posting.specs.Posts.{tablesAt, Posts};
+ghost use Rattle.records.specs.Codes.{EventOpen, EventCloseRequest};
+ghost use Rattle.rules.specs.Lent.{lent, atEntry, atExit};
 
 // Why event 1 is refused, 0 where it is not.
 fn open_refusal(accounts: &[i64], e: Instruction) -> u64
-    requires { ⌜ e .kind ≡ 1 ⌝ }
-    ensures { λ n. ⌜ ((h j : List ℤ) → soundTables (tablesAt h (now (accounts .entry)) j) ≡ true → n ≡ answerNumber (bookOf (tablesAt h (now (accounts .entry)) j)) e) ⌝ }
+    requires { ⌜ e .kind ≡ EventOpen ⌝ }
+    ensures { λ n. ⌜ ((h j : List ℤ) → soundTables (tablesAt h (now (accounts .entry)) j) ≡ true → n
+        ≡ answerNumber (bookOf (tablesAt h (now (accounts .entry)) j)) e) ⌝ }
 {
     let count = accounts.len() / ACCOUNT_WIDTH;
     if !open_form(e) {
-        return 2;
+        return MALFORMED;
     }
     if !((1 <= e.account) & (e.account <= count as u64)) {
-        return 3;
+        return UNKNOWN;
     }
     let x = account_numbered(accounts, count, e.account);
-    if x.state != UNUSED {
-        return 4;
+    if x.state != STATE_UNUSED {
+        return TAKEN;
     }
     0
 }
 
 // Event 1: the account is opened.
 pub fn open_account(header: &[i64], accounts: &mut [i64], journal: &[i64], e: Instruction) -> Answer
-    requires { ⌜ (soundTables (tablesAt (now header) (now accounts) (now journal)) ≡ true) × (e .kind ≡ 1) ⌝ }
-    ensures { λ r. ⌜ Posts (tablesAt (now (header .entry)) (now (accounts .entry)) (now (journal .entry))) (tablesAt (now (header .entry)) (now (accounts .exit)) (now (journal .entry))) e r ⌝ }
+    requires { ⌜ (soundTables (lent header accounts journal) ≡ true) × (e .kind ≡ EventOpen) ⌝ }
+    ensures { λ r. ⌜ Posts (atEntry header accounts journal) (atExit header accounts journal) e r ⌝ }
 {
     let n = open_refusal(accounts, e);
     if n != 0 {
@@ -58,21 +65,22 @@ pub fn open_account(header: &[i64], accounts: &mut [i64], journal: &[i64], e: In
 
 // Why event 8 is refused, 0 where it is not.
 fn request_refusal(accounts: &[i64], e: Instruction) -> u64
-    requires { ⌜ e .kind ≡ 8 ⌝ }
-    ensures { λ n. ⌜ ((h j : List ℤ) → soundTables (tablesAt h (now (accounts .entry)) j) ≡ true → n ≡ answerNumber (bookOf (tablesAt h (now (accounts .entry)) j)) e) ⌝ }
+    requires { ⌜ e .kind ≡ EventCloseRequest ⌝ }
+    ensures { λ n. ⌜ ((h j : List ℤ) → soundTables (tablesAt h (now (accounts .entry)) j) ≡ true → n
+        ≡ answerNumber (bookOf (tablesAt h (now (accounts .entry)) j)) e) ⌝ }
 {
     if !request_form(e) {
-        return 2;
+        return MALFORMED;
     }
     let x = account_numbered(accounts, accounts.len() / ACCOUNT_WIDTH, e.account);
-    if x.state == UNUSED {
-        return 3;
+    if x.state == STATE_UNUSED {
+        return UNKNOWN;
     }
-    if x.state == CLOSED {
-        return 5;
+    if x.state == STATE_CLOSED {
+        return CLOSED;
     }
-    if x.state == PENDING {
-        return 11;
+    if x.state == STATE_PENDING {
+        return UNTIMELY;
     }
     0
 }
@@ -84,8 +92,8 @@ pub fn request_close(
     journal: &[i64],
     e: Instruction,
 ) -> Answer
-    requires { ⌜ (soundTables (tablesAt (now header) (now accounts) (now journal)) ≡ true) × (e .kind ≡ 8) ⌝ }
-    ensures { λ r. ⌜ Posts (tablesAt (now (header .entry)) (now (accounts .entry)) (now (journal .entry))) (tablesAt (now (header .entry)) (now (accounts .exit)) (now (journal .entry))) e r ⌝ }
+    requires { ⌜ (soundTables (lent header accounts journal) ≡ true) × (e .kind ≡ EventCloseRequest) ⌝ }
+    ensures { λ r. ⌜ Posts (atEntry header accounts journal) (atExit header accounts journal) e r ⌝ }
 {
     let n = request_refusal(accounts, e);
     if n != 0 {

@@ -7,11 +7,12 @@ use mathlib.Core.List.{List, [], _∷_, map}
 use lib.ListN.{length, set, length-set, length-map}
 use lib.Dec.{leb, ltb}
 use borrow.Author.Tests.{leb-true, leb-false, lt-ltb, le-ltb}
-use Rattle.records.specs.Codes.{Yes}
+use Rattle.records.specs.Numbers.{Malformed, Unknown, NoRow, Untimely, Full}
+use Rattle.records.specs.Codes.{Yes, EventDecision}
 use Rattle.lists.specs.Tests.{_is_, first}
 use Rattle.lists.specs.Lists.{sumBy, count}
 use Rattle.rules.specs.Rows.{Row, toll, heldToll}
-use Rattle.rules.specs.Book.{Instruction, Unused, Book, withRows, account, row, putRow, addRow}
+use Rattle.rules.specs.Book.{Instruction, StateUnused, Book, withRows, account, row, putRow, addRow}
 use Rattle.rules.specs.Events.{release, reject, withFees, uphold, decide}
 use Rattle.rules.specs.Refusals.{changeOf, after, decisionForm, formOf, wellFormed, unknown, taken, onClosed, unclassed, misdated, duplicate, barred, noRow, untimely, lastDay, full, ceiling, refusals, answerNumber}
 use Rattle.rules.specs.Tables.{Tables, roomIn, rowsUsed, bookOf, soundTables}
@@ -34,7 +35,7 @@ creditRow b e = creditFor (b .rows) (b .day) e
 abbrev pub freeRow : Book → Instruction → Row
 freeRow b e = release (b .day) (row b (e .a))
 
-module _ (b : Book) (e : Instruction) (k : e .kind ≡ 6) where
+module _ (b : Book) (e : Instruction) (k : e .kind ≡ EventDecision) where
   pub rejected-change : e .b is Yes ≡ false → changeOf (e .kind) b e ≡ putRow (e .a) (freeRow b e) b
   unfolding changeOf decide reject
   rejected-change = at-kind (λ x. x .b is Yes ≡ false → changeOf (x .kind) b x ≡ putRow (x .a) (freeRow b x) b) e 6 k (λ v. rw v)
@@ -71,7 +72,7 @@ module _ (b : Book) (e : Instruction) (k : e .kind ≡ 6) where
 
 module _ (b : Book) (e : Instruction) where
   abbrev event6 : Instruction
-  event6 = ofKind 6 e
+  event6 = ofKind EventDecision e
 
   untimely-6 : untimely b event6 ≡ not (heldToll (row b (e .a)))
   unfolding untimely
@@ -92,10 +93,10 @@ one-more m n = go (leb m n) refl
     go false e = le-ltb m (n + 1) (omega (arith, leb-false m n e))
 
 -- the number that event 6 gets, with what each test came to
-pub answer-by : (t : Tables) → soundTables t ≡ true → (e : Instruction) → e .kind ≡ 6 → (f u n h r : Bool) → decisionForm e ≡ f
-    → account (bookOf t) (e .account) .state is Unused ≡ u → toll (row (bookOf t) (e .a)) && row (bookOf t) (e .a) .account is e .account ≡ n
+pub answer-by : (t : Tables) → soundTables t ≡ true → (e : Instruction) → e .kind ≡ EventDecision → (f u n h r : Bool) → decisionForm e ≡ f
+    → account (bookOf t) (e .account) .state is StateUnused ≡ u → toll (row (bookOf t) (e .a)) && row (bookOf t) (e .a) .account is e .account ≡ n
     → heldToll (row (bookOf t) (e .a)) ≡ h → e .b is Yes && leb (roomIn t) (rowsUsed t) ≡ r
-    → first ((2, not f) ∷ (3, u) ∷ (10, not n) ∷ (11, not h) ∷ (13, r) ∷ []) ≡ answerNumber (bookOf t) e
+    → first ((Malformed, not f) ∷ (Unknown, u) ∷ (NoRow, not n) ∷ (Untimely, not h) ∷ (Full, r) ∷ []) ≡ answerNumber (bookOf t) e
 unfolding decisionRefusals
 answer-by t s e k f u n h r p q v w z =
     let a = at-kind (λ x. answerNumber (bookOf t) x ≡ first (decisionRefusals (bookOf t) x)) e 6 k (answer-6 (bookOf t) e (rows-suffice t s 0 (omega (arith, used-le t s)))) in

@@ -8,7 +8,7 @@ use mathlib.Core.List.{List, [], _∷_, _++_}
 use lib.ListN.{length, set, length-set, length-append}
 use lib.IntN.{ℤ}
 use borrow.Author.Tests.{ltb-false}
-use Rattle.records.specs.Codes.{Yes}
+use Rattle.records.specs.Codes.{Yes, EventDecision}
 use Rattle.records.specs.Layout.{usedPlace}
 use Rattle.records.specs.Encoding.{word, rowAt, rowsOf, StorableRow}
 use Rattle.lists.specs.Tests.{_is_}
@@ -17,7 +17,7 @@ use Rattle.rules.specs.Settlement.{settle}
 use Rattle.rules.specs.Book.{Instruction, Book, withRows, row}
 use Rattle.rules.specs.Events.{release}
 use Rattle.rules.specs.Refusals.{after, full, answerNumber}
-use Rattle.rules.specs.Posting.{removesTopUp}
+use Rattle.rules.specs.Posting.{removesTopup}
 use Rattle.rules.specs.Tables.{Tables, roomIn, rowsUsed, bookOf, soundTables}
 use Rattle.rules.proofs.StorableLaws.{day-le, stage-le, accounts-le}
 use Rattle.rules.proofs.TableLaws.{sound-book, sound-rows, header-length, journal-length}
@@ -27,15 +27,16 @@ use Rattle.preservation.proofs.DisputeKept.{HeldToll, held-is, Decided, decided
 use Rattle.preservation.proofs.NamedLaws.{after-named}
 use Rattle.tables.specs.Changes.{RowChanged}
 use Rattle.settlement.specs.Settling.{Journal, Begun, Settled}
-use Rattle.lookups.specs.declared.Lookup.{Lookup}
-use Rattle.lookups.specs.Lookups.{LooksUp}
-use Rattle.lookups.proofs.LookupLaws.{still-before, still-put, still-whole, still-mapped, still-add, begun-still, row-at}
+use Rattle.event_lookups.specs.declared.Lookup.{Lookup}
+use Rattle.event_lookups.specs.Lookups.{LooksUp}
+use Rattle.event_lookups.proofs.LookupLaws.{still-before, still-put, still-whole, still-mapped, still-add, begun-still, row-at}
 use Rattle.posting.specs.Posts.{tablesAt, Amounts, acceptanceOf, Posts}
 use Rattle.posting.proofs.BookLaws.{row-read, day-read, used-read, room-read, used-small, row-holds, journal-summable}
 use Rattle.posting_laws.proofs.RefusalLaws.{at-kind}
 use Rattle.posting_laws.proofs.AddedLaws.{acceptance-plain, posts-accepted}
 use Rattle.posting_laws.proofs.EventLaws.{known-inside}
-use Rattle.posting_laws.proofs.UsedRowsLaws.{UsedRows, used-rows-before, rows-put, rows-map, used-rows-add, rows-settle, rows-written, used-rows-settles, small-before, small-put, small-map, small-add}
+use Rattle.posting.specs.Written.{UsedRows}
+use Rattle.posting_laws.proofs.UsedRowsLaws.{used-rows-before, rows-put, rows-map, used-rows-add, rows-settle, rows-written, used-rows-settles, small-before, small-put, small-map, small-add}
 use Rattle.posting_laws.proofs.PutRowLaws.{row-used, put-settles, put-posts}
 use Rattle.event_decision.specs.Decision.{feeSettled, upheldToll, creditFor, rowNamed, Upholdable, UpheldRows, Releasable, ReleasedRow}
 use Rattle.event_decision.proofs.FeeLaws.{sum-small, same-or-whole}
@@ -61,7 +62,7 @@ module _ (h h′ j j′ : List ℤ) (e : Instruction) (w : UpheldRows h h′ j j
   pub upheld-journal : length j′ ≡ length j
   upheld-journal = w .credit .row .size ∙ w .fees .size ∙ w .toll .size
 
-module _ (t : Tables) (s : soundTables t ≡ true) (e : Instruction) (k : e .kind ≡ 6) (q : 0 ≡ answerNumber (bookOf t) e) where
+module _ (t : Tables) (s : soundTables t ≡ true) (e : Instruction) (k : e .kind ≡ EventDecision) (q : 0 ≡ answerNumber (bookOf t) e) where
   abbrev b : Book
   b = bookOf t
 
@@ -229,7 +230,7 @@ module _ (t : Tables) (s : soundTables t ≡ true) (e : Instruction) (k : e .kin
           after-named b e (sound-book t s) (λ z. omega arith) acc (inside .0) (inside .1) (rw (upheld-change b e k v)) ∙ rw (upheld-change b e k v)
 
       pub upheld-posts : (j″ : List ℤ) → Settled j j″ (rowsUsed t + 1) (e .account) → Posts t (tablesAt h (t .accounts) j″) e (acceptanceOf (rowsUsed t) 1 0 0)
-      unfolding removesTopUp
+      unfolding removesTopup
       upheld-posts j″ d =
           posts-accepted t (tablesAt h (t .accounts) j″) s e (acceptanceOf (rowsUsed t) 1 0 0) q
           (rw (used-read t s) (acceptance-plain b e 1 (upheld-length b e k v) (rw k) (rw k)))

@@ -12,7 +12,7 @@ use Rattle.records.specs.Encoding.{rowAt, rowsOf}
 use Rattle.lists.specs.Lists.{sumBy, only, tabulate}
 use Rattle.lists.proofs.ListLaws.{length-tabulate, tabulate-at}
 use Rattle.lists.proofs.SumLaws.{sumBy-more, sumBy-small}
-use Rattle.rules.specs.Limits.{highestRefund}
+use Rattle.records.specs.Limits.{highestRefund}
 use Rattle.rules.specs.Rows.{Row, blank, rowNo, withSettled, remaining, settleWhole, feeNaming}
 use Rattle.posting.specs.Posts.{Amounts}
 use Rattle.event_decision.specs.Decision.{part, tollAndFees, feeSettled}

@@ -6,13 +6,14 @@ use mathlib.Core.List.{List, [], _∷_}
 use lib.ListN.{length}
 use lib.IntN.{ℤ}
 use lib.Dec.{ltb}
-use Rattle.records.specs.Codes.{Upheld, Yes}
+use Rattle.records.specs.Numbers.{Malformed, Unknown, NoRow, Untimely, Full}
+use Rattle.records.specs.Codes.{DisputeUpheld, Yes}
 use Rattle.records.specs.Layout.{headerWidth, dayPlace, usedPlace}
 use Rattle.records.specs.Encoding.{word, rowsOf, StorableRow}
 use Rattle.lists.specs.Tests.{_is_, Cases}
 use Rattle.lists.specs.Lists.{sumBy, only}
-use Rattle.rules.specs.Rows.{Row, Credit, rowNo, newRow, withSettled, withDispute, withHold, withReference, remaining, settleWhole, toll, heldToll, feeNaming}
-use Rattle.rules.specs.Book.{Instruction, Unused, Book, account, row}
+use Rattle.rules.specs.Rows.{Row, KindCredit, rowNo, newRow, withSettled, withDispute, withHoldStart, withReference, remaining, settleWhole, toll, heldToll, feeNaming}
+use Rattle.rules.specs.Book.{Instruction, StateUnused, Book, account, row}
 use Rattle.rules.specs.Events.{release}
 use Rattle.rules.specs.Refusals.{decisionForm}
 use Rattle.tables.specs.Changes.{RowChanged, RowsMapped}
@@ -20,11 +21,11 @@ use Rattle.posting.specs.Posts.{Amounts, RowRoom, RowAdded}
 
 unfoldable pub decisionRefusals : Book → Instruction → Cases
 decisionRefusals b e =
-    (2, not (decisionForm e))
-    ∷ (3, account b (e .account) .state is Unused)
-    ∷ (10, not (toll (row b (e .a)) && row b (e .a) .account is e .account))
-    ∷ (11, not (heldToll (row b (e .a))))
-    ∷ (13, e .b is Yes && ltb (b .room) (length (b .rows) + 1))
+    (Malformed, not (decisionForm e))
+    ∷ (Unknown, account b (e .account) .state is StateUnused)
+    ∷ (NoRow, not (toll (row b (e .a)) && row b (e .a) .account is e .account))
+    ∷ (Untimely, not (heldToll (row b (e .a))))
+    ∷ (Full, e .b is Yes && ltb (b .room) (length (b .rows) + 1))
     ∷ []
 
 -- ---- a toll and its fees
@@ -45,12 +46,12 @@ feeSettled n r = cond (feeNaming n r) (settleWhole r) r
 
 -- "dispute 3": free and settled whole
 abbrev pub upheldToll : Row → Row
-upheldToll r = settleWhole (withHold 0 (withDispute Upheld r))
+upheldToll r = settleWhole (withHoldStart 0 (withDispute DisputeUpheld r))
 
 -- "a credit of the toll plus all its fees settles what is unsettled of exactly these"
 unfoldable pub creditFor : List Row → ℕ → Instruction → Row
 creditFor rows today e =
-    withReference (e .a) (withSettled (tollAndFees rows (e .a) (part false)) (newRow Credit (e .account) today (tollAndFees rows (e .a) (part true))))
+    withReference (e .a) (withSettled (tollAndFees rows (e .a) (part false)) (newRow KindCredit (e .account) today (tollAndFees rows (e .a) (part true))))
 
 -- the row that the event names
 abbrev pub rowNamed : List ℤ → List ℤ → Instruction → Row

@@ -1,10 +1,10 @@
 // The fees of a toll: summed with it, and settled whole.
 use records::Row;
+use records::codes::KIND_FEE;
 use row_tests::remaining_of;
 use table_rows::put_settled;
 use table_rows::read_row;
 use table_rows::row_numbered;
-use tables::codes::FEE;
 ghost use mathlib.Core.Path.{_≡_};
 ghost use Prim.Native.Nat.{_^_, _<_};
 ghost use Rattle.records.specs.Encoding.{rowAt, rowsOf};
@@ -19,7 +19,7 @@ ghost use Rattle.event_decision.specs.Decision.{part, tollAndFees, feeSe
 fn is_fee_of(r: Row, n: u64) -> bool
     ensures { λ b. ⌜ b ≡ feeNaming n r ⌝ }
 {
-    (r.kind == FEE) & (r.reference == n)
+    (r.kind == KIND_FEE) & (r.reference == n)
 }
 
 // Of a row its whole amount, or what remains of it.

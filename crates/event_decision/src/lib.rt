@@ -1,11 +1,10 @@
-// Event 6: a decision. Uses lists, records, rules, preservation, tables, table_rows, table_accounts, row_tests, settlement, forms,
-// posting, lookups and posting_laws.
+// Event 6: a decision.
 pub mod fees; // fees.rt: the fees of a toll, summed and settled
 
 use self::fees::settle_fees;
 use self::fees::with_fees;
-use forms::decision_form;
-use lookups::Lookup;
+use event_forms::decision_form;
+use event_lookups::Lookup;
 use posting::answers::posted;
 use posting::answers::refused;
 use posting::rows::add_row;
@@ -14,54 +13,61 @@ use posting::rows::released;
 use records::Answer;
 use records::Instruction;
 use records::Row;
+use records::codes::DISPUTE_UPHELD;
+use records::codes::KIND_CREDIT;
+use records::codes::KIND_TOLL;
+use records::codes::STATE_UNUSED;
+use records::layout::ACCOUNT_WIDTH;
+use records::layout::DAY_PLACE;
+use records::layout::ROW_WIDTH;
+use records::layout::USED_PLACE;
+use records::numbers::FULL;
+use records::numbers::MALFORMED;
+use records::numbers::NO_ROW;
+use records::numbers::UNKNOWN;
+use records::numbers::UNTIMELY;
 use row_tests::held_toll;
 use settlement::settle_from;
 use table_accounts::account_numbered;
 use table_rows::row_numbered;
 use table_rows::write_row;
-use tables::codes::CREDIT;
-use tables::codes::TOLL;
-use tables::codes::UNUSED;
-use tables::codes::UPHELD;
-use tables::layout::ACCOUNT_WIDTH;
-use tables::layout::DAY_PLACE;
-use tables::layout::ROW_WIDTH;
-use tables::layout::USED_PLACE;
 use tables::words::get;
 ghost use mathlib.Core.Path.{_≡_};
 ghost use mathlib.Core.Bool.{true};
 ghost use Rattle.records.specs.Encoding.{rowsOf};
 ghost use Rattle.rules.specs.Refusals.{answerNumber};
 ghost use Rattle.rules.specs.Tables.{bookOf, soundTables};
-ghost use Rattle.lookups.specs.Lookups.{LooksUp};
-ghost use Rattle.posting.specs.Posts.{tablesAt, Amounts, Posts};
+ghost use Rattle.event_lookups.specs.Lookups.{LooksUp};
+ghost use Rattle.posting.specs.Posts.{Amounts, Posts};
 ghost use Rattle.event_decision.specs.Decision.{upheldToll, creditFor, Upholdable, UpheldRows, Releasable, ReleasedRow};
+ghost use Rattle.records.specs.Codes.{EventDecision};
+ghost use Rattle.rules.specs.Lent.{lent, atEntry, atExit};
 
 // The verdict that upholds the dispute.
 const YES: u64 = 1;
 
 // Why event 6 is refused, 0 where it is not.
 fn decision_refusal(header: &[i64], accounts: &[i64], journal: &[i64], e: Instruction) -> u64
-    requires { ⌜ (soundTables (tablesAt (now header) (now accounts) (now journal)) ≡ true) × (e .kind ≡ 6) ⌝ }
-    ensures { λ n. ⌜ n ≡ answerNumber (bookOf (tablesAt (now (header .entry)) (now (accounts .entry)) (now (journal .entry)))) e ⌝ }
+    requires { ⌜ (soundTables (lent header accounts journal) ≡ true) × (e .kind ≡ EventDecision) ⌝ }
+    ensures { λ n. ⌜ n ≡ answerNumber (bookOf (atEntry header accounts journal)) e ⌝ }
 {
     if !decision_form(e) {
-        return 2;
+        return MALFORMED;
     }
     let x = account_numbered(accounts, accounts.len() / ACCOUNT_WIDTH, e.account);
-    if x.state == UNUSED {
-        return 3;
+    if x.state == STATE_UNUSED {
+        return UNKNOWN;
     }
     let used = get(header, USED_PLACE) as usize;
     let r = row_numbered(journal, used, e.a);
-    if !((r.kind == TOLL) & (r.account == e.account)) {
-        return 10;
+    if !((r.kind == KIND_TOLL) & (r.account == e.account)) {
+        return NO_ROW;
     }
     if !held_toll(r) {
-        return 11;
+        return UNTIMELY;
     }
     if (e.b == YES) & (journal.len() / ROW_WIDTH <= used) {
-        return 13;
+        return FULL;
     }
     0
 }
@@ -72,7 +78,7 @@ fn credit_for(journal: &[i64], used: usize, today: u64, e: Instruction) -> Row
     ensures { λ r. ⌜ r ≡ creditFor (rowsOf (now (journal .entry)) used) today e ⌝ }
 {
     let whole = with_fees(journal, used, e.a, true);
-    let mut credit = new_row(CREDIT, e.account, today, whole);
+    let mut credit = new_row(KIND_CREDIT, e.account, today, whole);
     credit.settled = with_fees(journal, used, e.a, false);
     credit.reference = e.a;
     credit
@@ -84,7 +90,7 @@ fn upheld(r: Row) -> Row
 {
     let mut free = r;
     free.settled = r.amount;
-    free.dispute = UPHELD;
+    free.dispute = DISPUTE_UPHELD;
     free.hold = 0;
     free
 }
@@ -120,8 +126,10 @@ pub fn decide(
     e: Instruction,
     k: Lookup,
 ) -> Answer
-    requires { ⌜ (soundTables (tablesAt (now header) (now accounts) (now journal)) ≡ true) × (e .kind ≡ 6) × LooksUp (tablesAt (now header) (now accounts) (now journal)) e k ⌝ }
-    ensures { λ r. ⌜ Posts (tablesAt (now (header .entry)) (now (accounts .entry)) (now (journal .entry))) (tablesAt (now (header .exit)) (now (accounts .entry)) (now (journal .exit))) e r ⌝ }
+    requires { ⌜ (soundTables (lent header accounts journal) ≡ true)
+        × (e .kind ≡ EventDecision)
+        × LooksUp (lent header accounts journal) e k ⌝ }
+    ensures { λ r. ⌜ Posts (atEntry header accounts journal) (atExit header accounts journal) e r ⌝ }
 {
     let n = decision_refusal(header, accounts, journal, e);
     if n != 0 {

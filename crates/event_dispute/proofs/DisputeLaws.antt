@@ -7,12 +7,13 @@ use mathlib.Core.List.{List, [], _∷_}
 use lib.ListN.{length}
 use lib.IntN.{ℤ}
 use lib.Dec.{ltb}
-use Rattle.records.specs.Codes.{Never}
+use Rattle.records.specs.Numbers.{Malformed, Unknown, NoRow, Untimely}
+use Rattle.records.specs.Codes.{DisputeNever, EventDispute}
 use Rattle.records.specs.Layout.{dayPlace}
 use Rattle.records.specs.Encoding.{word, rowsOf, StorableRow}
 use Rattle.lists.specs.Tests.{_is_, first}
-use Rattle.rules.specs.Rows.{Row, Toll, rowNo, toll, unsettled}
-use Rattle.rules.specs.Book.{Instruction, Unused, Book, account, row, putRow}
+use Rattle.rules.specs.Rows.{Row, KindToll, rowNo, toll, unsettled}
+use Rattle.rules.specs.Book.{Instruction, StateUnused, Book, account, row, putRow}
 use Rattle.rules.specs.Events.{holdFrom, holdToll}
 use Rattle.rules.specs.Refusals.{changeOf, disputeForm, formOf, wellFormed, unknown, taken, onClosed, unclassed, misdated, duplicate, barred, noRow, untimely, lastDay, full, refusals, answerNumber}
 use Rattle.rules.specs.Tables.{Tables, rowsUsed, bookOf, soundTables}
@@ -22,9 +23,9 @@ use Rattle.preservation.proofs.Accepted.{accepted}
 use Rattle.preservation.proofs.LookupLaws.{named-kind}
 use Rattle.tables.specs.Changes.{RowChanged}
 use Rattle.settlement.specs.Settling.{Journal, Begun, Settled}
-use Rattle.lookups.specs.declared.Lookup.{Lookup}
-use Rattle.lookups.specs.Lookups.{LooksUp}
-use Rattle.lookups.proofs.LookupLaws.{still-before, still-put, begun-still, row-at}
+use Rattle.event_lookups.specs.declared.Lookup.{Lookup}
+use Rattle.event_lookups.specs.Lookups.{LooksUp}
+use Rattle.event_lookups.proofs.LookupLaws.{still-before, still-put, begun-still, row-at}
 use Rattle.posting.specs.Posts.{tablesAt, acceptanceOf, Posts}
 use Rattle.posting.proofs.BookLaws.{day-read, row-holds}
 use Rattle.posting_laws.proofs.RefusalLaws.{ofKind, at-kind, unknown-unused, rows-suffice}
@@ -35,18 +36,18 @@ use Rattle.event_dispute.specs.Dispute.{disputeRefusals}
 abbrev pub heldRow : Book → Instruction → Row
 heldRow b e = holdFrom (b .day) (row b (e .a))
 
-changed : (b : Book) (e : Instruction) → e .kind ≡ 5 → changeOf (e .kind) b e ≡ putRow (e .a) (heldRow b e) b
+changed : (b : Book) (e : Instruction) → e .kind ≡ EventDispute → changeOf (e .kind) b e ≡ putRow (e .a) (heldRow b e) b
 unfolding changeOf holdToll
 changed b e k = at-kind (λ x. changeOf (x .kind) b x ≡ putRow (x .a) (heldRow b x) b) e 5 k refl
 
 module _ (b : Book) (e : Instruction) where
   abbrev event5 : Instruction
-  event5 = ofKind 5 e
+  event5 = ofKind EventDispute e
 
-  untimely-5 : untimely b event5 ≡ not (unsettled (row b (e .a))) || not (row b (e .a) .dispute is Never)
+  untimely-5 : untimely b event5 ≡ not (unsettled (row b (e .a))) || not (row b (e .a) .dispute is DisputeNever)
   unfolding untimely
   untimely-5 =
-      let x : Bool = not (unsettled (row b (e .a))) || not (row b (e .a) .dispute is Never) in
+      let x : Bool = not (unsettled (row b (e .a))) || not (row b (e .a) .dispute is DisputeNever) in
       or-false (x || false || false) ∙ or-false (x || false) ∙ or-false x
 
   answer-5 : ltb (b .room) (length (b .rows) + 0) ≡ false → answerNumber b event5 ≡ first (disputeRefusals b event5)
@@ -56,10 +57,10 @@ module _ (b : Book) (e : Instruction) where
       rw (length-put b event5 (e .a) _ c, no-ceiling-put b event5 (e .a) _ c, f, unknown-unused b (e .account), untimely-5)
 
 -- the number that event 5 gets, with what each test came to
-pub answer-by : (t : Tables) → soundTables t ≡ true → (e : Instruction) → e .kind ≡ 5 → (f u n c : Bool) → disputeForm e ≡ f
-    → account (bookOf t) (e .account) .state is Unused ≡ u → toll (row (bookOf t) (e .a)) && row (bookOf t) (e .a) .account is e .account ≡ n
-    → not (unsettled (row (bookOf t) (e .a))) || not (row (bookOf t) (e .a) .dispute is Never) ≡ c
-    → first ((2, not f) ∷ (3, u) ∷ (10, not n) ∷ (11, c) ∷ []) ≡ answerNumber (bookOf t) e
+pub answer-by : (t : Tables) → soundTables t ≡ true → (e : Instruction) → e .kind ≡ EventDispute → (f u n c : Bool) → disputeForm e ≡ f
+    → account (bookOf t) (e .account) .state is StateUnused ≡ u → toll (row (bookOf t) (e .a)) && row (bookOf t) (e .a) .account is e .account ≡ n
+    → not (unsettled (row (bookOf t) (e .a))) || not (row (bookOf t) (e .a) .dispute is DisputeNever) ≡ c
+    → first ((Malformed, not f) ∷ (Unknown, u) ∷ (NoRow, not n) ∷ (Untimely, c) ∷ []) ≡ answerNumber (bookOf t) e
 unfolding disputeRefusals
 answer-by t s e k f u n c p q v w =
     let a = at-kind (λ x. answerNumber (bookOf t) x ≡ first (disputeRefusals (bookOf t) x)) e 5 k (answer-5 (bookOf t) e (rows-suffice t s 0 (omega (arith, used-le t s)))) in
@@ -72,13 +73,13 @@ held-row t s e used today r x u f d h = rw (row-read-by t s used (e .a) r u f, d
 
 -- ---- what an accepted event 5 leaves
 
-module _ (t : Tables) (s : soundTables t ≡ true) (e : Instruction) (k : e .kind ≡ 5) (q : 0 ≡ answerNumber (bookOf t) e) where
+module _ (t : Tables) (s : soundTables t ≡ true) (e : Instruction) (k : e .kind ≡ EventDispute) (q : 0 ≡ answerNumber (bookOf t) e) where
   abbrev b : Book
   b = bookOf t
 
-  is-toll : row b (e .a) .kind ≡ Toll
+  is-toll : row b (e .a) .kind ≡ KindToll
   unfolding noRow
-  is-toll = at-kind (λ x. noRow b x ≡ false → row b (x .a) .kind ≡ Toll) e 5 k (named-kind b (e .a) (e .account) 1) (accepted b e (sym q) .named)
+  is-toll = at-kind (λ x. noRow b x ≡ false → row b (x .a) .kind ≡ KindToll) e 5 k (named-kind b (e .a) (e .account) 1) (accepted b e (sym q) .named)
 
   has-kind : 0 < row b (e .a) .kind
   has-kind = omega (arith, is-toll)

@@ -1,50 +1,55 @@
-// Event 5: a dispute. Uses lists, records, rules, preservation, tables, table_rows, table_accounts, settlement, forms, posting, lookups
-// and posting_laws.
-use forms::dispute_form;
-use lookups::Lookup;
+// Event 5: a dispute.
+use event_forms::dispute_form;
+use event_lookups::Lookup;
 use posting::answers::posted;
 use posting::answers::refused;
 use records::Answer;
 use records::Instruction;
 use records::Row;
+use records::codes::DISPUTE_HELD;
+use records::codes::DISPUTE_NEVER;
+use records::codes::KIND_TOLL;
+use records::codes::STATE_UNUSED;
+use records::layout::ACCOUNT_WIDTH;
+use records::layout::DAY_PLACE;
+use records::layout::USED_PLACE;
+use records::numbers::MALFORMED;
+use records::numbers::NO_ROW;
+use records::numbers::UNKNOWN;
+use records::numbers::UNTIMELY;
 use settlement::settle_from;
 use table_accounts::account_numbered;
 use table_rows::row_numbered;
 use table_rows::write_row;
-use tables::codes::HELD;
-use tables::codes::NEVER;
-use tables::codes::TOLL;
-use tables::codes::UNUSED;
-use tables::layout::ACCOUNT_WIDTH;
-use tables::layout::DAY_PLACE;
-use tables::layout::USED_PLACE;
 use tables::words::get;
 ghost use mathlib.Core.Path.{_≡_};
 ghost use mathlib.Core.Bool.{true};
 ghost use Rattle.rules.specs.Events.{holdFrom};
 ghost use Rattle.rules.specs.Refusals.{answerNumber};
 ghost use Rattle.rules.specs.Tables.{bookOf, soundTables};
-ghost use Rattle.lookups.specs.Lookups.{LooksUp};
-ghost use Rattle.posting.specs.Posts.{tablesAt, Posts};
+ghost use Rattle.event_lookups.specs.Lookups.{LooksUp};
+ghost use Rattle.posting.specs.Posts.{Posts};
+ghost use Rattle.records.specs.Codes.{EventDispute};
+ghost use Rattle.rules.specs.Lent.{lent, atEntry, atExit};
 
 // Why event 5 is refused, 0 where it is not.
 fn dispute_refusal(header: &[i64], accounts: &[i64], journal: &[i64], e: Instruction) -> u64
-    requires { ⌜ (soundTables (tablesAt (now header) (now accounts) (now journal)) ≡ true) × (e .kind ≡ 5) ⌝ }
-    ensures { λ n. ⌜ n ≡ answerNumber (bookOf (tablesAt (now (header .entry)) (now (accounts .entry)) (now (journal .entry)))) e ⌝ }
+    requires { ⌜ (soundTables (lent header accounts journal) ≡ true) × (e .kind ≡ EventDispute) ⌝ }
+    ensures { λ n. ⌜ n ≡ answerNumber (bookOf (atEntry header accounts journal)) e ⌝ }
 {
     if !dispute_form(e) {
-        return 2;
+        return MALFORMED;
     }
     let x = account_numbered(accounts, accounts.len() / ACCOUNT_WIDTH, e.account);
-    if x.state == UNUSED {
-        return 3;
+    if x.state == STATE_UNUSED {
+        return UNKNOWN;
     }
     let r = row_numbered(journal, get(header, USED_PLACE) as usize, e.a);
-    if !((r.kind == TOLL) & (r.account == e.account)) {
-        return 10;
+    if !((r.kind == KIND_TOLL) & (r.account == e.account)) {
+        return NO_ROW;
     }
-    if !(r.settled < r.amount) | (r.dispute != NEVER) {
-        return 11;
+    if !(r.settled < r.amount) | (r.dispute != DISPUTE_NEVER) {
+        return UNTIMELY;
     }
     0
 }
@@ -54,7 +59,7 @@ fn held_from(r: Row, today: u64) -> Row
     ensures { λ s. ⌜ s ≡ holdFrom today r ⌝ }
 {
     let mut held = r;
-    held.dispute = HELD;
+    held.dispute = DISPUTE_HELD;
     held.hold = today;
     held
 }
@@ -67,8 +72,10 @@ pub fn hold_toll(
     e: Instruction,
     k: Lookup,
 ) -> Answer
-    requires { ⌜ (soundTables (tablesAt (now header) (now accounts) (now journal)) ≡ true) × (e .kind ≡ 5) × LooksUp (tablesAt (now header) (now accounts) (now journal)) e k ⌝ }
-    ensures { λ r. ⌜ Posts (tablesAt (now (header .entry)) (now (accounts .entry)) (now (journal .entry))) (tablesAt (now (header .entry)) (now (accounts .entry)) (now (journal .exit))) e r ⌝ }
+    requires { ⌜ (soundTables (lent header accounts journal) ≡ true)
+        × (e .kind ≡ EventDispute)
+        × LooksUp (lent header accounts journal) e k ⌝ }
+    ensures { λ r. ⌜ Posts (atEntry header accounts journal) (atExit header accounts journal) e r ⌝ }
 {
     let n = dispute_refusal(header, accounts, journal, e);
     if n != 0 {

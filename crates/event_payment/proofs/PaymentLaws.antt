@@ -9,18 +9,19 @@ use lib.ListN.{length}
 use lib.IntN.{ℤ}
 use lib.Dec.{leb, ltb}
 use borrow.Author.Tests.{ltb-false, not-false}
-use Rattle.records.specs.Codes.{Check}
+use Rattle.records.specs.Numbers.{Malformed, Unknown, Closed, Barred, Full}
+use Rattle.records.specs.Codes.{MethodCheck, EventPayment, EventTick}
 use Rattle.records.specs.Encoding.{accountsOf, StorableRow}
 use Rattle.lists.specs.Tests.{_is_, _from_to_, first}
 use Rattle.lists.specs.Lists.{sumBy, count}
 use Rattle.lists.proofs.TestLaws.{and-left, and-right}
-use Rattle.rules.specs.Limits.{barringReturns, highestPayment}
-use Rattle.rules.specs.Rows.{Row, Payment, newRow, withMark}
+use Rattle.records.specs.Limits.{barringReturns, highestPayment}
+use Rattle.rules.specs.Rows.{Row, KindPayment, newRow, withMark}
 use Rattle.rules.specs.Settlement.{settle}
-use Rattle.rules.specs.Book.{Instruction, Unused, Closed, Book, account, addRow, withRows}
+use Rattle.rules.specs.Book.{Instruction, StateUnused, StateClosed, Book, account, addRow, withRows}
 use Rattle.rules.specs.Events.{postPayment}
 use Rattle.rules.specs.Refusals.{changeOf, after, zeroFrom-c, paymentForm, formOf, wellFormed, unknown, taken, onClosed, unclassed, misdated, duplicate, barred, noRow, untimely, lastDay, full, refusals, answerNumber}
-use Rattle.rules.specs.Posting.{removesTopUp}
+use Rattle.rules.specs.Posting.{removesTopup}
 use Rattle.rules.specs.Tables.{Tables, accountsIn, roomIn, rowsUsed, bookOf, soundTables}
 use Rattle.rules.proofs.StorableLaws.{between-le, day-le, accounts-le}
 use Rattle.rules.proofs.TableLaws.{sound-book}
@@ -36,13 +37,13 @@ use Rattle.event_payment.specs.Payment.{paymentRefusals}
 
 -- the row that event 3 adds
 abbrev pub paymentRow : Book → Instruction → Row
-paymentRow b e = withMark (e .b) (newRow Payment (e .account) (b .day) (e .a))
+paymentRow b e = withMark (e .b) (newRow KindPayment (e .account) (b .day) (e .a))
 
 module _ (b : Book) (e : Instruction) where
   abbrev event3 : Instruction
-  event3 = ofKind 3 e
+  event3 = ofKind EventPayment e
 
-  change-payment : changeOf 3 b event3 .rows ≡ b .rows ++ (paymentRow b event3 ∷ [])
+  change-payment : changeOf EventPayment b event3 .rows ≡ b .rows ++ (paymentRow b event3 ∷ [])
   unfolding changeOf postPayment
   change-payment = refl
 
@@ -54,20 +55,20 @@ module _ (b : Book) (e : Instruction) where
       rw (l, z, unknown-unused b (e .account))
 
 -- the number that event 3 gets
-pub answer-payment : (b : Book) (e : Instruction) → e .kind ≡ 3 → answerNumber b e ≡ first (paymentRefusals b e)
+pub answer-payment : (b : Book) (e : Instruction) → e .kind ≡ EventPayment → answerNumber b e ≡ first (paymentRefusals b e)
 answer-payment b e k = at-kind (λ x. answerNumber b x ≡ first (paymentRefusals b x)) e 3 k (answer-3 b e)
 
 -- the same with what each test came to
-pub answer-by : (b : Book) (e : Instruction) → e .kind ≡ 3 → (f u c s r : Bool) → paymentForm e ≡ f → account b (e .account) .state is Unused ≡ u
-    → account b (e .account) .state is Closed ≡ c → e .b is Check && leb barringReturns (account b (e .account) .returned) ≡ s
+pub answer-by : (b : Book) (e : Instruction) → e .kind ≡ EventPayment → (f u c s r : Bool) → paymentForm e ≡ f → account b (e .account) .state is StateUnused ≡ u
+    → account b (e .account) .state is StateClosed ≡ c → e .b is MethodCheck && leb barringReturns (account b (e .account) .returned) ≡ s
     → ltb (b .room) (length (b .rows) + 1) ≡ r
-    → first ((2, not f) ∷ (3, u) ∷ (5, c) ∷ (9, s) ∷ (13, r) ∷ []) ≡ answerNumber b e
+    → first ((Malformed, not f) ∷ (Unknown, u) ∷ (Closed, c) ∷ (Barred, s) ∷ (Full, r) ∷ []) ≡ answerNumber b e
 unfolding paymentRefusals
 answer-by b e k f u c s r p q v w z = rw (answer-payment b e k, p, q, v, w, z)
 
 -- ---- what an accepted event 3 leaves
 
-module _ (t : Tables) (s : soundTables t ≡ true) (e : Instruction) (k : e .kind ≡ 3) (q : 0 ≡ answerNumber (bookOf t) e) where
+module _ (t : Tables) (s : soundTables t ≡ true) (e : Instruction) (k : e .kind ≡ EventPayment) (q : 0 ≡ answerNumber (bookOf t) e) where
   abbrev b : Book
   b = bookOf t
 
@@ -81,7 +82,7 @@ module _ (t : Tables) (s : soundTables t ≡ true) (e : Instruction) (k : e .kin
   unfolding changeOf postPayment
   changed = at-kind (λ x. changeOf (x .kind) b x ≡ addRow (paymentRow b x) b) e 3 k refl
 
-  not-tick : e .kind ≢ 9
+  not-tick : e .kind ≢ EventTick
   not-tick z = omega arith
 
   -- there is a row for it
@@ -125,14 +126,14 @@ module _ (t : Tables) (s : soundTables t ≡ true) (e : Instruction) (k : e .kin
       → rowsUsed t < roomIn t → Posts t (tablesAt h (t .accounts) j″) e (acceptanceOf (rowsUsed t) 1 0 0)
   payment-posts h j j″ w d l =
       posts-accepted t (tablesAt h (t .accounts) j″) s e (acceptanceOf (rowsUsed t) 1 0 0) q
-      (rw (used-read t s) (acceptance-plain b e 1 (length-after b e (b .rows) (paymentRow b e ∷ []) (ap (λ (x : Book). x .rows) changed) refl) plain-kind keeps-top-up))
+      (rw (used-read t s) (acceptance-plain b e 1 (length-after b e (b .rows) (paymentRow b e ∷ []) (ap (λ (x : Book). x .rows) changed) refl) plain-kind keeps-topup))
       (rw after-payment (row-written t s h j j″ (t .accounts) (paymentRow b e) (e .account) (b .accounts) w d l refl same-accounts))
     where
-      plain-kind : e .kind is 9 ≡ false
+      plain-kind : e .kind is EventTick ≡ false
       plain-kind = rw k
 
-      keeps-top-up : removesTopUp b e ≡ false
-      keeps-top-up = unfold removesTopUp in (rw k)
+      keeps-topup : removesTopup b e ≡ false
+      keeps-topup = unfold removesTopup in (rw k)
 
       same-accounts : accountsOf (t .accounts) (accountsIn t) ≡ b .accounts
       same-accounts = unfold bookOf in refl

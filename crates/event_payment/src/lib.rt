@@ -1,52 +1,58 @@
-// Event 3: a payment. Uses lists, records, rules, preservation, tables, table_accounts, settlement, forms, posting, lookups and
-// posting_laws.
-use forms::payment_form;
-use lookups::Lookup;
+// Event 3: a payment.
+use event_forms::payment_form;
+use event_lookups::Lookup;
 use posting::answers::posted;
 use posting::answers::refused;
 use posting::rows::add_row;
 use posting::rows::new_row;
 use records::Answer;
 use records::Instruction;
+use records::codes::KIND_PAYMENT;
+use records::codes::METHOD_CHECK;
+use records::codes::STATE_CLOSED;
+use records::codes::STATE_UNUSED;
+use records::layout::ACCOUNT_WIDTH;
+use records::layout::DAY_PLACE;
+use records::layout::ROW_WIDTH;
+use records::layout::USED_PLACE;
+use records::limits::BARRING_RETURNS;
+use records::numbers::BARRED;
+use records::numbers::CLOSED;
+use records::numbers::FULL;
+use records::numbers::MALFORMED;
+use records::numbers::UNKNOWN;
 use settlement::settle_from;
 use table_accounts::account_numbered;
-use tables::codes::CHECK;
-use tables::codes::CLOSED;
-use tables::codes::PAYMENT;
-use tables::codes::UNUSED;
-use tables::layout::ACCOUNT_WIDTH;
-use tables::layout::DAY_PLACE;
-use tables::layout::ROW_WIDTH;
-use tables::layout::USED_PLACE;
-use tables::limits::BARRING_RETURNS;
 use tables::words::get;
 ghost use mathlib.Core.Path.{_≡_};
 ghost use mathlib.Core.Bool.{true};
 ghost use Rattle.rules.specs.Refusals.{answerNumber};
 ghost use Rattle.rules.specs.Tables.{bookOf, soundTables};
-ghost use Rattle.lookups.specs.Lookups.{LooksUp};
-ghost use Rattle.posting.specs.Posts.{tablesAt, Posts};
+ghost use Rattle.event_lookups.specs.Lookups.{LooksUp};
+ghost use Rattle.posting.specs.Posts.{Posts};
+ghost use Rattle.records.specs.Codes.{EventPayment};
+ghost use Rattle.rules.specs.Lent.{lent, atEntry, atExit};
 
 // Why event 3 is refused, 0 where it is not.
 fn payment_refusal(header: &[i64], accounts: &[i64], journal: &[i64], e: Instruction) -> u64
-    requires { ⌜ (soundTables (tablesAt (now header) (now accounts) (now journal)) ≡ true) × (e .kind ≡ 3) ⌝ }
-    ensures { λ n. ⌜ n ≡ answerNumber (bookOf (tablesAt (now (header .entry)) (now (accounts .entry)) (now (journal .entry)))) e ⌝ }
+    requires { ⌜ (soundTables (lent header accounts journal) ≡ true) × (e .kind ≡ EventPayment) ⌝ }
+    ensures { λ n. ⌜ n ≡ answerNumber (bookOf (atEntry header accounts journal)) e ⌝ }
 {
     if !payment_form(e) {
-        return 2;
+        return MALFORMED;
     }
     let x = account_numbered(accounts, accounts.len() / ACCOUNT_WIDTH, e.account);
-    if x.state == UNUSED {
-        return 3;
+    if x.state == STATE_UNUSED {
+        return UNKNOWN;
     }
-    if x.state == CLOSED {
-        return 5;
+    if x.state == STATE_CLOSED {
+        return CLOSED;
     }
-    if (e.b == CHECK) & (BARRING_RETURNS <= x.returned) {
-        return 9;
+    if (e.b == METHOD_CHECK) & (BARRING_RETURNS <= x.returned) {
+        return BARRED;
     }
     if journal.len() / ROW_WIDTH <= get(header, USED_PLACE) as usize {
-        return 13;
+        return FULL;
     }
     0
 }
@@ -59,15 +65,17 @@ pub fn post_payment(
     e: Instruction,
     k: Lookup,
 ) -> Answer
-    requires { ⌜ (soundTables (tablesAt (now header) (now accounts) (now journal)) ≡ true) × (e .kind ≡ 3) × LooksUp (tablesAt (now header) (now accounts) (now journal)) e k ⌝ }
-    ensures { λ r. ⌜ Posts (tablesAt (now (header .entry)) (now (accounts .entry)) (now (journal .entry))) (tablesAt (now (header .exit)) (now (accounts .entry)) (now (journal .exit))) e r ⌝ }
+    requires { ⌜ (soundTables (lent header accounts journal) ≡ true)
+        × (e .kind ≡ EventPayment)
+        × LooksUp (lent header accounts journal) e k ⌝ }
+    ensures { λ r. ⌜ Posts (atEntry header accounts journal) (atExit header accounts journal) e r ⌝ }
 {
     let n = payment_refusal(header, accounts, journal, e);
     if n != 0 {
         return refused(n);
     }
     let used = get(header, USED_PLACE);
-    let mut r = new_row(PAYMENT, e.account, get(header, DAY_PLACE), e.a);
+    let mut r = new_row(KIND_PAYMENT, e.account, get(header, DAY_PLACE), e.a);
     r.mark = e.b;
     add_row(header, journal, r);
     settle_from(

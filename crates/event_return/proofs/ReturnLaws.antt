@@ -9,7 +9,8 @@ use lib.ListN.{length, set, length-set, length-append}
 use lib.IntN.{ℤ}
 use lib.Dec.{leb, ltb}
 use borrow.Author.Tests.{leb-true, le-leb, ltb-false, eqb-true, not-false}
-use Rattle.records.specs.Codes.{Check, CheckReturned}
+use Rattle.records.specs.Numbers.{Malformed, Unknown, NoRow, Untimely, Full}
+use Rattle.records.specs.Codes.{MethodCheck, MethodCheckReturned, EventReturnedCheck, EventTick}
 use Rattle.records.specs.Layout.{dayPlace, usedPlace}
 use Rattle.records.specs.Encoding.{word, rowsOf, accountsOf, StorableRow, StorableAccount}
 use Rattle.records.specs.AccountOperations.{checkReturned}
@@ -18,14 +19,14 @@ use Rattle.lists.specs.Tests.{_is_, _from_to_, first}
 use Rattle.lists.specs.Lists.{sumBy, count}
 use Rattle.lists.proofs.TestLaws.{and-left, and-both}
 use Rattle.lists.proofs.SumLaws.{count-le}
-use Rattle.rules.specs.Limits.{mostRows, highestCharge, returnFee}
-use Rattle.rules.specs.Rows.{Row, Fee, Reversal, Payment, rowNo, newRow, withMark, withReference}
+use Rattle.records.specs.Limits.{mostRows, highestCharge, returnFee}
+use Rattle.rules.specs.Rows.{Row, KindFee, KindReversal, KindPayment, rowNo, newRow, withMark, withReference}
 use Rattle.rules.specs.Settlement.{settle}
-use Rattle.rules.specs.Book.{Account, Instruction, Unused, Closed, Pending, Book, account, row, withRows, withAccounts}
+use Rattle.rules.specs.Book.{Account, Instruction, StateUnused, StateClosed, StatePending, Book, account, row, withRows, withAccounts}
 use Rattle.rules.specs.Events.{returnCheck}
 use Rattle.rules.specs.Soundness.{returnedOf, returnedFits}
 use Rattle.rules.specs.Refusals.{changeOf, after, zeroFrom-c, returnForm, formOf, wellFormed, unknown, taken, onClosed, unclassed, misdated, duplicate, barred, noRow, untimely, lastDay, full, refusals, answerNumber}
-use Rattle.rules.specs.Posting.{removesTopUp}
+use Rattle.rules.specs.Posting.{removesTopup}
 use Rattle.rules.specs.Tables.{Tables, accountsIn, roomIn, rowsUsed, bookOf, soundTables}
 use Rattle.rules.proofs.StorableLaws.{day-le, accounts-le}
 use Rattle.rules.proofs.TableLaws.{sound-book}
@@ -35,28 +36,29 @@ use Rattle.preservation.proofs.NamedLaws.{after-named}
 use Rattle.tables.specs.Changes.{RowChanged, AccountChanged}
 use Rattle.tables.proofs.ChangeLaws.{changed-accounts}
 use Rattle.settlement.specs.Settling.{Journal, Begun, Settled}
-use Rattle.lookups.specs.declared.Lookup.{Lookup}
-use Rattle.lookups.specs.Lookups.{LooksUp}
-use Rattle.lookups.proofs.LookupLaws.{still-before, still-put, still-add, begun-still, row-at}
+use Rattle.event_lookups.specs.declared.Lookup.{Lookup}
+use Rattle.event_lookups.specs.Lookups.{LooksUp}
+use Rattle.event_lookups.proofs.LookupLaws.{still-before, still-put, still-add, begun-still, row-at}
 use Rattle.posting.specs.Posts.{tablesAt, acceptanceOf, RowRoom, RowAdded, Posts}
 use Rattle.posting.proofs.BookLaws.{account-read, row-read, day-read, used-read, room-read, count-read, used-small, used-room, row-holds, account-holds}
 use Rattle.posting_laws.proofs.EventLaws.{known-inside}
 use Rattle.posting_laws.proofs.RefusalLaws.{ofKind, at-kind, unknown-unused, length-after, no-ceiling}
 use Rattle.posting_laws.proofs.AddedLaws.{acceptance-plain, posts-accepted}
-use Rattle.posting_laws.proofs.UsedRowsLaws.{UsedRows, used-rows-before, rows-put, used-rows-add, rows-settle, rows-written, used-rows-room, rows-day, used-rows-settles, SmallAmounts, small-before, small-put, small-add}
+use Rattle.posting.specs.Written.{UsedRows}
+use Rattle.posting_laws.proofs.UsedRowsLaws.{used-rows-before, rows-put, used-rows-add, rows-settle, rows-written, used-rows-room, rows-day, used-rows-settles, SmallAmounts, small-before, small-put, small-add}
 use Rattle.posting_laws.proofs.PutRowLaws.{row-read-by}
-use Rattle.event_return.specs.Return.{returnRefusals, Counts, Counted, Marks, Marked}
+use Rattle.event_return.specs.Return.{returnRefusals, Counts, ReturnCounted, Marks, Marked}
 
 -- ---- what event 4 writes: the payment marked, its reversal and the fee, and the account
 
 abbrev pub markedRow : Book → Instruction → Row
-markedRow b e = withMark CheckReturned (row b (e .a))
+markedRow b e = withMark MethodCheckReturned (row b (e .a))
 
 abbrev pub reversalRow : Book → Instruction → Row
-reversalRow b e = withReference (e .a) (newRow Reversal (e .account) (b .day) (row b (e .a) .amount))
+reversalRow b e = withReference (e .a) (newRow KindReversal (e .account) (b .day) (row b (e .a) .amount))
 
 abbrev pub feeRow : Book → Instruction → Row
-feeRow b e = withReference (e .a) (newRow Fee (e .account) (b .day) (e .b + returnFee))
+feeRow b e = withReference (e .a) (newRow KindFee (e .account) (b .day) (e .b + returnFee))
 
 abbrev markedRows : Book → Instruction → List Row
 markedRows b e = set (b .rows) (e .a - 1) (markedRow b e)
@@ -74,9 +76,9 @@ added-both b e = append-assoc (markedRows b e) (reversalRow b e ∷ []) (feeRow 
 
 module _ (b : Book) (e : Instruction) where
   abbrev event4 : Instruction
-  event4 = ofKind 4 e
+  event4 = ofKind EventReturnedCheck e
 
-  change-return : changeOf 4 b event4 .rows ≡ markedRows b event4 ++ (reversalRow b event4 ∷ feeRow b event4 ∷ [])
+  change-return : changeOf EventReturnedCheck b event4 .rows ≡ markedRows b event4 ++ (reversalRow b event4 ∷ feeRow b event4 ∷ [])
   unfolding changeOf returnCheck
   change-return = added-both b event4
 
@@ -87,10 +89,10 @@ module _ (b : Book) (e : Instruction) where
       let n : length (markedRows b event4) ≡ length (b .rows) = length-set (b .rows) (e .a - 1) (markedRow b event4) in
       let l = length-after b event4 (markedRows b event4) more change-return n in
       let z = no-ceiling b event4 (markedRows b event4) more change-return n refl in
-      let o = or-false (not (row b (e .a) .mark is Check)) in
+      let o = or-false (not (row b (e .a) .mark is MethodCheck)) in
       rw (l, z, unknown-unused b (e .account), o, o, o, o)
 
-pub answer-return : (b : Book) (e : Instruction) → e .kind ≡ 4 → answerNumber b e ≡ first (returnRefusals b e)
+pub answer-return : (b : Book) (e : Instruction) → e .kind ≡ EventReturnedCheck → answerNumber b e ≡ first (returnRefusals b e)
 answer-return b e k = at-kind (λ x. answerNumber b x ≡ first (returnRefusals b x)) e 4 k (answer-4 b e)
 
 neither : (p q : Bool) → not (p && q) ≡ not p || not q
@@ -98,12 +100,12 @@ neither true q = refl
 neither false q = refl
 
 -- the same with what each test came to
-pub answer-by : (b : Book) (e : Instruction) → e .kind ≡ 4 → (f u n m r : Bool) → returnForm e ≡ f → account b (e .account) .state is Unused ≡ u
-    → not (row b (e .a) .kind is Payment) || not (row b (e .a) .account is e .account) ≡ n → not (row b (e .a) .mark is Check) ≡ m
+pub answer-by : (b : Book) (e : Instruction) → e .kind ≡ EventReturnedCheck → (f u n m r : Bool) → returnForm e ≡ f → account b (e .account) .state is StateUnused ≡ u
+    → not (row b (e .a) .kind is KindPayment) || not (row b (e .a) .account is e .account) ≡ n → not (row b (e .a) .mark is MethodCheck) ≡ m
     → ltb (b .room) (length (b .rows) + 2) ≡ r
-    → first ((2, not f) ∷ (3, u) ∷ (10, n) ∷ (11, m) ∷ (13, r) ∷ []) ≡ answerNumber b e
+    → first ((Malformed, not f) ∷ (Unknown, u) ∷ (NoRow, n) ∷ (Untimely, m) ∷ (Full, r) ∷ []) ≡ answerNumber b e
 unfolding returnRefusals
-answer-by b e k f u n m r p q v w z = rw (answer-return b e k, p, q, neither (row b (e .a) .kind is Payment) (row b (e .a) .account is e .account), v, w, z)
+answer-by b e k f u n m r p q v w z = rw (answer-return b e k, p, q, neither (row b (e .a) .kind is KindPayment) (row b (e .a) .account is e .account), v, w, z)
 
 -- ---- the steps
 
@@ -127,9 +129,9 @@ mark-storable r m l s = record {
 
 counted-storable : (x : Account) → StorableAccount x → x .returned + 1 < 2 ^ 63 → StorableAccount (checkReturned x)
 unfolding checkReturned
-counted-storable x s l = go (x .state is Closed)
+counted-storable x s l = go (x .state is StateClosed)
   where
-    go : (t : Bool) → StorableAccount (withReturned (x .returned + 1) (cond t (withState Pending x) x))
+    go : (t : Bool) → StorableAccount (withReturned (x .returned + 1) (cond t (withState StatePending x) x))
     go true = record {
       state = omega arith;
       request = s .request;
@@ -151,28 +153,28 @@ counted-storable x s l = go (x .state is Closed)
 
 -- ---- what an accepted event 4 leaves
 
-module _ (t : Tables) (s : soundTables t ≡ true) (e : Instruction) (k : e .kind ≡ 4) (q : 0 ≡ answerNumber (bookOf t) e) where
+module _ (t : Tables) (s : soundTables t ≡ true) (e : Instruction) (k : e .kind ≡ EventReturnedCheck) (q : 0 ≡ answerNumber (bookOf t) e) where
   abbrev b : Book
   b = bookOf t
 
   acc : Accepted b e
   acc = accepted b e (sym q)
 
-  plain-kind : e .kind is 9 ≡ false
+  plain-kind : e .kind is EventTick ≡ false
   plain-kind = rw k
 
   inside : (1 ≤ e .account) × (e .account ≤ length (b .accounts))
   inside = known-inside b e plain-kind (acc .known)
 
-  is-payment : row b (e .a) .kind ≡ 4
+  is-payment : row b (e .a) .kind ≡ KindPayment
   unfolding noRow
-  is-payment = at-kind (λ x. noRow b x ≡ false → row b (x .a) .kind ≡ 4) e 4 k (named-kind b (e .a) (e .account) 4) (acc .named)
+  is-payment = at-kind (λ x. noRow b x ≡ false → row b (x .a) .kind ≡ KindPayment) e 4 k (named-kind b (e .a) (e .account) 4) (acc .named)
 
   -- the row that it names is a used one
   named-used : (1 ≤ e .a) × (e .a ≤ length (b .rows))
   named-used = go (e .a) is-payment
     where
-      go : (n : ℕ) → row b n .kind ≡ 4 → (1 ≤ n) × (n ≤ length (b .rows))
+      go : (n : ℕ) → row b n .kind ≡ KindPayment → (1 ≤ n) × (n ≤ length (b .rows))
       go zero z = absurd (omega arith)
       go (suc j) z = (omega arith, there (b .day) b (sound-book t s .near) j (omega arith))
 
@@ -182,7 +184,7 @@ module _ (t : Tables) (s : soundTables t ≡ true) (e : Instruction) (k : e .kin
 
   after-return : after b e ≡ withRows (settle (e .account) (returnedRows b e)) (withAccounts (returnedAccounts b e) b)
   after-return =
-      let not-tick : e .kind ≢ 9 = λ z. omega arith in
+      let not-tick : e .kind ≢ EventTick = λ z. omega arith in
       let same : length (returnedAccounts b e) ≡ length (b .accounts) = length-set (b .accounts) (e .account - 1) (checkReturned (account b (e .account))) in
       after-named b e (sound-book t s) not-tick acc (inside .0) (inside .1) (rw changed same) ∙ rw changed
 
@@ -230,7 +232,7 @@ module _ (t : Tables) (s : soundTables t ≡ true) (e : Instruction) (k : e .kin
     holds = rw (account-read t s (e .account)) (counted-storable (account b (e .account)) (account-holds t s (e .account)) (omega (arith, returned-small)));
   }
 
-  pub counted-read : (xs : List ℤ) → Counted (t .accounts) xs (e .account) → AccountChanged (t .accounts) xs (e .account - 1) (checkReturned (account b (e .account)))
+  pub counted-read : (xs : List ℤ) → ReturnCounted (t .accounts) xs (e .account) → AccountChanged (t .accounts) xs (e .account - 1) (checkReturned (account b (e .account)))
   counted-read xs c = rw (account-read t s (e .account)) at c
 
   -- ---- the payment
@@ -251,7 +253,7 @@ module _ (t : Tables) (s : soundTables t ≡ true) (e : Instruction) (k : e .kin
 
   -- ---- the rows added
 
-  pub reversal-read : (amount : ℕ) → amount ≡ row b (e .a) .amount → withReference (e .a) (newRow Reversal (e .account) (word (t .header) dayPlace) amount) ≡ reversalRow b e
+  pub reversal-read : (amount : ℕ) → amount ≡ row b (e .a) .amount → withReference (e .a) (newRow KindReversal (e .account) (word (t .header) dayPlace) amount) ≡ reversalRow b e
   reversal-read amount a = rw (day-read t s, a)
 
   naming-storable : (kind amount : ℕ) → kind < 2 ^ 63 → amount < 2 ^ 63 → StorableRow (withReference (e .a) (newRow kind (e .account) (b .day) amount))
@@ -272,10 +274,10 @@ module _ (t : Tables) (s : soundTables t ≡ true) (e : Instruction) (k : e .kin
       }
 
   pub reversal-storable : StorableRow (reversalRow b e)
-  reversal-storable = naming-storable Reversal (row b (e .a) .amount) (omega arith) (row-holds t s (e .a) .amount)
+  reversal-storable = naming-storable KindReversal (row b (e .a) .amount) (omega arith) (row-holds t s (e .a) .amount)
 
   pub fee-storable : StorableRow (feeRow b e)
-  fee-storable = naming-storable Fee (e .b + returnFee) (omega arith) (omega (arith, charge-le))
+  fee-storable = naming-storable KindFee (e .b + returnFee) (omega arith) (omega (arith, charge-le))
 
   -- ---- the tables on the way: the payment marked, then the reversal added, then the fee
 
@@ -302,7 +304,7 @@ module _ (t : Tables) (s : soundTables t ≡ true) (e : Instruction) (k : e .kin
       pub fee-room : RowRoom h′ j′
       fee-room = used-rows-room t s h′ j′ reversedRows reversed-used (rw length-reversed (omega (arith, fits)))
 
-      pub fee-read : withReference (e .a) (newRow Fee (e .account) (word h′ dayPlace) (e .b + returnFee)) ≡ feeRow b e
+      pub fee-read : withReference (e .a) (newRow KindFee (e .account) (word h′ dayPlace) (e .b + returnFee)) ≡ feeRow b e
       fee-read = rw (rows-day t h′ j′ reversedRows reversed-used)
 
       module _ (h″ j″ : List ℤ) (v : RowAdded h′ h″ j′ j″ (feeRow b e)) where
@@ -338,14 +340,14 @@ module _ (t : Tables) (s : soundTables t ≡ true) (e : Instruction) (k : e .kin
             → Settled j″ j‴ (rowsUsed t + 2) (e .account) → Posts t (tablesAt h″ xs j‴) e (acceptanceOf (rowsUsed t) 2 0 0)
         return-posts xs j‴ c d =
             posts-accepted t (tablesAt h″ xs j‴) s e (acceptanceOf (rowsUsed t) 2 0 0) q
-            (rw (used-read t s) (acceptance-plain b e 2 grows plain-kind keeps-top-up))
+            (rw (used-read t s) (acceptance-plain b e 2 grows plain-kind keeps-topup))
             (rw after-return
             (rows-written t h″ j‴ (settle (e .account) (returnedRows b e))
             (rows-settle t h″ j″ j‴ (returnedRows b e) returned-used (e .account) (rw length-returned d))
             xs (returnedAccounts b e) (c .size) counted))
           where
-            keeps-top-up : removesTopUp b e ≡ false
-            keeps-top-up = unfold removesTopUp in (rw k)
+            keeps-topup : removesTopup b e ≡ false
+            keeps-topup = unfold removesTopup in (rw k)
 
             counted : accountsOf xs (accountsIn t) ≡ returnedAccounts b e
             counted =

@@ -6,23 +6,24 @@ use mathlib.Core.List.{List, [], _∷_}
 use lib.ListN.{length}
 use lib.IntN.{ℤ}
 use lib.Dec.{ltb}
-use Rattle.records.specs.Codes.{Check, CheckReturned}
+use Rattle.records.specs.Numbers.{Malformed, Unknown, NoRow, Untimely, Full}
+use Rattle.records.specs.Codes.{MethodCheck, MethodCheckReturned}
 use Rattle.records.specs.Layout.{accountWidth, rowWidth}
 use Rattle.records.specs.Encoding.{rowsOf, accountsOf, StorableRow, StorableAccount}
 use Rattle.records.specs.AccountOperations.{checkReturned}
 use Rattle.lists.specs.Tests.{_is_, Cases}
-use Rattle.rules.specs.Rows.{Payment, rowNo, withMark}
-use Rattle.rules.specs.Book.{Account, Instruction, Unused, Book, accountNo, account, row}
+use Rattle.rules.specs.Rows.{KindPayment, rowNo, withMark}
+use Rattle.rules.specs.Book.{Account, Instruction, StateUnused, Book, accountNo, account, row}
 use Rattle.rules.specs.Refusals.{returnForm}
 use Rattle.tables.specs.Changes.{RowChanged, AccountChanged}
 
 unfoldable pub returnRefusals : Book → Instruction → Cases
 returnRefusals b e =
-    (2, not (returnForm e))
-    ∷ (3, account b (e .account) .state is Unused)
-    ∷ (10, not (row b (e .a) .kind is Payment && row b (e .a) .account is e .account))
-    ∷ (11, not (row b (e .a) .mark is Check))
-    ∷ (13, ltb (b .room) (length (b .rows) + 2))
+    (Malformed, not (returnForm e))
+    ∷ (Unknown, account b (e .account) .state is StateUnused)
+    ∷ (NoRow, not (row b (e .a) .kind is KindPayment && row b (e .a) .account is e .account))
+    ∷ (Untimely, not (row b (e .a) .mark is MethodCheck))
+    ∷ (Full, ltb (b .room) (length (b .rows) + 2))
     ∷ []
 
 -- ---- the account counts the return
@@ -38,8 +39,8 @@ pub record Counts (t : List ℤ) (n : ℕ) : Type 0 where
   pub holds : StorableAccount (checkReturned (accountIn t n))
 
 -- account n counts one returned check more
-abbrev pub Counted : List ℤ → List ℤ → ℕ → Type 0
-Counted t u n = AccountChanged t u (n - 1) (checkReturned (accountIn t n))
+abbrev pub ReturnCounted : List ℤ → List ℤ → ℕ → Type 0
+ReturnCounted t u n = AccountChanged t u (n - 1) (checkReturned (accountIn t n))
 
 -- ---- the payment is marked
 
@@ -52,5 +53,5 @@ pub record Marks (t : List ℤ) (used n : ℕ) : Type 0 where
 
 -- row n has the mark of a returned check, and m is its amount
 pub record Marked (t u : List ℤ) (used n m : ℕ) : Type 0 where
-  pub marked : RowChanged t u (n - 1) (withMark CheckReturned (rowNo (rowsOf t used) n))
+  pub marked : RowChanged t u (n - 1) (withMark MethodCheckReturned (rowNo (rowsOf t used) n))
   pub amount : m ≡ rowNo (rowsOf t used) n .amount

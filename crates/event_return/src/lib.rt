@@ -1,29 +1,33 @@
-// Event 4: a returned check. Uses lists, records, rules, preservation, tables, table_rows, table_accounts, settlement, forms, posting,
-// lookups and posting_laws.
-use forms::return_form;
-use lookups::Lookup;
+// Event 4: a returned check.
+use event_forms::return_form;
+use event_lookups::Lookup;
 use posting::answers::posted;
 use posting::answers::refused;
 use posting::rows::add_row;
 use posting::rows::new_row;
 use records::Answer;
 use records::Instruction;
+use records::codes::KIND_FEE;
+use records::codes::KIND_PAYMENT;
+use records::codes::KIND_REVERSAL;
+use records::codes::METHOD_CHECK;
+use records::codes::METHOD_CHECK_RETURNED;
+use records::codes::STATE_UNUSED;
+use records::layout::ACCOUNT_WIDTH;
+use records::layout::DAY_PLACE;
+use records::layout::ROW_WIDTH;
+use records::layout::USED_PLACE;
+use records::limits::RETURN_FEE;
+use records::numbers::FULL;
+use records::numbers::MALFORMED;
+use records::numbers::NO_ROW;
+use records::numbers::UNKNOWN;
+use records::numbers::UNTIMELY;
 use settlement::settle_from;
 use table_accounts::account_numbered;
 use table_accounts::write_account;
 use table_rows::row_numbered;
 use table_rows::write_row;
-use tables::codes::CHECK;
-use tables::codes::CHECK_RETURNED;
-use tables::codes::FEE;
-use tables::codes::PAYMENT;
-use tables::codes::REVERSAL;
-use tables::codes::UNUSED;
-use tables::layout::ACCOUNT_WIDTH;
-use tables::layout::DAY_PLACE;
-use tables::layout::ROW_WIDTH;
-use tables::layout::USED_PLACE;
-use tables::limits::RETURN_FEE;
 use tables::words::get;
 ghost use mathlib.Core.Path.{_≡_};
 ghost use mathlib.Core.Bool.{true};
@@ -32,32 +36,34 @@ ghost use Rattle.records.specs.Encoding.{word, StorableRow};
 ghost use Rattle.rules.specs.Rows.{newRow, withReference};
 ghost use Rattle.rules.specs.Refusals.{answerNumber};
 ghost use Rattle.rules.specs.Tables.{bookOf, soundTables};
-ghost use Rattle.lookups.specs.Lookups.{LooksUp};
-ghost use Rattle.posting.specs.Posts.{tablesAt, RowRoom, RowAdded, Posts};
-ghost use Rattle.event_return.specs.Return.{Counts, Counted, Marks, Marked};
+ghost use Rattle.event_lookups.specs.Lookups.{LooksUp};
+ghost use Rattle.posting.specs.Posts.{RowRoom, RowAdded, Posts};
+ghost use Rattle.event_return.specs.Return.{Counts, ReturnCounted, Marks, Marked};
+ghost use Rattle.records.specs.Codes.{EventReturnedCheck};
+ghost use Rattle.rules.specs.Lent.{lent, atEntry, atExit};
 
 // Why event 4 is refused, 0 where it is not.
 fn return_refusal(header: &[i64], accounts: &[i64], journal: &[i64], e: Instruction) -> u64
-    requires { ⌜ (soundTables (tablesAt (now header) (now accounts) (now journal)) ≡ true) × (e .kind ≡ 4) ⌝ }
-    ensures { λ n. ⌜ n ≡ answerNumber (bookOf (tablesAt (now (header .entry)) (now (accounts .entry)) (now (journal .entry)))) e ⌝ }
+    requires { ⌜ (soundTables (lent header accounts journal) ≡ true) × (e .kind ≡ EventReturnedCheck) ⌝ }
+    ensures { λ n. ⌜ n ≡ answerNumber (bookOf (atEntry header accounts journal)) e ⌝ }
 {
     let used = get(header, USED_PLACE) as usize;
     if !return_form(e) {
-        return 2;
+        return MALFORMED;
     }
     let x = account_numbered(accounts, accounts.len() / ACCOUNT_WIDTH, e.account);
-    if x.state == UNUSED {
-        return 3;
+    if x.state == STATE_UNUSED {
+        return UNKNOWN;
     }
     let r = row_numbered(journal, used, e.a);
-    if (r.kind != PAYMENT) | (r.account != e.account) {
-        return 10;
+    if (r.kind != KIND_PAYMENT) | (r.account != e.account) {
+        return NO_ROW;
     }
-    if r.mark != CHECK {
-        return 11;
+    if r.mark != METHOD_CHECK {
+        return UNTIMELY;
     }
     if journal.len() / ROW_WIDTH < used + 2 {
-        return 13;
+        return FULL;
     }
     0
 }
@@ -65,7 +71,7 @@ fn return_refusal(header: &[i64], accounts: &[i64], journal: &[i64], e: Instruct
 // Account n counts a returned check more; closed, it is pending again.
 fn count_return(accounts: &mut [i64], n: u64)
     requires { ⌜ Counts (now accounts) n ⌝ }
-    ensures { λ _. ⌜ Counted (now (accounts .entry)) (now (accounts .exit)) n ⌝ }
+    ensures { λ _. ⌜ ReturnCounted (now (accounts .entry)) (now (accounts .exit)) n ⌝ }
 {
     let x = account_numbered(accounts, accounts.len() / ACCOUNT_WIDTH, n);
     write_account(accounts, (n - 1) as usize, x.return_check());
@@ -77,15 +83,17 @@ fn mark_returned(journal: &mut [i64], used: usize, n: u64) -> u64
     ensures { λ m. ⌜ Marked (now (journal .entry)) (now (journal .exit)) used n m ⌝ }
 {
     let mut r = row_numbered(journal, used, n);
-    r.mark = CHECK_RETURNED;
+    r.mark = METHOD_CHECK_RETURNED;
     write_row(journal, (n - 1) as usize, r);
     r.amount
 }
 
 // A row of today that names the returned payment's.
 fn add_naming(header: &mut [i64], journal: &mut [i64], e: Instruction, kind: u64, amount: u64)
-    requires { ⌜ RowRoom (now header) (now journal) × StorableRow (withReference (e .a) (newRow kind (e .account) (word (now header) dayPlace) amount)) ⌝ }
-    ensures { λ _. ⌜ RowAdded (now (header .entry)) (now (header .exit)) (now (journal .entry)) (now (journal .exit)) (withReference (e .a) (newRow kind (e .account) (word (now (header .entry)) dayPlace) amount)) ⌝ }
+    requires { ⌜ RowRoom (now header) (now journal)
+        × StorableRow (withReference (e .a) (newRow kind (e .account) (word (now header) dayPlace) amount)) ⌝ }
+    ensures { λ _. ⌜ RowAdded (now (header .entry)) (now (header .exit)) (now (journal .entry)) (now (journal .exit))
+        (withReference (e .a) (newRow kind (e .account) (word (now (header .entry)) dayPlace) amount)) ⌝ }
 {
     let mut r = new_row(kind, e.account, get(header, DAY_PLACE), amount);
     r.reference = e.a;
@@ -100,8 +108,10 @@ pub fn return_check(
     e: Instruction,
     k: Lookup,
 ) -> Answer
-    requires { ⌜ (soundTables (tablesAt (now header) (now accounts) (now journal)) ≡ true) × (e .kind ≡ 4) × LooksUp (tablesAt (now header) (now accounts) (now journal)) e k ⌝ }
-    ensures { λ r. ⌜ Posts (tablesAt (now (header .entry)) (now (accounts .entry)) (now (journal .entry))) (tablesAt (now (header .exit)) (now (accounts .exit)) (now (journal .exit))) e r ⌝ }
+    requires { ⌜ (soundTables (lent header accounts journal) ≡ true)
+        × (e .kind ≡ EventReturnedCheck)
+        × LooksUp (lent header accounts journal) e k ⌝ }
+    ensures { λ r. ⌜ Posts (atEntry header accounts journal) (atExit header accounts journal) e r ⌝ }
 {
     let n = return_refusal(header, accounts, journal, e);
     if n != 0 {
@@ -110,8 +120,8 @@ pub fn return_check(
     let used = get(header, USED_PLACE);
     count_return(accounts, e.account);
     let amount = mark_returned(journal, used as usize, e.a);
-    add_naming(header, journal, e, REVERSAL, amount);
-    add_naming(header, journal, e, FEE, e.b + RETURN_FEE);
+    add_naming(header, journal, e, KIND_REVERSAL, amount);
+    add_naming(header, journal, e, KIND_FEE, e.b + RETURN_FEE);
     settle_from(journal, used as usize + 2, e.account, k.source, k.debit);
     posted(used, 2, 0, 0)
 }

@@ -8,15 +8,16 @@ use mathlib.Core.List.{List}
 use lib.ListN.{length, getD, set, length-set}
 use lib.IntN.{ℤ, pos}
 use borrow.Author.Tests.{eqb-false, ltb-false}
+use Rattle.records.specs.Codes.{EventTick}
 use Rattle.records.specs.Layout.{headerWidth, dayPlace, usedPlace, rowWidth}
 use Rattle.records.specs.Encoding.{word}
 use Rattle.lists.specs.Tests.{_is_}
 use Rattle.lists.specs.Lists.{count}
-use Rattle.rules.specs.Limits.{finalDay}
+use Rattle.records.specs.Limits.{finalDay}
 use Rattle.rules.specs.Book.{unused, Instruction, Book, settled}
 use Rattle.rules.specs.Tick.{nextDay, endHolds, beforeRaising, rises, raiseTolls, raisedBy, closes, closeAccounts}
 use Rattle.rules.specs.Refusals.{after, lastDay, full, answerNumber}
-use Rattle.rules.specs.Posting.{newRows, removesTopUp, acceptance}
+use Rattle.rules.specs.Posting.{newRows, removesTopup, acceptance}
 use Rattle.rules.specs.Tables.{Tables, roomIn, rowsUsed, bookOf, soundTables}
 use Rattle.rules.proofs.TableLaws.{sound-book, header-length}
 use Rattle.tables.proofs.ChangeLaws.{word-same, word-other}
@@ -32,16 +33,16 @@ use Rattle.posting.specs.Posts.{tablesAt, acceptanceOf, Posts}
 use Rattle.posting.proofs.BookLaws.{day-read, used-read, room-read, schedule-read}
 use Rattle.posting_laws.proofs.AddedLaws.{posts-accepted}
 use Rattle.posting_laws.proofs.HeaderLaws.{schedule-same}
-use Rattle.posting_laws.proofs.WrittenLaws.{Written}
+use Rattle.posting.specs.Written.{Written}
 use Rattle.tick_base.specs.Midway.{Midway}
 use Rattle.tick_base.proofs.MidwayLaws.{written-written, sound-midway}
 use Rattle.tick_plan.specs.declared.Plan.{Plan}
 use Rattle.tick_plan.specs.Plans.{Planned}
 use Rattle.tick_holds.specs.Holds.{UnraisedRows}
-use Rattle.tick_close.specs.Closing.{Closing}
+use Rattle.tick_close.specs.Closing.{ReadyToClose}
 use Rattle.event_tick.proofs.TickLaws.{written-book, written-midway}
 
-module _ (t : Tables) (s : soundTables t ≡ true) (e : Instruction) (k : e .kind ≡ 9) (q : 0 ≡ answerNumber (bookOf t) e) where
+module _ (t : Tables) (s : soundTables t ≡ true) (e : Instruction) (k : e .kind ≡ EventTick) (q : 0 ≡ answerNumber (bookOf t) e) where
   abbrev b : Book
   b = bookOf t
 
@@ -133,7 +134,7 @@ module _ (t : Tables) (s : soundTables t ≡ true) (e : Instruction) (k : e .kin
       closing-room = rw (late-book, late-written .journal-size) (omega (arith, fits-after, room-read t s))
 
       -- no account closes that was not to
-      pub late-closing : (p : Plan) → Planned b p → Closing u (p .closing)
+      pub late-closing : (p : Plan) → Planned b p → ReadyToClose u (p .closing)
       late-closing p w = record { midway = late-midway; room = closing-room; quiet = λ e. rw late-book (quiet e) }
         where
           same-accounts : raiseTolls (beforeRaising b) .accounts ≡ b .accounts
@@ -162,7 +163,7 @@ module _ (t : Tables) (s : soundTables t ≡ true) (e : Instruction) (k : e .kin
 
         answer-is : (n : ℕ) → n ≡ count (rises (word header₁ dayPlace)) (bookOf unraised-tables .rows)
             → acceptanceOf (rowsUsed t) (word (v .header) usedPlace - rowsUsed t) n 0 ≡ acceptance b e
-        unfolding acceptance newRows raisedBy removesTopUp
+        unfolding acceptance newRows raisedBy removesTopup
         answer-is n c = rw (end-used, used-read t s, k, c, unraised-book, unraised-written .day)
 
         pub tick-posts : (n : ℕ) → n ≡ count (rises (word header₁ dayPlace)) (bookOf unraised-tables .rows)

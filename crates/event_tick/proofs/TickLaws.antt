@@ -8,17 +8,19 @@ use mathlib.Core.List.{[], _∷_}
 use lib.ListN.{length}
 use lib.Dec.{ltb}
 use borrow.Author.Tests.{eqb-false, ltb-false, lt-ltb, le-leb, le-ltb}
+use Rattle.records.specs.Numbers.{Malformed, LastDay, Full, Ceiling}
+use Rattle.records.specs.Codes.{EventTick}
 use Rattle.lists.specs.Tests.{_is_, first}
-use Rattle.rules.specs.Limits.{finalDay}
+use Rattle.records.specs.Limits.{finalDay}
 use Rattle.rules.specs.Book.{Instruction, Book}
 use Rattle.rules.specs.Refusals.{after, tickForm, formOf, wellFormed, unknown, taken, onClosed, unclassed, misdated, duplicate, barred, noRow, untimely, lastDay, full, ceiling, refusals, answerNumber}
 use Rattle.rules.specs.Tables.{Tables, roomIn, rowsUsed, bookOf, wholeRecords, lengthsFit, usedFits, soundTables}
-use Rattle.rules.proofs.SoundnessLaws.{Near, Sound}
+use Rattle.rules.specs.SoundFacts.{Near, Sound}
 use Rattle.tick_rules.specs.Ticks.{feesAdded, refundsAdded}
 use Rattle.tick_rules.proofs.CountLaws.{rows-after, tick-low}
 use Rattle.posting.proofs.BookLaws.{used-read, room-read}
 use Rattle.posting_laws.proofs.RefusalLaws.{ofKind, at-kind}
-use Rattle.posting_laws.proofs.WrittenLaws.{Written}
+use Rattle.posting.specs.Written.{Written}
 use Rattle.tick_base.specs.Midway.{Midway}
 use Rattle.event_tick.specs.declared.Judged.{Judged}
 use Rattle.event_tick.specs.TickEvent.{tickRefusals, Judges}
@@ -27,8 +29,8 @@ use Rattle.event_tick.specs.TickEvent.{tickRefusals, Judges}
 
 -- 14 where nothing before it applies is no number of its own; 13 is told from the book before the tick, which has a day to come
 in-order : (f d r r′ c : Bool) → (d ≡ false → r ≡ r′) → (d ≡ false → r ≡ false → c ≡ false)
-    → first ((2, not f) ∷ (3, false) ∷ (4, false) ∷ (5, false) ∷ (6, false) ∷ (7, false) ∷ (8, false) ∷ (9, false) ∷ (10, false) ∷ (11, false) ∷ (12, d) ∷ (13, r) ∷ (14, c) ∷ [])
-    ≡ first ((2, not f) ∷ (12, d) ∷ (13, r′) ∷ [])
+    → first ((Malformed, not f) ∷ (3, false) ∷ (4, false) ∷ (5, false) ∷ (6, false) ∷ (7, false) ∷ (8, false) ∷ (9, false) ∷ (10, false) ∷ (11, false) ∷ (LastDay, d) ∷ (Full, r) ∷ (Ceiling, c) ∷ [])
+    ≡ first ((Malformed, not f) ∷ (LastDay, d) ∷ (13, r′) ∷ [])
 unfolding first
 in-order false d r r′ c p q = refl
 in-order true true r r′ c p q = refl
@@ -37,7 +39,7 @@ in-order true false false r′ c p q = rw (← p refl, q refl refl)
 
 module _ (b : Book) (e : Instruction) (s : Sound b) where
   abbrev event9 : Instruction
-  event9 = ofKind 9 e
+  event9 = ofKind EventTick e
 
   lacking : b .day is finalDay ≡ false → ltb (b .room) (length (after b event9 .rows)) ≡ ltb (b .room) (length (b .rows) + feesAdded b + refundsAdded b)
   lacking d = rw (rows-after b s (eqb-false (b .day) finalDay d) event9 refl)
@@ -51,12 +53,12 @@ module _ (b : Book) (e : Instruction) (s : Sound b) where
   unfolding answerNumber refusals wellFormed formOf unknown taken onClosed unclassed misdated duplicate barred noRow untimely lastDay full tickRefusals
   answer-9 = in-order (tickForm event9) (b .day is finalDay) (ltb (b .room) (length (after b event9 .rows))) (ltb (b .room) (length (b .rows) + feesAdded b + refundsAdded b)) (ceiling b event9) lacking low
 
-pub answer-tick : (b : Book) (e : Instruction) → Sound b → e .kind ≡ 9 → answerNumber b e ≡ first (tickRefusals b e)
+pub answer-tick : (b : Book) (e : Instruction) → Sound b → e .kind ≡ EventTick → answerNumber b e ≡ first (tickRefusals b e)
 answer-tick b e s k = at-kind (λ x. answerNumber b x ≡ first (tickRefusals b x)) e 9 k (answer-9 b e s)
 
 -- the same with what each test came to
-pub tick-by : (b : Book) (e : Instruction) → Sound b → e .kind ≡ 9 → (f d r : Bool) → tickForm e ≡ f → b .day is finalDay ≡ d
-    → ltb (b .room) (length (b .rows) + feesAdded b + refundsAdded b) ≡ r → first ((2, not f) ∷ (12, d) ∷ (13, r) ∷ []) ≡ answerNumber b e
+pub tick-by : (b : Book) (e : Instruction) → Sound b → e .kind ≡ EventTick → (f d r : Bool) → tickForm e ≡ f → b .day is finalDay ≡ d
+    → ltb (b .room) (length (b .rows) + feesAdded b + refundsAdded b) ≡ r → first ((Malformed, not f) ∷ (LastDay, d) ∷ (Full, r) ∷ []) ≡ answerNumber b e
 unfolding tickRefusals
 tick-by b e s k f d r p q w = rw (answer-tick b e s k, p, q, w)
 

@@ -5,8 +5,10 @@ use Prim.Native.Nat.{_+_}
 use mathlib.Core.List.{[], _∷_}
 use lib.ListN.{length}
 use lib.Dec.{ltb}
+use Rattle.records.specs.Numbers.{Malformed, LastDay, Full}
+use Rattle.records.specs.Codes.{EventTick}
 use Rattle.lists.specs.Tests.{_is_, Cases}
-use Rattle.rules.specs.Limits.{finalDay}
+use Rattle.records.specs.Limits.{finalDay}
 use Rattle.rules.specs.Book.{Instruction, Book}
 use Rattle.rules.specs.Refusals.{tickForm, answerNumber}
 use Rattle.rules.specs.Tables.{Tables, bookOf, soundTables}
@@ -18,9 +20,9 @@ use Rattle.event_tick.specs.declared.Judged.{Judged}
 -- the refusals that concern event 9, out of the table of all, in checking order; 14 never applies
 unfoldable pub tickRefusals : Book → Instruction → Cases
 tickRefusals b e =
-    (2, not (tickForm e))
-    ∷ (12, b .day is finalDay)
-    ∷ (13, ltb (b .room) (length (b .rows) + feesAdded b + refundsAdded b))
+    (Malformed, not (tickForm e))
+    ∷ (LastDay, b .day is finalDay)
+    ∷ (Full, ltb (b .room) (length (b .rows) + feesAdded b + refundsAdded b))
     ∷ []
 
 -- the number, and the plan where it is 0
@@ -31,6 +33,6 @@ pub record Judges (b : Book) (e : Instruction) (j : Judged) : Type 0 where
 -- sound tables whose book takes the tick e, and its plan
 pub record Accepts (t : Tables) (e : Instruction) (p : Plan) : Type 0 where
   pub sound : soundTables t ≡ true
-  pub kind : e .kind ≡ 9
+  pub kind : e .kind ≡ EventTick
   pub taken : 0 ≡ answerNumber (bookOf t) e
   pub plan : Planned (bookOf t) p

@@ -1,14 +1,16 @@
-// Event 9, the day tick: it refuses before it writes anything. Uses lists, records, rules, preservation, tables, tick_rules, forms,
-// posting, posting_laws, tick_base, tick_plan, tick_holds, tick_raise and tick_close.
-use forms::tick_form;
+// Event 9, the day tick: it refuses before it writes anything.
+use event_forms::tick_form;
 use posting::answers::posted;
 use posting::answers::refused;
 use records::Answer;
 use records::Instruction;
-use tables::layout::DAY_PLACE;
-use tables::layout::ROW_WIDTH;
-use tables::layout::USED_PLACE;
-use tables::limits::FINAL_DAY;
+use records::layout::DAY_PLACE;
+use records::layout::ROW_WIDTH;
+use records::layout::USED_PLACE;
+use records::limits::FINAL_DAY;
+use records::numbers::FULL;
+use records::numbers::LAST_DAY;
+use records::numbers::MALFORMED;
 use tables::words::get;
 use tables::words::put;
 use tick_close::close_accounts;
@@ -19,8 +21,10 @@ use tick_raise::raise_tolls;
 ghost use mathlib.Core.Path.{_≡_};
 ghost use mathlib.Core.Bool.{true};
 ghost use Rattle.rules.specs.Tables.{bookOf, soundTables};
-ghost use Rattle.posting.specs.Posts.{tablesAt, Posts};
+ghost use Rattle.posting.specs.Posts.{Posts};
 ghost use Rattle.event_tick.specs.TickEvent.{Judges, Accepts};
+ghost use Rattle.records.specs.Codes.{EventTick};
+ghost use Rattle.rules.specs.Lent.{lent, atEntry, atExit};
 
 // Why event 9 is refused, 0 where it is not, and the plan of a tick that is not.
 struct Judged {
@@ -42,19 +46,19 @@ fn unplanned(number: u64) -> Judged
 
 // The tests in checking order. 14 never is the reason: 8,192 sources of at most 1,300,000 each do not pass the ceiling.
 fn judge_tick(header: &[i64], accounts: &[i64], journal: &[i64], e: Instruction) -> Judged
-    requires { ⌜ (soundTables (tablesAt (now header) (now accounts) (now journal)) ≡ true) × (e .kind ≡ 9) ⌝ }
-    ensures { λ j. ⌜ Judges (bookOf (tablesAt (now (header .entry)) (now (accounts .entry)) (now (journal .entry)))) e j ⌝ }
+    requires { ⌜ (soundTables (lent header accounts journal) ≡ true) × (e .kind ≡ EventTick) ⌝ }
+    ensures { λ j. ⌜ Judges (bookOf (atEntry header accounts journal)) e j ⌝ }
 {
     if !tick_form(e) {
-        return unplanned(2);
+        return unplanned(MALFORMED);
     }
     if get(header, DAY_PLACE) == FINAL_DAY {
-        return unplanned(12);
+        return unplanned(LAST_DAY);
     }
     let used = get(header, USED_PLACE) as usize;
     let plan = plan_tick(header, accounts, journal);
     if journal.len() / ROW_WIDTH < used + plan.added {
-        return unplanned(13);
+        return unplanned(FULL);
     }
     Judged { number: 0, plan }
 }
@@ -67,8 +71,8 @@ fn carry_out(
     e: Instruction,
     plan: Plan,
 ) -> Answer
-    requires { ⌜ Accepts (tablesAt (now header) (now accounts) (now journal)) e plan ⌝ }
-    ensures { λ r. ⌜ Posts (tablesAt (now (header .entry)) (now (accounts .entry)) (now (journal .entry))) (tablesAt (now (header .exit)) (now (accounts .exit)) (now (journal .exit))) e r ⌝ }
+    requires { ⌜ Accepts (lent header accounts journal) e plan ⌝ }
+    ensures { λ r. ⌜ Posts (atEntry header accounts journal) (atExit header accounts journal) e r ⌝ }
 {
     let used = get(header, USED_PLACE);
     free_and_settle(header, accounts, journal, plan.ending);
@@ -80,8 +84,8 @@ fn carry_out(
 
 // Event 9, the day tick.
 pub fn tick(header: &mut [i64], accounts: &mut [i64], journal: &mut [i64], e: Instruction) -> Answer
-    requires { ⌜ (soundTables (tablesAt (now header) (now accounts) (now journal)) ≡ true) × (e .kind ≡ 9) ⌝ }
-    ensures { λ r. ⌜ Posts (tablesAt (now (header .entry)) (now (accounts .entry)) (now (journal .entry))) (tablesAt (now (header .exit)) (now (accounts .exit)) (now (journal .exit))) e r ⌝ }
+    requires { ⌜ (soundTables (lent header accounts journal) ≡ true) × (e .kind ≡ EventTick) ⌝ }
+    ensures { λ r. ⌜ Posts (atEntry header accounts journal) (atExit header accounts journal) e r ⌝ }
 {
     let j = judge_tick(header, accounts, journal, e);
     if j.number != 0 {

@@ -9,20 +9,22 @@ use lib.ListN.{length}
 use lib.IntN.{ℤ}
 use lib.Dec.{leb, ltb}
 use borrow.Author.Tests.{leb-true, ltb-false, eqb-false, not-false, lt-ltb, le-ltb}
+use Rattle.records.specs.Numbers.{Unclassed, Misdated, Duplicate, Full}
+use Rattle.records.specs.Codes.{EventToll, EventTick}
 use Rattle.records.specs.Layout.{dayPlace, headerSchedule, stagePlace}
 use Rattle.records.specs.Encoding.{word, rowAt, rowsOf, accountsOf, StorableRow}
 use Rattle.lists.specs.Tests.{_is_, _from_to_, first}
 use Rattle.lists.specs.Lists.{sumBy, count, exists}
 use Rattle.lists.proofs.TestLaws.{and-left, and-right}
 use Rattle.lists.proofs.ListLaws.{length-tabulate}
-use Rattle.rules.specs.Limits.{finalDay, highestRate, highestPassage, mostAxles, highestHeight, latestDays}
+use Rattle.records.specs.Limits.{finalDay, highestRate, highestPassage, mostAxles, highestHeight, latestDays}
 use Rattle.rules.specs.Schedule.{class, rate}
-use Rattle.rules.specs.Rows.{Row, Toll, toll, newRow, withDue, withReference}
+use Rattle.rules.specs.Rows.{Row, KindToll, toll, newRow, withDue, withReference}
 use Rattle.rules.specs.Settlement.{settle}
-use Rattle.rules.specs.Book.{Instruction, Unused, Closed, Book, account, addRow, withRows}
+use Rattle.rules.specs.Book.{Instruction, StateUnused, StateClosed, Book, account, addRow, withRows}
 use Rattle.rules.specs.Events.{tollRate, postToll}
 use Rattle.rules.specs.Refusals.{changeOf, after, tollForm, formOf, wellFormed, unknown, taken, onClosed, unclassed, misdated, duplicate, barred, noRow, untimely, lastDay, full, refusals, answerNumber}
-use Rattle.rules.specs.Posting.{removesTopUp}
+use Rattle.rules.specs.Posting.{removesTopup}
 use Rattle.rules.specs.Tables.{Tables, accountsIn, roomIn, rowsUsed, scheduleFrom, bookOf, soundTables}
 use Rattle.rules.proofs.StorableLaws.{between-le, day-le, stage-le, accounts-le}
 use Rattle.rules.proofs.TableLaws.{sound-book, sound-rows}
@@ -39,15 +41,15 @@ use Rattle.event_toll.specs.Toll.{passageRefusals, tollRefusals}
 
 -- the row that event 2 adds
 abbrev pub tollRow : Book → Instruction → Row
-tollRow b e = withReference (e .a) (withDue (b .day + b .schedule .stage) (newRow Toll (e .account) (b .day) (tollRate (b .schedule) e)))
+tollRow b e = withReference (e .a) (withDue (b .day + b .schedule .stage) (newRow KindToll (e .account) (b .day) (tollRate (b .schedule) e)))
 
 -- ---- the number that event 2 gets
 
 module _ (b : Book) (e : Instruction) where
   abbrev event2 : Instruction
-  event2 = ofKind 2 e
+  event2 = ofKind EventToll e
 
-  change-toll : changeOf 2 b event2 .rows ≡ b .rows ++ (tollRow b event2 ∷ [])
+  change-toll : changeOf EventToll b event2 .rows ≡ b .rows ++ (tollRow b event2 ∷ [])
   unfolding changeOf postToll
   change-toll = refl
 
@@ -58,19 +60,19 @@ module _ (b : Book) (e : Instruction) where
       let z = no-ceiling b event2 (b .rows) (tollRow b event2 ∷ []) change-toll refl refl in
       rw (l, z, unknown-unused b (e .account))
 
-pub answer-toll : (b : Book) (e : Instruction) → e .kind ≡ 2 → answerNumber b e ≡ first (tollRefusals b e)
+pub answer-toll : (b : Book) (e : Instruction) → e .kind ≡ EventToll → answerNumber b e ≡ first (tollRefusals b e)
 answer-toll b e k = at-kind (λ x. answerNumber b x ≡ first (tollRefusals b x)) e 2 k (answer-2 b e)
 
 -- the same with what each test came to, and with the number n that the passage gets
-pub answer-by : (b : Book) (e : Instruction) → e .kind ≡ 2 → (f u c : Bool) (n : ℕ) → tollForm e ≡ f → account b (e .account) .state is Unused ≡ u
-    → account b (e .account) .state is Closed ≡ c → n ≡ first (passageRefusals (b .day) (b .rows) (b .room) e)
+pub answer-by : (b : Book) (e : Instruction) → e .kind ≡ EventToll → (f u c : Bool) (n : ℕ) → tollForm e ≡ f → account b (e .account) .state is StateUnused ≡ u
+    → account b (e .account) .state is StateClosed ≡ c → n ≡ first (passageRefusals (b .day) (b .rows) (b .room) e)
     → cond (not f) 2 (cond u 3 (cond c 5 n)) ≡ answerNumber b e
 unfolding tollRefusals first
 answer-by b e k f u c n p q v w = rw (answer-toll b e k, p, q, v, w)
 
 pub passage-by : (today : ℕ) (rows : List Row) (room : ℕ) (e : Instruction) (u d s r : Bool) → class (e .c) (e .d) is 0 ≡ u
     → ltb today (e .b) || ltb (e .b + latestDays) today ≡ d → exists (λ x. toll x && x .reference is e .a) rows ≡ s → ltb room (length rows + 1) ≡ r
-    → first ((6, u) ∷ (7, d) ∷ (8, s) ∷ (13, r) ∷ []) ≡ first (passageRefusals today rows room e)
+    → first ((Unclassed, u) ∷ (Misdated, d) ∷ (Duplicate, s) ∷ (Full, r) ∷ []) ≡ first (passageRefusals today rows room e)
 unfolding passageRefusals
 passage-by today rows room e u d s r p q v w = rw (p, q, v, w)
 
@@ -126,14 +128,14 @@ module _ (e : Instruction) (f : tollForm e ≡ true) where
 
 -- ---- what an accepted event 2 leaves
 
-module _ (t : Tables) (s : soundTables t ≡ true) (e : Instruction) (k : e .kind ≡ 2) (q : 0 ≡ answerNumber (bookOf t) e) where
+module _ (t : Tables) (s : soundTables t ≡ true) (e : Instruction) (k : e .kind ≡ EventToll) (q : 0 ≡ answerNumber (bookOf t) e) where
   abbrev b : Book
   b = bookOf t
 
   acc : Accepted b e
   acc = accepted b e (sym q)
 
-  plain-kind : e .kind is 9 ≡ false
+  plain-kind : e .kind is EventTick ≡ false
   plain-kind = rw k
 
   inside : (1 ≤ e .account) × (e .account ≤ length (b .accounts))
@@ -192,25 +194,25 @@ module _ (t : Tables) (s : soundTables t ≡ true) (e : Instruction) (k : e .kin
 
   -- the row as it is read from the header
   pub toll-read : (today stage n amount : ℕ) (r : Row) → today ≡ word (t .header) dayPlace → stage ≡ word (t .header) (headerSchedule + stagePlace) → n ≡ class (e .c) (e .d)
-      → amount ≡ rate (scheduleFrom (t .header) headerSchedule .rates) n (e .e) → r ≡ newRow Toll (e .account) today amount
+      → amount ≡ rate (scheduleFrom (t .header) headerSchedule .rates) n (e .e) → r ≡ newRow KindToll (e .account) today amount
       → withReference (e .a) (withDue (today + stage) r) ≡ tollRow b e
   unfolding tollRate bookOf scheduleFrom
   toll-read today stage n amount r d l c a w = rw (w, a, c, d, l)
 
   pub after-toll : after b e ≡ withRows (settle (e .account) (b .rows ++ (tollRow b e ∷ []))) b
   after-toll =
-      let not-tick : e .kind ≢ 9 = λ z. omega arith in
+      let not-tick : e .kind ≢ EventTick = λ z. omega arith in
       after-named b e (sound-book t s) not-tick acc (inside .0) (inside .1) (rw changed) ∙ rw changed
 
   pub toll-posts : (h j j″ : List ℤ) → RowAdded (t .header) h (t .journal) j (tollRow b e) → Settled j j″ (rowsUsed t + 1) (e .account)
       → Posts t (tablesAt h (t .accounts) j″) e (acceptanceOf (rowsUsed t) 1 0 0)
   toll-posts h j j″ w d =
       posts-accepted t (tablesAt h (t .accounts) j″) s e (acceptanceOf (rowsUsed t) 1 0 0) q
-      (rw (used-read t s) (acceptance-plain b e 1 grows plain-kind keeps-top-up))
+      (rw (used-read t s) (acceptance-plain b e 1 grows plain-kind keeps-topup))
       (rw after-toll (row-written t s h j j″ (t .accounts) (tollRow b e) (e .account) (b .accounts) w d toll-fits refl same-accounts))
     where
-      keeps-top-up : removesTopUp b e ≡ false
-      keeps-top-up = unfold removesTopUp in (rw k)
+      keeps-topup : removesTopup b e ≡ false
+      keeps-topup = unfold removesTopup in (rw k)
 
       same-accounts : accountsOf (t .accounts) (accountsIn t) ≡ b .accounts
       same-accounts = unfold bookOf in refl

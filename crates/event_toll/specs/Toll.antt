@@ -4,26 +4,27 @@ use Prim.Native.Nat.{ℕ, _+_}
 use mathlib.Core.List.{List, [], _∷_}
 use lib.ListN.{length}
 use lib.Dec.{ltb}
+use Rattle.records.specs.Numbers.{Malformed, Unknown, Closed, Unclassed, Misdated, Duplicate, Full}
 use Rattle.lists.specs.Tests.{_is_, Cases}
 use Rattle.lists.specs.Lists.{exists}
-use Rattle.rules.specs.Limits.{latestDays}
+use Rattle.records.specs.Limits.{latestDays}
 use Rattle.rules.specs.Schedule.{class}
 use Rattle.rules.specs.Rows.{Row, toll}
-use Rattle.rules.specs.Book.{Instruction, Unused, Closed, Book, account}
+use Rattle.rules.specs.Book.{Instruction, StateUnused, StateClosed, Book, account}
 use Rattle.rules.specs.Refusals.{tollForm}
 
 -- those that concern the passage, and the row for it: by the day, the rows and the room for rows
 unfoldable pub passageRefusals : ℕ → List Row → ℕ → Instruction → Cases
 passageRefusals today rows room e =
-    (6, class (e .c) (e .d) is 0)
-    ∷ (7, ltb today (e .b) || ltb (e .b + latestDays) today)
-    ∷ (8, exists (λ r. toll r && r .reference is e .a) rows)
-    ∷ (13, ltb room (length rows + 1))
+    (Unclassed, class (e .c) (e .d) is 0)
+    ∷ (Misdated, ltb today (e .b) || ltb (e .b + latestDays) today)
+    ∷ (Duplicate, exists (λ r. toll r && r .reference is e .a) rows)
+    ∷ (Full, ltb room (length rows + 1))
     ∷ []
 
 unfoldable pub tollRefusals : Book → Instruction → Cases
 tollRefusals b e =
-    (2, not (tollForm e))
-    ∷ (3, account b (e .account) .state is Unused)
-    ∷ (5, account b (e .account) .state is Closed)
+    (Malformed, not (tollForm e))
+    ∷ (Unknown, account b (e .account) .state is StateUnused)
+    ∷ (Closed, account b (e .account) .state is StateClosed)
     ∷ passageRefusals (b .day) (b .rows) (b .room) e

@@ -8,16 +8,16 @@ use mathlib.Core.List.{List}
 use lib.IntN.{ℤ}
 use lib.Dec.{leb}
 use borrow.Author.Tests.{leb-true, leb-false, ne-eqb, not-false}
-use Rattle.records.specs.Codes.{Yes}
+use Rattle.records.specs.Codes.{Yes, EventTopupResult}
 use Rattle.records.specs.Encoding.{StorableAccount}
 use Rattle.records.specs.AccountOperations.{lastDecline, declinedOn}
-use Rattle.records.specs.Updates.{withTopUp, withDeclines}
+use Rattle.records.specs.Updates.{withTopup, withDeclines}
 use Rattle.lists.specs.Tests.{_is_}
 use Rattle.lists.proofs.TestLaws.{and-left, and-right}
 use Rattle.rules.specs.Book.{Account, Instruction, Book, account, putAccount}
-use Rattle.rules.specs.Events.{declineTopUp, topUpResult}
+use Rattle.rules.specs.Events.{declineTopup, topupResult}
 use Rattle.rules.specs.Refusals.{changeOf, zeroFrom-c, resultForm, formOf, wellFormed, answerNumber}
-use Rattle.rules.specs.Posting.{removesTopUp}
+use Rattle.rules.specs.Posting.{removesTopup}
 use Rattle.rules.specs.Tables.{Tables, rowsUsed, bookOf, soundTables}
 use Rattle.rules.proofs.StorableLaws.{day-le}
 use Rattle.rules.proofs.TableLaws.{sound-book}
@@ -42,7 +42,7 @@ module _ (t : Tables) (s : soundTables t ≡ true) (e : Instruction) where
   unfolding declinedOn
   declined-storable = go (lastDecline named) refl
     where
-      go : (z : Bool) → leb 2 (named .declines) ≡ z → StorableAccount (cond z (withDeclines 0 0 (withTopUp 0 0 named)) (withDeclines (named .declines + 1) (b .day) named))
+      go : (z : Bool) → leb 2 (named .declines) ≡ z → StorableAccount (cond z (withDeclines 0 0 (withTopup 0 0 named)) (withDeclines (named .declines + 1) (b .day) named))
       go true q =
           let x = account-holds t s (e .account) in
           record {
@@ -66,9 +66,9 @@ module _ (t : Tables) (s : soundTables t ≡ true) (e : Instruction) where
             declined = omega (arith, day-le (b .day) b (sound-book t s .near));
           }
 
-  module _ (k : e .kind ≡ 7) (q : 0 ≡ answerNumber b e) (n : e .b ≢ Yes) where
+  module _ (k : e .kind ≡ EventTopupResult) (q : 0 ≡ answerNumber b e) (n : e .b ≢ Yes) where
     changed : changeOf (e .kind) b e ≡ putAccount (e .account) declinedAccount b
-    unfolding changeOf topUpResult declineTopUp
+    unfolding changeOf topupResult declineTopup
     changed = rw (k, ne-eqb (e .b) Yes n)
 
     formed : resultForm e ≡ true
@@ -82,8 +82,8 @@ module _ (t : Tables) (s : soundTables t ≡ true) (e : Instruction) where
         let result-part : Bool = leb (e .b) 1 in
         omega (arith, leb-true (e .b) 1 (and-right first-part result-part (and-left (first-part && result-part) (zeroFrom-c e) formed)), n)
 
-    removed : removesTopUp b e ≡ lastDecline named
-    unfolding removesTopUp
+    removed : removesTopup b e ≡ lastDecline named
+    unfolding removesTopup
     removed = rw (k, result-0)
 
     pub declined-posts : (acc : List ℤ) → AccountChanged (t .accounts) acc (e .account - 1) declinedAccount

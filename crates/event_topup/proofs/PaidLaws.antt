@@ -7,14 +7,15 @@ use mathlib.Core.List.{List, [], _∷_, _++_}
 use lib.ListN.{length, set, length-set}
 use lib.IntN.{ℤ}
 use borrow.Author.Tests.{ltb-false}
+use Rattle.records.specs.Codes.{EventTick}
 use Rattle.records.specs.Encoding.{accountsOf, StorableRow, StorableAccount}
-use Rattle.records.specs.AccountOperations.{topUpPaid}
+use Rattle.records.specs.AccountOperations.{topupPaid}
 use Rattle.lists.specs.Tests.{_is_}
 use Rattle.rules.specs.Settlement.{settle}
 use Rattle.rules.specs.Book.{Account, Instruction, Book, account, putAccount, addRow, withRows}
-use Rattle.rules.specs.Events.{payTopUp, topUpResult}
+use Rattle.rules.specs.Events.{payTopup, topupResult}
 use Rattle.rules.specs.Refusals.{changeOf, after, full}
-use Rattle.rules.specs.Posting.{removesTopUp}
+use Rattle.rules.specs.Posting.{removesTopup}
 use Rattle.rules.specs.Tables.{Tables, accountsIn, roomIn, rowsUsed, bookOf}
 use Rattle.rules.proofs.StorableLaws.{day-le, accounts-le}
 use Rattle.rules.proofs.TableLaws.{sound-book}
@@ -28,8 +29,8 @@ use Rattle.posting.proofs.BookLaws.{used-read, room-read, count-read, account-h
 use Rattle.posting_laws.proofs.RefusalLaws.{length-after}
 use Rattle.posting_laws.proofs.AddedLaws.{acceptance-plain, posts-accepted, row-written}
 use Rattle.posting_laws.proofs.AccountEventLaws.{named-inside, named-in}
-use Rattle.event_topup.specs.TopUpResult.{PaidResult}
-use Rattle.event_topup.proofs.ResultLaws.{topUpRow}
+use Rattle.event_topup.specs.TopupResult.{PaidResult}
+use Rattle.event_topup.proofs.ResultLaws.{topupRow}
 
 module _ (t : Tables) (e : Instruction) (p : PaidResult t e) where
   abbrev b : Book
@@ -39,9 +40,9 @@ module _ (t : Tables) (e : Instruction) (p : PaidResult t e) where
   n = e .account
 
   abbrev paidAccount : Account
-  paidAccount = topUpPaid (account b n)
+  paidAccount = topupPaid (account b n)
 
-  not-9 : e .kind is 9 ≡ false
+  not-9 : e .kind is EventTick ≡ false
   not-9 = rw (p .kind)
 
   -- the account that it names is one of the table's
@@ -51,12 +52,12 @@ module _ (t : Tables) (e : Instruction) (p : PaidResult t e) where
   pub paid-in : AccountIn (t .accounts) (n - 1)
   paid-in = named-in t (p .sound) e not-9 (p .accepted)
 
-  changed : changeOf (e .kind) b e ≡ addRow (topUpRow b e) (putAccount n paidAccount b)
-  unfolding changeOf topUpResult payTopUp
+  changed : changeOf (e .kind) b e ≡ addRow (topupRow b e) (putAccount n paidAccount b)
+  unfolding changeOf topupResult payTopup
   changed = rw (p .kind, p .paid)
 
   length-paid : length (after b e .rows) ≡ length (b .rows) + 1
-  length-paid = length-after b e (b .rows) (topUpRow b e ∷ []) (ap (λ (x : Book). x .rows) changed) refl
+  length-paid = length-after b e (b .rows) (topupRow b e ∷ []) (ap (λ (x : Book). x .rows) changed) refl
 
   -- there is a row for it
   pub paid-fits : rowsUsed t < roomIn t
@@ -65,7 +66,7 @@ module _ (t : Tables) (e : Instruction) (p : PaidResult t e) where
       let r = ltb-false (b .room) (length (after b e .rows)) (accepted b e (sym (p .accepted)) .fits) in
       omega (arith, length-paid, room-read t (p .sound), used-read t (p .sound))
 
-  pub paid-row-storable : StorableRow (topUpRow b e)
+  pub paid-row-storable : StorableRow (topupRow b e)
   paid-row-storable =
       let near = sound-book t (p .sound) .near in
       record {
@@ -94,22 +95,22 @@ module _ (t : Tables) (e : Instruction) (p : PaidResult t e) where
         declined = omega arith;
       }
 
-  after-paid : after b e ≡ withRows (settle n (b .rows ++ (topUpRow b e ∷ []))) (putAccount n paidAccount b)
+  after-paid : after b e ≡ withRows (settle n (b .rows ++ (topupRow b e ∷ []))) (putAccount n paidAccount b)
   after-paid =
       after-named b e (sound-book t (p .sound)) (λ z. omega (arith, p .kind)) (accepted b e (sym (p .accepted))) (paid-inside .0)
       (omega (arith, paid-inside .1, count-read t (p .sound))) (rw changed (length-set (b .accounts) (n - 1) paidAccount))
       ∙ rw changed
 
-  pub paid-posts : (acc h j j″ : List ℤ) → AccountChanged (t .accounts) acc (n - 1) paidAccount → RowAdded (t .header) h (t .journal) j (topUpRow b e)
+  pub paid-posts : (acc h j j″ : List ℤ) → AccountChanged (t .accounts) acc (n - 1) paidAccount → RowAdded (t .header) h (t .journal) j (topupRow b e)
       → Settled j j″ (rowsUsed t + 1) n → Posts t (tablesAt h acc j″) e (acceptanceOf (rowsUsed t) 1 0 0)
   paid-posts acc h j j″ v w d =
       posts-accepted t (tablesAt h acc j″) (p .sound) e (acceptanceOf (rowsUsed t) 1 0 0) (p .accepted)
-      (rw (used-read t (p .sound)) (acceptance-plain b e 1 length-paid not-9 keeps-top-up))
+      (rw (used-read t (p .sound)) (acceptance-plain b e 1 length-paid not-9 keeps-topup))
       (rw after-paid
-      (row-written t (p .sound) h j j″ acc (topUpRow b e) n (set (b .accounts) (n - 1) paidAccount) w d paid-fits (v .size) account-put))
+      (row-written t (p .sound) h j j″ acc (topupRow b e) n (set (b .accounts) (n - 1) paidAccount) w d paid-fits (v .size) account-put))
     where
-      keeps-top-up : removesTopUp b e ≡ false
-      keeps-top-up = unfold removesTopUp in (rw (p .kind, p .paid))
+      keeps-topup : removesTopup b e ≡ false
+      keeps-topup = unfold removesTopup in (rw (p .kind, p .paid))
 
       account-put : accountsOf acc (accountsIn t) ≡ set (b .accounts) (n - 1) paidAccount
       account-put = changed-accounts (t .accounts) acc (n - 1) paidAccount v (accountsIn t) (omega (arith, paid-inside .0, paid-inside .1)) ∙ (unfold bookOf in refl)

@@ -7,57 +7,58 @@ use mathlib.Core.List.{[], _∷_, _++_}
 use lib.ListN.{length}
 use lib.Dec.{leb, ltb}
 use borrow.Author.Tests.{leb-true, leb-false}
-use Rattle.records.specs.Codes.{Card, Yes}
+use Rattle.records.specs.Numbers.{Malformed, Unknown, Closed, Untimely, Full}
+use Rattle.records.specs.Codes.{MethodCard, Yes, EventTopupResult}
 use Rattle.lists.specs.Tests.{_is_, first}
 use Rattle.lists.specs.Lists.{sumBy, count}
-use Rattle.rules.specs.Rows.{Row, Payment, newRow, withMark}
-use Rattle.rules.specs.Book.{Instruction, Unused, Closed, Book, account, topUpDue}
-use Rattle.rules.specs.Events.{payTopUp, declineTopUp, topUpResult}
+use Rattle.rules.specs.Rows.{Row, KindPayment, newRow, withMark}
+use Rattle.rules.specs.Book.{Instruction, StateUnused, StateClosed, Book, account, topupDue}
+use Rattle.rules.specs.Events.{payTopup, declineTopup, topupResult}
 use Rattle.rules.specs.Refusals.{changeOf, resultForm, formOf, wellFormed, unknown, taken, onClosed, unclassed, misdated, duplicate, barred, noRow, untimely, lastDay, full, ceiling, refusals, answerNumber}
 use Rattle.rules.specs.Tables.{Tables, roomIn, rowsUsed, bookOf, soundTables}
 use Rattle.posting_laws.proofs.RefusalLaws.{ofKind, at-kind, unknown-unused, length-after, no-ceiling, rows-lack, rows-suffice}
 use Rattle.posting_laws.proofs.AccountEventLaws.{rows-fit, never-full, never-above}
-use Rattle.event_topup.specs.TopUpResult.{resultRefusals}
+use Rattle.event_topup.specs.TopupResult.{resultRefusals}
 
 -- the row that a paid top-up adds
-abbrev pub topUpRow : Book → Instruction → Row
-topUpRow b e = withMark Card (newRow Payment (e .account) (b .day) (account b (e .account) .topup))
+abbrev pub topupRow : Book → Instruction → Row
+topupRow b e = withMark MethodCard (newRow KindPayment (e .account) (b .day) (account b (e .account) .topup))
 
 module _ (b : Book) (e : Instruction) (fit : length (b .rows) ≤ b .room) where
   abbrev event7 : Instruction
-  event7 = ofKind 7 e
+  event7 = ofKind EventTopupResult e
 
-  rows-paid : e .b is Yes ≡ true → changeOf 7 b event7 .rows ≡ b .rows ++ (topUpRow b event7 ∷ [])
-  unfolding changeOf topUpResult payTopUp
+  rows-paid : e .b is Yes ≡ true → changeOf EventTopupResult b event7 .rows ≡ b .rows ++ (topupRow b event7 ∷ [])
+  unfolding changeOf topupResult payTopup
   rows-paid y = rw y
 
-  rows-declined : e .b is Yes ≡ false → changeOf 7 b event7 .rows ≡ b .rows
-  unfolding changeOf topUpResult declineTopUp
+  rows-declined : e .b is Yes ≡ false → changeOf EventTopupResult b event7 .rows ≡ b .rows
+  unfolding changeOf topupResult declineTopup
   rows-declined y = rw y
 
   full-7 : (y : Bool) → e .b is Yes ≡ y → full b event7 ≡ y && ltb (b .room) (length (b .rows) + 1)
   unfolding full
-  full-7 true q = rw (length-after b event7 (b .rows) (topUpRow b event7 ∷ []) (rows-paid q) refl)
+  full-7 true q = rw (length-after b event7 (b .rows) (topupRow b event7 ∷ []) (rows-paid q) refl)
   full-7 false q = never-full b event7 (rows-declined q) fit
 
   above-7 : (y : Bool) → e .b is Yes ≡ y → ceiling b event7 ≡ false
   unfolding count sumBy
-  above-7 true q = no-ceiling b event7 (b .rows) (topUpRow b event7 ∷ []) (rows-paid q) refl refl
+  above-7 true q = no-ceiling b event7 (b .rows) (topupRow b event7 ∷ []) (rows-paid q) refl refl
   above-7 false q = never-above b event7 (rows-declined q)
 
   answer-7 : answerNumber b event7 ≡ first (resultRefusals b event7)
   unfolding answerNumber refusals wellFormed formOf unknown taken onClosed unclassed misdated duplicate barred noRow untimely lastDay first resultRefusals
-  answer-7 = rw (full-7 (e .b is Yes) refl, above-7 (e .b is Yes) refl, unknown-unused b (e .account), or-false (not (topUpDue b (e .account))))
+  answer-7 = rw (full-7 (e .b is Yes) refl, above-7 (e .b is Yes) refl, unknown-unused b (e .account), or-false (not (topupDue b (e .account))))
 
 -- the number that event 7 gets
-pub answer-result : (b : Book) (e : Instruction) → length (b .rows) ≤ b .room → e .kind ≡ 7 → answerNumber b e ≡ first (resultRefusals b e)
+pub answer-result : (b : Book) (e : Instruction) → length (b .rows) ≤ b .room → e .kind ≡ EventTopupResult → answerNumber b e ≡ first (resultRefusals b e)
 answer-result b e h k = at-kind (λ x. answerNumber b x ≡ first (resultRefusals b x)) e 7 k (answer-7 b e h)
 
 -- the same on sound tables, with what each test came to
-pub result-by : (t : Tables) → soundTables t ≡ true → (e : Instruction) → e .kind ≡ 7 → (f u c d r : Bool) → resultForm e ≡ f
-    → account (bookOf t) (e .account) .state is Unused ≡ u → account (bookOf t) (e .account) .state is Closed ≡ c → topUpDue (bookOf t) (e .account) ≡ d
+pub result-by : (t : Tables) → soundTables t ≡ true → (e : Instruction) → e .kind ≡ EventTopupResult → (f u c d r : Bool) → resultForm e ≡ f
+    → account (bookOf t) (e .account) .state is StateUnused ≡ u → account (bookOf t) (e .account) .state is StateClosed ≡ c → topupDue (bookOf t) (e .account) ≡ d
     → e .b is Yes && ltb (bookOf t .room) (length (bookOf t .rows) + 1) ≡ r
-    → first ((2, not f) ∷ (3, u) ∷ (5, c) ∷ (11, not d) ∷ (13, r) ∷ []) ≡ answerNumber (bookOf t) e
+    → first ((Malformed, not f) ∷ (Unknown, u) ∷ (Closed, c) ∷ (Untimely, not d) ∷ (Full, r) ∷ []) ≡ answerNumber (bookOf t) e
 unfolding resultRefusals
 result-by t s e k f u c d r x y v w z = rw (answer-result (bookOf t) e (rows-fit t s) k, x, y, v, w, z)
 

@@ -1,1 +1,1 @@
-pub mod TopUpResult
+pub mod TopupResult

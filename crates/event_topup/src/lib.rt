@@ -1,7 +1,6 @@
-// Event 7: the result of a top-up. Uses lists, records, rules, preservation, tables, table_accounts, settlement, forms, posting, lookups
-// and posting_laws.
-use forms::result_form;
-use lookups::Lookup;
+// Event 7: the result of a top-up.
+use event_forms::result_form;
+use event_lookups::Lookup;
 use posting::answers::posted;
 use posting::answers::refused;
 use posting::rows::add_row;
@@ -9,26 +8,34 @@ use posting::rows::new_row;
 use records::Account;
 use records::Answer;
 use records::Instruction;
+use records::codes::KIND_PAYMENT;
+use records::codes::METHOD_CARD;
+use records::codes::STATE_CLOSED;
+use records::codes::STATE_UNUSED;
+use records::layout::ACCOUNT_WIDTH;
+use records::layout::DAY_PLACE;
+use records::layout::ROW_WIDTH;
+use records::layout::USED_PLACE;
+use records::limits::MOST_DECLINES;
+use records::numbers::CLOSED;
+use records::numbers::FULL;
+use records::numbers::MALFORMED;
+use records::numbers::UNKNOWN;
+use records::numbers::UNTIMELY;
 use settlement::settle_from;
 use table_accounts::account_numbered;
 use table_accounts::write_account;
-use tables::codes::CARD;
-use tables::codes::CLOSED;
-use tables::codes::PAYMENT;
-use tables::codes::UNUSED;
-use tables::layout::ACCOUNT_WIDTH;
-use tables::layout::DAY_PLACE;
-use tables::layout::ROW_WIDTH;
-use tables::layout::USED_PLACE;
 use tables::words::get;
 ghost use mathlib.Core.Path.{_≡_};
 ghost use mathlib.Core.Bool.{true, cond};
 ghost use Rattle.records.specs.AccountOperations.{lastDecline};
 ghost use Rattle.rules.specs.Refusals.{answerNumber};
 ghost use Rattle.rules.specs.Tables.{bookOf, soundTables};
-ghost use Rattle.lookups.specs.Lookups.{LooksUp};
-ghost use Rattle.posting.specs.Posts.{tablesAt, Posts};
-ghost use Rattle.event_topup.specs.TopUpResult.{PaidResult};
+ghost use Rattle.event_lookups.specs.Lookups.{LooksUp};
+ghost use Rattle.posting.specs.Posts.{Posts};
+ghost use Rattle.event_topup.specs.TopupResult.{PaidResult};
+ghost use Rattle.records.specs.Codes.{EventTopupResult};
+ghost use Rattle.rules.specs.Lent.{lent, atEntry, atExit};
 
 // Why event 7 is refused, 0 where it is not.
 fn result_refusal(
@@ -38,45 +45,47 @@ fn result_refusal(
     e: Instruction,
     k: Lookup,
 ) -> u64
-    requires { ⌜ (soundTables (tablesAt (now header) (now accounts) (now journal)) ≡ true) × (e .kind ≡ 7) × LooksUp (tablesAt (now header) (now accounts) (now journal)) e k ⌝ }
-    ensures { λ n. ⌜ n ≡ answerNumber (bookOf (tablesAt (now (header .entry)) (now (accounts .entry)) (now (journal .entry)))) e ⌝ }
+    requires { ⌜ (soundTables (lent header accounts journal) ≡ true)
+        × (e .kind ≡ EventTopupResult)
+        × LooksUp (lent header accounts journal) e k ⌝ }
+    ensures { λ n. ⌜ n ≡ answerNumber (bookOf (atEntry header accounts journal)) e ⌝ }
 {
     if !result_form(e) {
-        return 2;
+        return MALFORMED;
     }
     let x = account_numbered(accounts, accounts.len() / ACCOUNT_WIDTH, e.account);
-    if x.state == UNUSED {
-        return 3;
+    if x.state == STATE_UNUSED {
+        return UNKNOWN;
     }
-    if x.state == CLOSED {
-        return 5;
+    if x.state == STATE_CLOSED {
+        return CLOSED;
     }
     if !k.due {
-        return 11;
+        return UNTIMELY;
     }
     if (e.b == 1) & (journal.len() / ROW_WIDTH <= get(header, USED_PLACE) as usize) {
-        return 13;
+        return FULL;
     }
     0
 }
 
 // Paid: a card payment of the top-up amount, and the declines are forgotten; then settlement, from this row on.
-fn pay_top_up(
+fn pay_topup(
     header: &mut [i64],
     accounts: &mut [i64],
     journal: &mut [i64],
     e: Instruction,
     k: Lookup,
 ) -> Answer
-    requires { ⌜ PaidResult (tablesAt (now header) (now accounts) (now journal)) e × LooksUp (tablesAt (now header) (now accounts) (now journal)) e k ⌝ }
-    ensures { λ r. ⌜ Posts (tablesAt (now (header .entry)) (now (accounts .entry)) (now (journal .entry))) (tablesAt (now (header .exit)) (now (accounts .exit)) (now (journal .exit))) e r ⌝ }
+    requires { ⌜ PaidResult (lent header accounts journal) e × LooksUp (lent header accounts journal) e k ⌝ }
+    ensures { λ r. ⌜ Posts (atEntry header accounts journal) (atExit header accounts journal) e r ⌝ }
 {
     let used = get(header, USED_PLACE);
     let x = account_numbered(accounts, accounts.len() / ACCOUNT_WIDTH, e.account);
-    let paid = x.pay_top_up();
+    let paid = x.pay_topup();
     write_account(accounts, (e.account - 1) as usize, paid);
-    let mut r = new_row(PAYMENT, e.account, get(header, DAY_PLACE), x.topup);
-    r.mark = CARD;
+    let mut r = new_row(KIND_PAYMENT, e.account, get(header, DAY_PLACE), x.topup);
+    r.mark = METHOD_CARD;
     add_row(header, journal, r);
     settle_from(
         journal,
@@ -92,26 +101,28 @@ fn pay_top_up(
 fn removed_by_decline(x: Account) -> u64
     ensures { λ n. ⌜ n ≡ cond (lastDecline x) 1 0 ⌝ }
 {
-    if 2 <= x.declines { 1 } else { 0 }
+    if MOST_DECLINES <= x.declines { 1 } else { 0 }
 }
 
 // Event 7: a paid or a declined top-up.
-pub fn top_up_result(
+pub fn topup_result(
     header: &mut [i64],
     accounts: &mut [i64],
     journal: &mut [i64],
     e: Instruction,
     k: Lookup,
 ) -> Answer
-    requires { ⌜ (soundTables (tablesAt (now header) (now accounts) (now journal)) ≡ true) × (e .kind ≡ 7) × LooksUp (tablesAt (now header) (now accounts) (now journal)) e k ⌝ }
-    ensures { λ r. ⌜ Posts (tablesAt (now (header .entry)) (now (accounts .entry)) (now (journal .entry))) (tablesAt (now (header .exit)) (now (accounts .exit)) (now (journal .exit))) e r ⌝ }
+    requires { ⌜ (soundTables (lent header accounts journal) ≡ true)
+        × (e .kind ≡ EventTopupResult)
+        × LooksUp (lent header accounts journal) e k ⌝ }
+    ensures { λ r. ⌜ Posts (atEntry header accounts journal) (atExit header accounts journal) e r ⌝ }
 {
     let n = result_refusal(header, accounts, journal, e, k);
     if n != 0 {
         return refused(n);
     }
     if e.b == 1 {
-        return pay_top_up(header, accounts, journal, e, k);
+        return pay_topup(header, accounts, journal, e, k);
     }
     let x = account_numbered(accounts, accounts.len() / ACCOUNT_WIDTH, e.account);
     let declined = x.decline(get(header, DAY_PLACE));

@@ -3,6 +3,7 @@ use mathlib.Core.Path.{_≡_, refl}
 use mathlib.Core.Logic.{_≢_}
 use mathlib.Core.Bool.{false}
 use Prim.Native.Nat.{ℕ, zero, suc}
+use Rattle.records.specs.Codes.{EventOpen, EventToll, EventPayment, EventReturnedCheck, EventDispute, EventDecision, EventTopupResult, EventCloseRequest, EventTick}
 use Rattle.lists.specs.Tests.{first}
 use Rattle.rules.specs.Book.{Instruction, Book}
 use Rattle.rules.specs.Refusals.{formOf, wellFormed, refusals, answerNumber}
@@ -21,7 +22,7 @@ no-form (suc (suc (suc (suc (suc (suc (suc (suc zero)))))))) e a b c d f g h i j
 no-form (suc (suc (suc (suc (suc (suc (suc (suc (suc zero))))))))) e a b c d f g h i j = absurd (j refl)
 no-form (suc (suc (suc (suc (suc (suc (suc (suc (suc (suc k)))))))))) e a b c d f g h i j = refl
 
-pub other-kind : (b : Book) (e : Instruction) → e .kind ≢ 1 → e .kind ≢ 2 → e .kind ≢ 3 → e .kind ≢ 4 → e .kind ≢ 5 → e .kind ≢ 6 → e .kind ≢ 7 → e .kind ≢ 8 → e .kind ≢ 9
+pub other-kind : (b : Book) (e : Instruction) → e .kind ≢ EventOpen → e .kind ≢ EventToll → e .kind ≢ EventPayment → e .kind ≢ EventReturnedCheck → e .kind ≢ EventDispute → e .kind ≢ EventDecision → e .kind ≢ EventTopupResult → e .kind ≢ EventCloseRequest → e .kind ≢ EventTick
     → 2 ≡ answerNumber b e
 unfolding answerNumber refusals wellFormed first
 other-kind b e p q r s t u v w x = rw (no-form (e .kind) e p q r s t u v w x)

@@ -1,25 +1,34 @@
-// One event on the tables of a sound book: the kind decides which of the nine functions posts it. Uses lists, records, rules, posting,
-// lookups, posting_laws, event_payment, event_accounts, event_topup, event_toll, event_return, event_dispute, event_decision and
-// event_tick.
+// One event on the tables of a sound book: the kind decides which of the nine functions posts it.
 use event_accounts::open_account;
 use event_accounts::request_close;
 use event_decision::decide;
 use event_dispute::hold_toll;
+use event_lookups::Lookup;
+use event_lookups::look_up;
 use event_payment::post_payment;
 use event_return::return_check;
 use event_tick::tick;
 use event_toll::post_toll;
-use event_topup::top_up_result;
-use lookups::Lookup;
-use lookups::look_up;
+use event_topup::topup_result;
 use posting::answers::refused;
 use records::Answer;
 use records::Instruction;
+use records::codes::EVENT_CLOSE_REQUEST;
+use records::codes::EVENT_DECISION;
+use records::codes::EVENT_DISPUTE;
+use records::codes::EVENT_OPEN;
+use records::codes::EVENT_PAYMENT;
+use records::codes::EVENT_RETURNED_CHECK;
+use records::codes::EVENT_TICK;
+use records::codes::EVENT_TOLL;
+use records::codes::EVENT_TOPUP_RESULT;
+use records::numbers::MALFORMED;
 ghost use mathlib.Core.Path.{_≡_};
 ghost use mathlib.Core.Bool.{true};
 ghost use Rattle.rules.specs.Tables.{soundTables};
-ghost use Rattle.lookups.specs.Lookups.{LooksUp};
-ghost use Rattle.posting.specs.Posts.{tablesAt, Posts};
+ghost use Rattle.event_lookups.specs.Lookups.{LooksUp};
+ghost use Rattle.posting.specs.Posts.{Posts};
+ghost use Rattle.rules.specs.Lent.{lent, atEntry, atExit};
 
 // Events 1 to 9, with what has been looked up for the event; every other kind is malformed.
 pub fn post_known(
@@ -29,21 +38,21 @@ pub fn post_known(
     e: Instruction,
     k: Lookup,
 ) -> Answer
-    requires { ⌜ (soundTables (tablesAt (now header) (now accounts) (now journal)) ≡ true) × LooksUp (tablesAt (now header) (now accounts) (now journal)) e k ⌝ }
-    ensures { λ r. ⌜ Posts (tablesAt (now (header .entry)) (now (accounts .entry)) (now (journal .entry))) (tablesAt (now (header .exit)) (now (accounts .exit)) (now (journal .exit))) e r ⌝ }
+    requires { ⌜ (soundTables (lent header accounts journal) ≡ true) × LooksUp (lent header accounts journal) e k ⌝ }
+    ensures { λ r. ⌜ Posts (atEntry header accounts journal) (atExit header accounts journal) e r ⌝ }
 {
     let kind = e.kind;
     match kind {
-        1 => open_account(header, accounts, journal, e),
-        2 => post_toll(header, accounts, journal, e, k),
-        3 => post_payment(header, accounts, journal, e, k),
-        4 => return_check(header, accounts, journal, e, k),
-        5 => hold_toll(header, accounts, journal, e, k),
-        6 => decide(header, accounts, journal, e, k),
-        7 => top_up_result(header, accounts, journal, e, k),
-        8 => request_close(header, accounts, journal, e),
-        9 => tick(header, accounts, journal, e),
-        _ => refused(2),
+        EVENT_OPEN => open_account(header, accounts, journal, e),
+        EVENT_TOLL => post_toll(header, accounts, journal, e, k),
+        EVENT_PAYMENT => post_payment(header, accounts, journal, e, k),
+        EVENT_RETURNED_CHECK => return_check(header, accounts, journal, e, k),
+        EVENT_DISPUTE => hold_toll(header, accounts, journal, e, k),
+        EVENT_DECISION => decide(header, accounts, journal, e, k),
+        EVENT_TOPUP_RESULT => topup_result(header, accounts, journal, e, k),
+        EVENT_CLOSE_REQUEST => request_close(header, accounts, journal, e),
+        EVENT_TICK => tick(header, accounts, journal, e),
+        _ => refused(MALFORMED),
     }
 }
 
@@ -54,8 +63,8 @@ pub fn post_event(
     journal: &mut [i64],
     e: Instruction,
 ) -> Answer
-    requires { ⌜ soundTables (tablesAt (now header) (now accounts) (now journal)) ≡ true ⌝ }
-    ensures { λ r. ⌜ Posts (tablesAt (now (header .entry)) (now (accounts .entry)) (now (journal .entry))) (tablesAt (now (header .exit)) (now (accounts .exit)) (now (journal .exit))) e r ⌝ }
+    requires { ⌜ soundTables (lent header accounts journal) ≡ true ⌝ }
+    ensures { λ r. ⌜ Posts (atEntry header accounts journal) (atExit header accounts journal) e r ⌝ }
 {
     let k = look_up(header, accounts, journal, e);
     post_known(header, accounts, journal, e, k)

@@ -1,6 +1,5 @@
 // The listing program: reads an opening and events from standard input, and prints the events' answers, then the rows and the used
-// accounts of a book of 64 accounts and 512 rows. It only moves bytes: what is printed for them is proved in listing_steps. Uses rules,
-// listing_text, listing_input, listing_lines and listing_steps, and the kit's libc, io and bytes.
+// accounts of a book of 64 accounts and 512 rows. It only moves bytes: what is printed for them is proved in listing_steps.
 use libc::STDIN_FILENO;
 use libc::STDOUT_FILENO;
 use listing_input::move_to_front;
@@ -11,10 +10,10 @@ ghost use mathlib.Core.Path.{_≡_};
 ghost use mathlib.Core.Bool.{true, false};
 ghost use Prim.Native.Nat.{_+_, _≤_, _<_};
 ghost use lib.ListN.{length};
-ghost use Rattle.rules.specs.Tables.{tablesAt};
 ghost use Rattle.listing_lines.specs.Lines.{Sized};
 ghost use Rattle.listing_steps.specs.Steps.{Waiting};
 ghost use Rattle.listing.specs.Turns.{placeAt, Standing, Goes, Roomy};
+ghost use Rattle.rules.specs.Lent.{lent, atExit};
 
 // Prints the first bytes of the buffer, and whether that could be done.
 fn print(out: &[u8], end: usize) -> bool
@@ -60,8 +59,8 @@ fn read_on(
     p: Place,
     out: &mut [u8],
 ) -> Place
-    requires { ⌜ Standing (tablesAt (now header) (now accounts) (now journal)) (now input) (now out) p × Waiting (now input) p ⌝ }
-    ensures { λ r. ⌜ Goes (tablesAt (now (header .exit)) (now (accounts .exit)) (now (journal .exit))) (now (input .exit)) (now (out .exit)) (p .lines) r ⌝ }
+    requires { ⌜ Standing (lent header accounts journal) (now input) (now out) p × Waiting (now input) p ⌝ }
+    ensures { λ r. ⌜ Goes (atExit header accounts journal) (now (input .exit)) (now (out .exit)) (p .lines) r ⌝ }
 {
     if !print(out, p.at) {
         return done();
@@ -107,8 +106,8 @@ fn turn(
     p: Place,
     out: &mut [u8],
 ) -> Place
-    requires { ⌜ Standing (tablesAt (now header) (now accounts) (now journal)) (now input) (now out) p × (p .lines < 18446744073709551614) ⌝ }
-    ensures { λ r. ⌜ Goes (tablesAt (now (header .exit)) (now (accounts .exit)) (now (journal .exit))) (now (input .exit)) (now (out .exit)) (p .lines + 1) r ⌝ }
+    requires { ⌜ Standing (lent header accounts journal) (now input) (now out) p × (p .lines < 18446744073709551614) ⌝ }
+    ensures { λ r. ⌜ Goes (atExit header accounts journal) (now (input .exit)) (now (out .exit)) (p .lines + 1) r ⌝ }
 {
     let q = take_next(header, accounts, journal, input, p, out);
     if q.over {
@@ -134,7 +133,7 @@ fn run(
     input: &mut [u8],
     out: &mut [u8],
 )
-    requires { ⌜ Sized (tablesAt (now header) (now accounts) (now journal)) × (length (now input) ≡ 65536) × (length (now out) ≡ 65536) ⌝ }
+    requires { ⌜ Sized (lent header accounts journal) × (length (now input) ≡ 65536) × (length (now out) ≡ 65536) ⌝ }
 {
     let mut p = place(0, 0);
     let mut turns = 18446744073709551613u64;

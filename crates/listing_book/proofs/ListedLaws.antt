@@ -13,12 +13,12 @@ use Rattle.lists.proofs.TestLaws.{and-left}
 use Rattle.lists.proofs.GatherLaws.{gather-tabulate}
 use Rattle.records.specs.Encoding.{rowAt, rowsOf, accountsOf}
 use Rattle.decimal.specs.Decimal.{textOf, textOfDate, twoDigits, dateText, digitsOf}
-use Rattle.rules.specs.Limits.{finalDay}
+use Rattle.records.specs.Limits.{finalDay}
 use Rattle.rules.specs.Rows.{Row, blank}
-use Rattle.rules.specs.Book.{Account, Unused, Book, sources, debits, less, balance}
+use Rattle.rules.specs.Book.{Account, StateUnused, Book, sources, debits, minus, balance}
 use Rattle.rules.specs.Soundness.{rowDayFits}
 use Rattle.rules.specs.Tables.{Tables, accountsIn, rowsUsed, bookOf, soundTables}
-use Rattle.rules.proofs.SoundnessLaws.{Near}
+use Rattle.rules.specs.SoundFacts.{Near}
 use Rattle.rules.proofs.StorableLaws.{between-le, day-le}
 use Rattle.rules.proofs.TableLaws.{sound-book, sound-rows, length-sound-rows}
 use Rattle.posting.proofs.BookLaws.{used-room, book-row}
@@ -76,15 +76,15 @@ sound-dated t s = record {
 
 module _ (b : Book) (n : ℕ) (x : Account) where
   -- an unused account has no line
-  pub account-unused : x .state ≡ Unused → [] ≡ accountText b n x
+  pub account-unused : x .state ≡ StateUnused → [] ≡ accountText b n x
   unfolding accountText
-  account-unused e = rw (eq-eqb (x .state) Unused e)
+  account-unused e = rw (eq-eqb (x .state) StateUnused e)
 
   -- a used one has a line with its balance
-  pub account-used : (rows : List Row) → b .rows ≡ rows → (x .state ≡ Unused → ⊥)
-      → field (digitsOf n) ++ field (digitsOf (x .state)) ++ line (textOf (less (sources rows n) (debits rows n))) ≡ accountText b n x
+  pub account-used : (rows : List Row) → b .rows ≡ rows → (x .state ≡ StateUnused → ⊥)
+      → field (digitsOf n) ++ field (digitsOf (x .state)) ++ line (textOf (minus (sources rows n) (debits rows n))) ≡ accountText b n x
   unfolding accountText balance
-  account-used rows e h = rw (ne-eqb (x .state) Unused h, e)
+  account-used rows e h = rw (ne-eqb (x .state) StateUnused h, e)
 
 -- ---- the book
 

@@ -5,7 +5,7 @@ use lib.IntN.{ℤ}
 use lib.ListN.{length}
 use Rattle.records.specs.Layout.{rowWidth}
 use Rattle.records.specs.Encoding.{rowAt}
-use Rattle.rules.specs.Limits.{finalDay}
+use Rattle.records.specs.Limits.{finalDay}
 
 -- used rows whose days have a date
 pub record Dated (t : List ℤ) (used : ℕ) : Type 0 where

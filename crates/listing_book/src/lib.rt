@@ -1,5 +1,5 @@
 // The closing part of the listing, written to a lent buffer: a line for each used row and one for each used account, each part with its
-// names before it. Uses lists, records, rules, tables, table_rows, table_accounts, posting, balances, decimal, listing_rules and listing_text.
+// names before it.
 use balances::sums_of;
 use decimal::write_date;
 use decimal::write_number;
@@ -7,11 +7,11 @@ use listing_text::write_field;
 use listing_text::write_text;
 use records::Account;
 use records::Row;
+use records::codes::STATE_UNUSED;
+use records::layout::ACCOUNT_WIDTH;
+use records::layout::USED_PLACE;
 use table_accounts::read_account;
 use table_rows::read_row;
-use tables::codes::UNUSED;
-use tables::layout::ACCOUNT_WIDTH;
-use tables::layout::USED_PLACE;
 use tables::words::get;
 use tables::words::minus;
 ghost use mathlib.Core.Path.{_≡_};
@@ -22,13 +22,14 @@ ghost use Rattle.lists.specs.Lists.{gather};
 ghost use Rattle.records.specs.Layout.{accountWidth};
 ghost use Rattle.records.specs.Encoding.{rowsOf, accountsOf};
 ghost use Rattle.decimal.specs.Decimal.{textOf, dateText};
-ghost use Rattle.rules.specs.Limits.{finalDay};
-ghost use Rattle.rules.specs.Book.{Book, sources, debits, less};
+ghost use Rattle.records.specs.Limits.{finalDay};
+ghost use Rattle.rules.specs.Book.{Book, sources, debits, minus};
 ghost use Rattle.rules.specs.Tables.{accountsIn, rowsUsed, bookOf, soundTables};
-ghost use Rattle.posting.specs.Posts.{tablesAt, Amounts};
+ghost use Rattle.posting.specs.Posts.{Amounts};
 ghost use Rattle.listing_rules.specs.Texts.{field, line, rowText, accountText, bookText};
 ghost use Rattle.listing_text.specs.Puts.{Puts};
 ghost use Rattle.listing_book.specs.Listed.{Dated};
+ghost use Rattle.rules.specs.Lent.{lent, atEntry};
 
 // ---- rows
 
@@ -58,7 +59,8 @@ fn write_row(out: &mut [u8], at: usize, n: u64, r: Row) -> usize
 // Writes a line for each used row, and returns where they end. Every other byte stays.
 fn write_rows(out: &mut [u8], at: usize, journal: &[i64], used: usize) -> usize
     requires { ⌜ (at + used * 116 ≤ length (now out)) × Dated (now journal) used ⌝ }
-    ensures { λ r. ⌜ Puts (now (out .entry)) (now (out .exit)) at r (gather rowText (rowsOf (now (journal .entry)) used)) × (r ≤ at + used * 116) ⌝ }
+    ensures { λ r. ⌜ Puts (now (out .entry)) (now (out .exit)) at r (gather rowText (rowsOf (now (journal .entry)) used))
+        × (r ≤ at + used * 116) ⌝ }
 {
     let mut to = at;
     let mut i = 0;
@@ -74,7 +76,9 @@ fn write_rows(out: &mut [u8], at: usize, journal: &[i64], used: usize) -> usize
 // Writes the balance of account n, its sources less its debits, as the last field of a line, and returns where that ends. Every other byte stays.
 fn write_balance(out: &mut [u8], at: usize, journal: &[i64], used: usize, n: u64) -> usize
     requires { ⌜ (at + 21 ≤ length (now out)) × Amounts (now journal) used ⌝ }
-    ensures { λ r. ⌜ Puts (now (out .entry)) (now (out .exit)) at r (line (textOf (less (sources (rowsOf (now (journal .entry)) used) n) (debits (rowsOf (now (journal .entry)) used) n)))) × (r ≤ at + 21) ⌝ }
+    ensures { λ r. ⌜ Puts (now (out .entry)) (now (out .exit)) at r (line (textOf
+        (minus (sources (rowsOf (now (journal .entry)) used) n) (debits (rowsOf (now (journal .entry)) used) n))))
+        × (r ≤ at + 21) ⌝ }
 {
     let s = sums_of(journal, used, n);
     let next = write_number(out, at, minus(s.sources, s.debits));
@@ -92,9 +96,11 @@ fn write_account(
     x: Account,
 ) -> usize
     requires { ⌜ (at + 63 ≤ length (now out)) × Amounts (now journal) used ⌝ }
-    ensures { λ r. ⌜ ((b : Book) → b .rows ≡ rowsOf (now (journal .entry)) used → Puts (now (out .entry)) (now (out .exit)) at r (accountText b n x)) × (r ≤ at + 63) ⌝ }
+    ensures { λ r. ⌜ ((b : Book) → b .rows ≡ rowsOf (now (journal .entry)) used
+        → Puts (now (out .entry)) (now (out .exit)) at r (accountText b n x))
+        × (r ≤ at + 63) ⌝ }
 {
-    if x.state == UNUSED {
+    if x.state == STATE_UNUSED {
         return at;
     }
     let state = write_field(out, at, n, 44);
@@ -111,8 +117,12 @@ fn write_accounts(
     journal: &[i64],
     used: usize,
 ) -> usize
-    requires { ⌜ (at + count * 63 ≤ length (now out)) × (count * accountWidth ≤ length (now accounts)) × Amounts (now journal) used ⌝ }
-    ensures { λ r. ⌜ ((b : Book) → b .rows ≡ rowsOf (now (journal .entry)) used → Puts (now (out .entry)) (now (out .exit)) at r (gather (accountText b) (accountsOf (now (accounts .entry)) count))) × (r ≤ at + count * 63) ⌝ }
+    requires { ⌜ (at + count * 63 ≤ length (now out))
+        × (count * accountWidth ≤ length (now accounts))
+        × Amounts (now journal) used ⌝ }
+    ensures { λ r. ⌜ ((b : Book) → b .rows ≡ rowsOf (now (journal .entry)) used → Puts (now (out .entry)) (now (out .exit)) at
+        r (gather (accountText b) (accountsOf (now (accounts .entry)) count)))
+        × (r ≤ at + count * 63) ⌝ }
 {
     let mut to = at;
     let mut i = 0;
@@ -140,9 +150,10 @@ pub fn write_book(
     out: &mut [u8],
     at: usize,
 ) -> usize
-    requires { ⌜ soundTables (tablesAt (now header) (now accounts) (now journal)) ≡ true ⌝ }
-    requires { ⌜ at + 60 + rowsUsed (tablesAt (now header) (now accounts) (now journal)) * 116 + accountsIn (tablesAt (now header) (now accounts) (now journal)) * 63 ≤ length (now out) ⌝ }
-    ensures { λ r. ⌜ Puts (now (out .entry)) (now (out .exit)) at r (bookText (bookOf (tablesAt (now (header .entry)) (now (accounts .entry)) (now (journal .entry))))) ⌝ }
+    requires { ⌜ soundTables (lent header accounts journal) ≡ true ⌝ }
+    requires { ⌜ at + 60 + rowsUsed (lent header accounts journal) * 116 + accountsIn (lent header accounts journal) * 63 ≤
+        length (now out) ⌝ }
+    ensures { λ r. ⌜ Puts (now (out .entry)) (now (out .exit)) at r (bookText (bookOf (atEntry header accounts journal))) ⌝ }
 {
     let used = get(header, USED_PLACE) as usize;
     let rows = write_text(out, at, b"row,account,kind,date,amount,settled\n");

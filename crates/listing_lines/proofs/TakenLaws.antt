@@ -15,14 +15,14 @@ use Rattle.decimal.specs.Decimal.{isNumbers, numbersOf}
 use Rattle.rules.specs.Book.{Book, Instruction, Answer}
 use Rattle.rules.specs.Posting.{post}
 use Rattle.rules.specs.Tables.{Tables, bookOf, tablesOf, wholeRecords, lengthsFit, soundTables}
-use Rattle.rules.specs.Calls.{openRefusals, openedBook, openCall}
+use Rattle.rules.specs.Calls.{openingRefusals, openedBook, openCall}
 use Rattle.rules.proofs.SoundnessLaws.{facts-sound}
 use Rattle.rules.proofs.TableLaws.{sound-book, soundTables-tablesOf}
 use Rattle.rules.proofs.OpeningLaws.{openCall-sound, bookOf-openCall}
 use Rattle.preservation.proofs.SoundKept.{post-keeps-sound}
 use Rattle.preservation.proofs.CallsKept.{bookOf-sound}
 use Rattle.posting.specs.Posts.{Posts}
-use Rattle.opening.specs.Opens.{Opens}
+use Rattle.call_opening.specs.Opens.{Opens}
 use Rattle.listing_rules.specs.Texts.{bytesOf, same, openingNames, eventNames, line, answerText}
 use Rattle.listing_rules.specs.Listing.{listedAccounts, listedRows, listingTables, opens, isGood, posted, bookBy, goodText}
 use Rattle.listing_text.specs.Puts.{Puts}
@@ -95,8 +95,8 @@ unfolding listingTables
 listing-sized = record { header = length-replicate headerWidth (pos 0); accounts = length-replicate (listedAccounts * accountWidth) (pos 0); journal = length-replicate (listedRows * rowWidth) (pos 0) }
 
 -- opening reads nothing of the tables but their lengths
-refusals-sized : (t u : Tables) (w : List ℤ) → Sized t → Sized u → openRefusals t w ≡ openRefusals u w
-unfolding openRefusals lengthsFit wholeRecords
+refusals-sized : (t u : Tables) (w : List ℤ) → Sized t → Sized u → openingRefusals t w ≡ openingRefusals u w
+unfolding openingRefusals lengthsFit wholeRecords
 refusals-sized t u w p q = rw (p .header, p .accounts, p .journal, q .header, q .accounts, q .journal) refl
 
 opened-sized : (t u : Tables) (w : List ℤ) → Sized t → Sized u → openedBook t w ≡ openedBook u w
@@ -109,9 +109,9 @@ unfolding isGood opens
 second-unread l e = rw (← e) refl
 
 module _ (t u : Tables) (l : List ℕ) (w : List ℤ) (n : ℕ) (s : Sized t) (read : isNumbers openingWidth l ≡ true) (e : w ≡ numbersOf l) (o : Opens t u w n) where
-  number-is : n ≡ first (openRefusals listingTables (numbersOf l))
+  number-is : n ≡ first (openingRefusals listingTables (numbersOf l))
   unfolding openCall
-  number-is = o .number ∙ ap first (refusals-sized t listingTables w s listing-sized) ∙ ap (λ (x : List ℤ). first (openRefusals listingTables x)) e
+  number-is = o .number ∙ ap first (refusals-sized t listingTables w s listing-sized) ∙ ap (λ (x : List ℤ). first (openingRefusals listingTables x)) e
 
   second-is : isGood 1 l ≡ n is 0
   unfolding isGood opens

@@ -1,20 +1,19 @@
-// One line of the listing's input, taken: judged, carried out on the book's tables, and its answer written to a lent buffer. Uses lists,
-// records, decimal, rules, listing_rules, listing_text, preservation, tables, posting, opening, events and answering.
-use answering::read_event;
+// One line of the listing's input, taken: judged, carried out on the book's tables, and its answer written to a lent buffer.
+use call_opening::open_book;
+use call_words::read_event;
 use decimal::read_fields;
 use events::post_event;
 use listing_text::same_bytes;
 use listing_text::write_answer;
 use listing_text::write_bad_line;
 use listing_text::write_text;
-use opening::open_book;
-use tables::layout::EVENT_WIDTH;
-use tables::layout::OPENING_WIDTH;
+use records::layout::EVENT_WIDTH;
+use records::layout::OPENING_WIDTH;
 ghost use Prim.Native.Nat.{_+_, _≤_, _<_};
 ghost use lib.ListN.{length};
-ghost use Rattle.rules.specs.Tables.{tablesAt};
 ghost use Rattle.listing_rules.specs.Listing.{mostLines};
 ghost use Rattle.listing_lines.specs.Lines.{Ready, Bad, Taken};
+ghost use Rattle.rules.specs.Lent.{lent, atEntry, atExit};
 
 // Whether a line is good, and where what is printed for it ends.
 pub struct Line {
@@ -43,8 +42,9 @@ fn first_line(
     out: &mut [u8],
     at: usize,
 ) -> Line
-    requires { ⌜ (at + 126 ≤ length (now out)) × Ready 0 (tablesAt (now header) (now accounts) (now journal)) ⌝ }
-    ensures { λ r. ⌜ Taken 0 (tablesAt (now (header .entry)) (now (accounts .entry)) (now (journal .entry))) (tablesAt (now (header .entry)) (now (accounts .entry)) (now (journal .entry))) (now (line .entry)) (now (out .entry)) (now (out .exit)) at r ⌝ }
+    requires { ⌜ (at + 126 ≤ length (now out)) × Ready 0 (lent header accounts journal) ⌝ }
+    ensures { λ r. ⌜ Taken 0 (atEntry header accounts journal) (atEntry header accounts journal) (now (line .entry))
+        (now (out .entry)) (now (out .exit)) at r ⌝ }
 {
     if !same_bytes(line, b"day,len,f2,f3,f4,r1t,r1p,r2t,r2p,r3t,r3p") {
         return bad_line(out, at, 0);
@@ -61,8 +61,9 @@ fn second_line(
     out: &mut [u8],
     at: usize,
 ) -> Line
-    requires { ⌜ (at + 126 ≤ length (now out)) × Ready 1 (tablesAt (now header) (now accounts) (now journal)) ⌝ }
-    ensures { λ r. ⌜ Taken 1 (tablesAt (now (header .entry)) (now (accounts .entry)) (now (journal .entry))) (tablesAt (now (header .exit)) (now (accounts .exit)) (now (journal .exit))) (now (line .entry)) (now (out .entry)) (now (out .exit)) at r ⌝ }
+    requires { ⌜ (at + 126 ≤ length (now out)) × Ready 1 (lent header accounts journal) ⌝ }
+    ensures { λ r. ⌜ Taken 1 (atEntry header accounts journal) (atExit header accounts journal) (now (line .entry))
+        (now (out .entry)) (now (out .exit)) at r ⌝ }
 {
     let mut values = [0i64; 11];
     if !read_fields(line, line.len(), &mut values, OPENING_WIDTH) {
@@ -83,8 +84,9 @@ fn third_line(
     out: &mut [u8],
     at: usize,
 ) -> Line
-    requires { ⌜ (at + 126 ≤ length (now out)) × Ready 2 (tablesAt (now header) (now accounts) (now journal)) ⌝ }
-    ensures { λ r. ⌜ Taken 2 (tablesAt (now (header .entry)) (now (accounts .entry)) (now (journal .entry))) (tablesAt (now (header .entry)) (now (accounts .entry)) (now (journal .entry))) (now (line .entry)) (now (out .entry)) (now (out .exit)) at r ⌝ }
+    requires { ⌜ (at + 126 ≤ length (now out)) × Ready 2 (lent header accounts journal) ⌝ }
+    ensures { λ r. ⌜ Taken 2 (atEntry header accounts journal) (atEntry header accounts journal) (now (line .entry))
+        (now (out .entry)) (now (out .exit)) at r ⌝ }
 {
     if !same_bytes(line, b"kind,account,a,b,c,d,e") {
         return bad_line(out, at, 2);
@@ -106,8 +108,9 @@ fn event_line(
     out: &mut [u8],
     at: usize,
 ) -> Line
-    requires { ⌜ (at + 126 ≤ length (now out)) × (3 ≤ n) × (n < mostLines) × Ready n (tablesAt (now header) (now accounts) (now journal)) ⌝ }
-    ensures { λ r. ⌜ Taken n (tablesAt (now (header .entry)) (now (accounts .entry)) (now (journal .entry))) (tablesAt (now (header .exit)) (now (accounts .exit)) (now (journal .exit))) (now (line .entry)) (now (out .entry)) (now (out .exit)) at r ⌝ }
+    requires { ⌜ (at + 126 ≤ length (now out)) × (3 ≤ n) × (n < mostLines) × Ready n (lent header accounts journal) ⌝ }
+    ensures { λ r. ⌜ Taken n (atEntry header accounts journal) (atExit header accounts journal) (now (line .entry))
+        (now (out .entry)) (now (out .exit)) at r ⌝ }
 {
     let mut values = [0i64; 7];
     if !read_fields(line, line.len(), &mut values, EVENT_WIDTH) {
@@ -132,8 +135,9 @@ pub fn take_line(
     out: &mut [u8],
     at: usize,
 ) -> Line
-    requires { ⌜ (at + 126 ≤ length (now out)) × (n < mostLines) × Ready n (tablesAt (now header) (now accounts) (now journal)) ⌝ }
-    ensures { λ r. ⌜ Taken n (tablesAt (now (header .entry)) (now (accounts .entry)) (now (journal .entry))) (tablesAt (now (header .exit)) (now (accounts .exit)) (now (journal .exit))) (now (line .entry)) (now (out .entry)) (now (out .exit)) at r ⌝ }
+    requires { ⌜ (at + 126 ≤ length (now out)) × (n < mostLines) × Ready n (lent header accounts journal) ⌝ }
+    ensures { λ r. ⌜ Taken n (atEntry header accounts journal) (atExit header accounts journal) (now (line .entry))
+        (now (out .entry)) (now (out .exit)) at r ⌝ }
 {
     match n {
         0 => first_line(header, accounts, journal, line, out, at),

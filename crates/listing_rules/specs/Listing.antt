@@ -12,7 +12,7 @@ use Rattle.decimal.specs.Decimal.{isNumbers, numbersOf}
 use Rattle.rules.specs.Book.{Book}
 use Rattle.rules.specs.Posting.{Posted, post}
 use Rattle.rules.specs.Tables.{Tables, bookOf}
-use Rattle.rules.specs.Calls.{openRefusals, openedBook}
+use Rattle.rules.specs.Calls.{openingRefusals, openedBook}
 use Rattle.listing_rules.specs.Texts.{bytesOf, same, linesOf, openingNames, eventNames, line, answerText, bookText, badLine}
 
 -- "It holds 64 accounts and 512 rows"
@@ -38,7 +38,7 @@ listingTables = record {
 
 -- line 2: "its exact count of signed 64-bit numbers", and the opening takes it
 unfoldable pub opens : List ℕ → Bool
-opens l = isNumbers openingWidth l && first (openRefusals listingTables (numbersOf l)) is 0
+opens l = isNumbers openingWidth l && first (openingRefusals listingTables (numbersOf l)) is 0
 
 -- "A line is bad if it isn't the fixed names, or isn't its exact count of signed 64-bit numbers .., or, for line 2, if the opening
 -- refuses it"

@@ -9,7 +9,7 @@ use Rattle.lists.specs.Tests.{_is_}
 use Rattle.lists.specs.Lists.{gather}
 use Rattle.decimal.specs.Decimal.{digitsOf, textOf, dateText, inFirst}
 use Rattle.rules.specs.Rows.{Row}
-use Rattle.rules.specs.Book.{Account, Answer, Unused, Book, balance}
+use Rattle.rules.specs.Book.{Account, Answer, StateUnused, Book, balance}
 
 -- the bytes of a text
 unfoldable pub bytesOf : String → List ℕ
@@ -62,7 +62,7 @@ rowText n r =
 -- "account,state,balance", of "used accounts" alone
 unfoldable pub accountText : Book → ℕ → Account → List ℕ
 accountText b n x =
-    cond (x .state is Unused) [] (field (digitsOf n) ++ field (digitsOf (x .state)) ++ line (textOf (balance b n)))
+    cond (x .state is StateUnused) [] (field (digitsOf n) ++ field (digitsOf (x .state)) ++ line (textOf (balance b n)))
 
 -- rows, then used accounts, each part with its names before it
 unfoldable pub bookText : Book → List ℕ

@@ -1,2 +1,2 @@
 // What the listing program prints for every input, as a definition that computes, and its laws on an input that comes in parts. No code.
-// Uses lists, records, rules and decimal, and the kit's bytes. Document 01 is the scope document of the toll account ledger.
+// Document 01 is the scope document of the toll account ledger.

@@ -1,5 +1,5 @@
 // The listing, step by step over a buffer of its input: the next line is taken where it is whole, and after the last one the book is
-// printed. Uses decimal, rules, listing_rules, listing_text, listing_input, listing_book and listing_lines, and the kit's bytes.
+// printed.
 use listing_book::write_book;
 use listing_input::line_end;
 use listing_lines::take_line;
@@ -10,12 +10,13 @@ ghost use Prim.Native.Nat.{_+_, _≤_, _<_};
 ghost use lib.ListN.{length};
 ghost use lib.Seq.{slice};
 ghost use Rattle.bytes.specs.Bytes.{indexOf};
-ghost use Rattle.rules.specs.Tables.{tablesAt, bookOf};
+ghost use Rattle.rules.specs.Tables.{bookOf};
 ghost use Rattle.listing_rules.specs.Texts.{linesOf};
 ghost use Rattle.listing_rules.specs.Listing.{mostLines, listed};
 ghost use Rattle.listing_text.specs.Puts.{Puts};
 ghost use Rattle.listing_lines.specs.Lines.{Ready};
 ghost use Rattle.listing_steps.specs.Steps.{Stands, Stepped};
+ghost use Rattle.rules.specs.Lent.{lent, atEntry, atExit};
 
 // Where the listing stands: so many lines are taken; the input's bytes from one place up to another are read and not taken; what is printed
 // ends here in its buffer. It waits where no whole line is left to take, and is over where a bad line has ended the output.
@@ -37,8 +38,10 @@ fn unended_line(
     p: Place,
     out: &mut [u8],
 ) -> Place
-    requires { ⌜ Stands (tablesAt (now header) (now accounts) (now journal)) (now input) (now out) p × (p .to ≡ p .from + indexOf 10 (slice (p .from) (p .to) (now input))) ⌝ }
-    ensures { λ q. ⌜ Stepped (tablesAt (now (header .entry)) (now (accounts .entry)) (now (journal .entry))) (tablesAt (now (header .entry)) (now (accounts .entry)) (now (journal .entry))) (now (input .entry)) (now (out .entry)) (now (out .exit)) p q ⌝ }
+    requires { ⌜ Stands (lent header accounts journal) (now input) (now out) p
+        × (p .to ≡ p .from + indexOf 10 (slice (p .from) (p .to) (now input))) ⌝ }
+    ensures { λ q. ⌜ Stepped (atEntry header accounts journal) (atEntry header accounts journal) (now (input .entry))
+        (now (out .entry)) (now (out .exit)) p q ⌝ }
 {
     if p.to - p.from <= 230 {
         return Place {
@@ -70,8 +73,9 @@ pub fn take_next(
     p: Place,
     out: &mut [u8],
 ) -> Place
-    requires { ⌜ Stands (tablesAt (now header) (now accounts) (now journal)) (now input) (now out) p ⌝ }
-    ensures { λ q. ⌜ Stepped (tablesAt (now (header .entry)) (now (accounts .entry)) (now (journal .entry))) (tablesAt (now (header .exit)) (now (accounts .exit)) (now (journal .exit))) (now (input .entry)) (now (out .entry)) (now (out .exit)) p q ⌝ }
+    requires { ⌜ Stands (lent header accounts journal) (now input) (now out) p ⌝ }
+    ensures { λ q. ⌜ Stepped (atEntry header accounts journal) (atExit header accounts journal) (now (input .entry))
+        (now (out .entry)) (now (out .exit)) p q ⌝ }
 {
     let from = p.from;
     let to = p.to;
@@ -107,8 +111,9 @@ fn write_end(
     out: &mut [u8],
     at: usize,
 ) -> usize
-    requires { ⌜ Ready lines (tablesAt (now header) (now accounts) (now journal)) × (at + 63484 ≤ length (now out)) ⌝ }
-    ensures { λ r. ⌜ Puts (now (out .entry)) (now (out .exit)) at r (listed lines (bookOf (tablesAt (now (header .entry)) (now (accounts .entry)) (now (journal .entry)))) []) ⌝ }
+    requires { ⌜ Ready lines (lent header accounts journal) × (at + 63484 ≤ length (now out)) ⌝ }
+    ensures { λ r. ⌜ Puts (now (out .entry)) (now (out .exit)) at r
+        (listed lines (bookOf (atEntry header accounts journal)) []) ⌝ }
 {
     if lines < 3 {
         return write_bad_line(out, at, lines + 1);
@@ -126,8 +131,12 @@ pub fn write_rest(
     lines: u64,
     out: &mut [u8],
 ) -> usize
-    requires { ⌜ Ready lines (tablesAt (now header) (now accounts) (now journal)) × (indexOf 10 (now rest) ≡ length (now rest)) × (63610 ≤ length (now out)) × (lines < mostLines) ⌝ }
-    ensures { λ r. ⌜ Puts (now (out .entry)) (now (out .exit)) 0 r (listed lines (bookOf (tablesAt (now (header .entry)) (now (accounts .entry)) (now (journal .entry)))) (linesOf (now (rest .entry)))) ⌝ }
+    requires { ⌜ Ready lines (lent header accounts journal)
+        × (indexOf 10 (now rest) ≡ length (now rest))
+        × (63610 ≤ length (now out))
+        × (lines < mostLines) ⌝ }
+    ensures { λ r. ⌜ Puts (now (out .entry)) (now (out .exit)) 0 r
+        (listed lines (bookOf (atEntry header accounts journal)) (linesOf (now (rest .entry)))) ⌝ }
 {
     if rest.len() == 0 {
         return write_end(header, accounts, journal, lines, out, 0);

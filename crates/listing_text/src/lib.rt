@@ -1,5 +1,5 @@
-// The lines that the listing prints, written to a lent buffer: fields and names, an event's answer, a bad line; and whether a line that is
-// read has given bytes. Uses lists, records, decimal and listing_rules, and the kit's bytes.
+// The lines that the listing prints, written to a lent buffer: fields and names, an event's answer, a bad line; and whether a line that
+// is read has given bytes.
 use decimal::write_digits;
 use records::Answer;
 ghost use mathlib.Core.Path.{_≡_};

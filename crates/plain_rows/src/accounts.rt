@@ -1,14 +1,14 @@
 // An account's words as they are.
 use super::get_bits;
 use records::Account;
-use tables::layout::ACCOUNT_WIDTH;
-use tables::layout::DECLINED_PLACE;
-use tables::layout::DECLINES_PLACE;
-use tables::layout::REQUEST_PLACE;
-use tables::layout::RETURNED_PLACE;
-use tables::layout::STATE_PLACE;
-use tables::layout::THRESHOLD_PLACE;
-use tables::layout::TOP_UP_PLACE;
+use records::layout::ACCOUNT_WIDTH;
+use records::layout::DECLINED_PLACE;
+use records::layout::DECLINES_PLACE;
+use records::layout::REQUEST_PLACE;
+use records::layout::RETURNED_PLACE;
+use records::layout::STATE_PLACE;
+use records::layout::THRESHOLD_PLACE;
+use records::layout::TOPUP_PLACE;
 ghost use Rattle.records.specs.Encoding.{accountAt};
 ghost use Rattle.tables.specs.Changes.{AccountIn};
 ghost use Rattle.plain_rows.specs.Alike.{AlikeAccount};
@@ -24,7 +24,7 @@ pub fn plain_account(accounts: &[i64], i: usize) -> Account
         request: get_bits(accounts, p + REQUEST_PLACE),
         returned: get_bits(accounts, p + RETURNED_PLACE),
         threshold: get_bits(accounts, p + THRESHOLD_PLACE),
-        topup: get_bits(accounts, p + TOP_UP_PLACE),
+        topup: get_bits(accounts, p + TOPUP_PLACE),
         declines: get_bits(accounts, p + DECLINES_PLACE),
         declined: get_bits(accounts, p + DECLINED_PLACE),
     }

@@ -1,19 +1,19 @@
 // A row's or an account's words read for a pass over a whole table: as they are, where each is tested against a limit that no negative
-// word meets, and as a plain number, where it is known to be one. Both cost nothing beside the read. Uses lists, records, rules and tables.
+// word meets, and as a plain number, where it is known to be one. Both cost nothing beside the read.
 pub mod accounts; // accounts.rt: an account's words
 
 use records::Row;
-use tables::layout::ACCOUNT_PLACE;
-use tables::layout::AMOUNT_PLACE;
-use tables::layout::DISPUTE_PLACE;
-use tables::layout::DUE_PLACE;
-use tables::layout::HOLD_PLACE;
-use tables::layout::KIND_PLACE;
-use tables::layout::MARK_PLACE;
-use tables::layout::REFERENCE_PLACE;
-use tables::layout::ROW_DAY_PLACE;
-use tables::layout::ROW_WIDTH;
-use tables::layout::SETTLED_PLACE;
+use records::layout::ACCOUNT_PLACE;
+use records::layout::AMOUNT_PLACE;
+use records::layout::DISPUTE_PLACE;
+use records::layout::DUE_PLACE;
+use records::layout::HOLD_PLACE;
+use records::layout::KIND_PLACE;
+use records::layout::MARK_PLACE;
+use records::layout::REFERENCE_PLACE;
+use records::layout::ROW_DAY_PLACE;
+use records::layout::ROW_WIDTH;
+use records::layout::SETTLED_PLACE;
 ghost use mathlib.Core.Path.{_≡_};
 ghost use Prim.Native.Nat.{_^_, _<_};
 ghost use lib.ListN.{length};

@@ -9,11 +9,11 @@ use lib.ListN.{length, getD, List·getD-eq-default}
 use Rattle.records.specs.Layout.{dayPlace, headerSchedule, stagePlace, rowWidth}
 use Rattle.records.specs.Encoding.{word, rowAt, rowsOf, accountsOf, StorableRow, StorableAccount}
 use Rattle.lists.proofs.ListLaws.{tabulate-at}
-use Rattle.rules.specs.Limits.{finalDay, mostAccounts, mostRows, longestStage, highestRefund}
+use Rattle.records.specs.Limits.{finalDay, mostAccounts, mostRows, longestStage, highestRefund}
 use Rattle.rules.specs.Rows.{blank, rowNo}
 use Rattle.rules.specs.Book.{unused, account, accountNo, row}
 use Rattle.rules.specs.Tables.{Tables, accountsIn, roomIn, rowsUsed, scheduleFrom, bookOf, soundTables}
-use Rattle.rules.proofs.SoundnessLaws.{Near}
+use Rattle.rules.specs.SoundFacts.{Near}
 use Rattle.rules.proofs.StorableLaws.{day-le, stage-le, accounts-le, room-le, row-storable, account-storable, amount-le}
 use Rattle.rules.proofs.TableLaws.{sound-book, sound-rows, length-sound-rows, length-sound-accounts, journal-length, used-le}
 use Rattle.settlement.specs.Settling.{Journal}

@@ -8,7 +8,7 @@ use lib.ListN.{length, set}
 use Rattle.records.specs.Layout.{headerWidth, usedPlace, rowWidth}
 use Rattle.records.specs.Encoding.{word, rowAt}
 use Rattle.lists.specs.Tests.{_is_}
-use Rattle.rules.specs.Limits.{mostRows, highestRefund}
+use Rattle.records.specs.Limits.{mostRows, highestRefund}
 use Rattle.rules.specs.Rows.{Row}
 use Rattle.rules.specs.Book.{Instruction, Answer}
 use Rattle.rules.specs.Posting.{post}

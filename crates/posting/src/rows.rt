@@ -1,8 +1,8 @@
 // A row added to the journal, and the count of used rows with it.
 use records::Row;
+use records::codes::DISPUTE_ENDED;
+use records::layout::USED_PLACE;
 use table_rows::write_row;
-use tables::codes::ENDED;
-use tables::layout::USED_PLACE;
 use tables::words::get;
 use tables::words::put;
 ghost use mathlib.Core.Path.{_≡_};
@@ -47,7 +47,7 @@ pub fn released(r: Row, today: u64) -> Row
 {
     let mut free = r;
     free.due = r.due + (today - r.hold);
-    free.dispute = ENDED;
+    free.dispute = DISPUTE_ENDED;
     free.hold = 0;
     free
 }

@@ -7,11 +7,12 @@ use mathlib.Core.List.{List, [], append-nil}
 use lib.ListN.{length}
 use lib.IntN.{ℤ}
 use borrow.Author.Tests.{le-ltb}
+use Rattle.records.specs.Codes.{EventTick}
 use Rattle.lists.specs.Tests.{_is_}
 use Rattle.lists.specs.Lists.{sumBy, count}
 use Rattle.rules.specs.Book.{Account, Instruction, Book, putAccount}
 use Rattle.rules.specs.Refusals.{changeOf, after, full, ceiling, answerNumber}
-use Rattle.rules.specs.Posting.{newRows, removesTopUp, acceptance}
+use Rattle.rules.specs.Posting.{newRows, removesTopup, acceptance}
 use Rattle.rules.specs.Tables.{Tables, accountsIn, rowsUsed, bookOf, soundTables}
 use Rattle.rules.proofs.StorableLaws.{rows-le}
 use Rattle.rules.proofs.TableLaws.{sound-book, accounts-length}
@@ -41,7 +42,7 @@ module _ (b : Book) (e : Instruction) (c : changeOf (e .kind) b e .rows ≡ b .r
   never-above = no-ceiling b e (b .rows) [] (c ∙ sym (append-nil (b .rows))) refl refl
 
   -- the answer: no new row, no toll raised
-  pub acceptance-rowless : e .kind is 9 ≡ false → acceptanceOf (length (b .rows)) 0 0 (cond (removesTopUp b e) 1 0) ≡ acceptance b e
+  pub acceptance-rowless : e .kind is EventTick ≡ false → acceptanceOf (length (b .rows)) 0 0 (cond (removesTopup b e) 1 0) ≡ acceptance b e
   unfolding acceptance newRows
   acceptance-rowless k =
       let z : length (b .rows) + 0 - length (b .rows) ≡ 0 = omega arith in
@@ -49,7 +50,7 @@ module _ (b : Book) (e : Instruction) (c : changeOf (e .kind) b e .rows ≡ b .r
 
 -- ---- accepted
 
-module _ (t : Tables) (s : soundTables t ≡ true) (e : Instruction) (k : e .kind is 9 ≡ false) (q : 0 ≡ answerNumber (bookOf t) e) where
+module _ (t : Tables) (s : soundTables t ≡ true) (e : Instruction) (k : e .kind is EventTick ≡ false) (q : 0 ≡ answerNumber (bookOf t) e) where
   -- the account that the event names is one of the table's
   pub named-inside : (1 ≤ e .account) × (e .account ≤ accountsIn t)
   named-inside =
@@ -62,7 +63,7 @@ module _ (t : Tables) (s : soundTables t ≡ true) (e : Instruction) (k : e .kin
   -- it becomes x, and nothing else changes
   pub account-posts : (x : Account) → changeOf (e .kind) (bookOf t) e ≡ putAccount (e .account) x (bookOf t)
       → (acc : List ℤ) → AccountChanged (t .accounts) acc (e .account - 1) x
-      → Posts t (tablesAt (t .header) acc (t .journal)) e (acceptanceOf (rowsUsed t) 0 0 (cond (removesTopUp (bookOf t) e) 1 0))
+      → Posts t (tablesAt (t .header) acc (t .journal)) e (acceptanceOf (rowsUsed t) 0 0 (cond (removesTopup (bookOf t) e) 1 0))
   account-posts x c acc w =
       posts-accepted t (tablesAt (t .header) acc (t .journal)) s e _ q (acceptance-rowless (bookOf t) e (rw c) k)
       (rw (after-account t s e (e .account) x c) (account-written t s acc (e .account) x w (omega (arith, named-inside .0, named-inside .1))))

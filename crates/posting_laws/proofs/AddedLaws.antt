@@ -8,6 +8,7 @@ use mathlib.Core.List.{List, [], _∷_, _++_}
 use lib.ListN.{length, length-set, length-append}
 use lib.IntN.{ℤ}
 use borrow.Author.Tests.{eq-eqb}
+use Rattle.records.specs.Codes.{EventTick}
 use Rattle.records.specs.Layout.{dayPlace, usedPlace, headerSchedule}
 use Rattle.records.specs.Encoding.{word, rowAt, rowsOf, accountsOf}
 use Rattle.lists.specs.Tests.{_is_}
@@ -15,7 +16,7 @@ use Rattle.rules.specs.Rows.{Row}
 use Rattle.rules.specs.Settlement.{settle}
 use Rattle.rules.specs.Book.{Account, Instruction, Answer, Book}
 use Rattle.rules.specs.Refusals.{after, answerNumber}
-use Rattle.rules.specs.Posting.{newRows, removesTopUp, acceptance, refusalBy}
+use Rattle.rules.specs.Posting.{newRows, removesTopup, acceptance, refusalBy}
 use Rattle.rules.specs.Tables.{Tables, accountsIn, roomIn, rowsUsed, scheduleFrom, bookOf, soundTables}
 use Rattle.rules.proofs.PostingLaws.{post-refused, post-accepted}
 use Rattle.rules.proofs.SettlementLaws.{length-settle}
@@ -27,12 +28,13 @@ use Rattle.settlement.specs.Settling.{Journal, Settled}
 use Rattle.posting.specs.Posts.{tablesAt, acceptanceOf, RowAdded, Posts}
 use Rattle.posting.proofs.BookLaws.{day-read, used-read, room-read, schedule-read, journal-settles}
 use Rattle.posting_laws.proofs.HeaderLaws.{schedule-same}
-use Rattle.posting_laws.proofs.WrittenLaws.{Written, tables-written}
+use Rattle.posting.specs.Written.{Written}
+use Rattle.posting_laws.proofs.WrittenLaws.{tables-written}
 
 -- ---- the answer
 
 -- an event that is neither a tick nor a third decline
-pub acceptance-plain : (b : Book) (e : Instruction) (n : ℕ) → length (after b e .rows) ≡ length (b .rows) + n → e .kind is 9 ≡ false → removesTopUp b e ≡ false
+pub acceptance-plain : (b : Book) (e : Instruction) (n : ℕ) → length (after b e .rows) ≡ length (b .rows) + n → e .kind is EventTick ≡ false → removesTopup b e ≡ false
     → acceptanceOf (length (b .rows)) n 0 0 ≡ acceptance b e
 unfolding acceptance newRows
 acceptance-plain b e n l k r =

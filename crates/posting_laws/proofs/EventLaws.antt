@@ -8,9 +8,10 @@ use lib.ListN.{length, length-set}
 use lib.IntN.{ℤ}
 use lib.Dec.{leb}
 use borrow.Author.Tests.{leb-true, not-false}
+use Rattle.records.specs.Codes.{EventOpen, EventTick}
 use Rattle.lists.specs.Tests.{_is_, _from_to_}
 use Rattle.lists.proofs.TestLaws.{and-left, and-right, or-left}
-use Rattle.rules.specs.Book.{Account, Instruction, Unused, Book, account, putAccount}
+use Rattle.rules.specs.Book.{Account, Instruction, StateUnused, Book, account, putAccount}
 use Rattle.rules.specs.Refusals.{changeOf, after, unknown}
 use Rattle.rules.specs.Tables.{Tables, accountsIn, bookOf, soundTables}
 use Rattle.rules.proofs.TableLaws.{sound-book, sound-rows}
@@ -19,15 +20,15 @@ use Rattle.tables.specs.Changes.{AccountChanged}
 use Rattle.tables.proofs.ChangeLaws.{changed-accounts}
 use Rattle.posting.specs.Posts.{tablesAt}
 use Rattle.posting.proofs.BookLaws.{day-read, used-read, room-read, schedule-read}
-use Rattle.posting_laws.proofs.WrittenLaws.{Written}
+use Rattle.posting.specs.Written.{Written}
 
 -- ---- the account that an event other than a tick names is one of the table's, where refusal 3 does not apply
 
-pub known-inside : (b : Book) (e : Instruction) → e .kind is 9 ≡ false → unknown b e ≡ false → (1 ≤ e .account) × (e .account ≤ length (b .accounts))
+pub known-inside : (b : Book) (e : Instruction) → e .kind is EventTick ≡ false → unknown b e ≡ false → (1 ≤ e .account) × (e .account ≤ length (b .accounts))
 unfolding unknown
 known-inside b e k u =
     let n : ℕ = e .account in
-    let i : n from 1 to length (b .accounts) ≡ true = not-false _ (or-left _ (not (e .kind is 1) && account b n .state is Unused) (rw k at u)) in (
+    let i : n from 1 to length (b .accounts) ≡ true = not-false _ (or-left _ (not (e .kind is EventOpen) && account b n .state is StateUnused) (rw k at u)) in (
       leb-true 1 n (and-left (leb 1 n) (leb n (length (b .accounts))) i),
       leb-true n (length (b .accounts)) (and-right (leb 1 n) (leb n (length (b .accounts))) i),
     )

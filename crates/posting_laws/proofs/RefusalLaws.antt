@@ -11,8 +11,8 @@ use borrow.Author.Tests.{le-leb, lt-ltb, le-ltb}
 use Rattle.lists.specs.Tests.{_is_, _from_to_}
 use Rattle.lists.specs.Lists.{sumBy, count, exists}
 use Rattle.lists.proofs.SumLaws.{sumBy-ext, sumBy-map}
-use Rattle.rules.specs.Limits.{highestRefund}
-use Rattle.rules.specs.Rows.{Row, Refund, Test}
+use Rattle.records.specs.Limits.{highestRefund}
+use Rattle.rules.specs.Rows.{Row, KindRefund, Test}
 use Rattle.rules.specs.Settlement.{settleAccounts}
 use Rattle.rules.specs.Book.{Instruction, Book, account, settled}
 use Rattle.rules.specs.Refusals.{changeOf, after, ceiling}
@@ -64,10 +64,10 @@ module _ (b : Book) (e : Instruction) (base more : List Row) (c : changeOf (e .k
   length-after = length-settleAccounts _ _ ∙ rw (c, length-append base more, l)
 
   -- no row added is a refund
-  pub no-ceiling : count (λ r. r .kind is Refund && ltb highestRefund (r .amount)) more ≡ 0 → ceiling b e ≡ false
+  pub no-ceiling : count (λ r. r .kind is KindRefund && ltb highestRefund (r .amount)) more ≡ 0 → ceiling b e ≡ false
   unfolding ceiling after settled exists
   no-ceiling z =
-      let t : Test = λ r. r .kind is Refund && ltb highestRefund (r .amount) in
+      let t : Test = λ r. r .kind is KindRefund && ltb highestRefund (r .amount) in
       let rows : List Row = changeOf (e .kind) b e .rows in
       let n : ℕ = length (changeOf (e .kind) b e .accounts) in
       let q : map bare (drop (length (b .rows)) (settleAccounts n rows)) ≡ map bare (drop (length (b .rows)) rows) =

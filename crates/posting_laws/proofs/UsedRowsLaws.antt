@@ -25,17 +25,7 @@ use Rattle.settlement.specs.Settling.{Journal, Settled}
 use Rattle.posting.specs.Posts.{tablesAt, RowRoom, RowAdded}
 use Rattle.posting.proofs.BookLaws.{row-holds}
 use Rattle.posting_laws.proofs.HeaderLaws.{schedule-same}
-use Rattle.posting_laws.proofs.WrittenLaws.{Written}
-
--- h and j are t's header and journal, but with just these rows used
-pub record UsedRows (t : Tables) (h j : List ℤ) (rs : List Row) : Type 0 where
-  pub header-size : length h ≡ length (t .header)
-  pub used : word h usedPlace ≡ length rs
-  pub words : (k : ℕ) → k ≢ usedPlace → word h k ≡ word (t .header) k
-  pub journal-size : length j ≡ length (t .journal)
-  pub rows : rowsOf j (length rs) ≡ rs
-  pub longer : rowsUsed t ≤ length rs
-  pub rest : (k : ℕ) → length rs ≤ k → rowAt j k ≡ rowAt (t .journal) k
+use Rattle.posting.specs.Written.{Written, UsedRows}
 
 -- each amount is one that a word holds
 abbrev pub SmallAmounts : List Row → Type 0

@@ -20,20 +20,7 @@ use Rattle.rules.specs.Tables.{Tables, accountsIn, roomIn, rowsUsed, scheduleFr
 use Rattle.rules.proofs.SoundnessLaws.{sound-facts}
 use Rattle.rules.proofs.StorableLaws.{rows-le}
 use Rattle.rules.proofs.TableLaws.{tablesOf-bookOf, sound-part}
-
--- u holds the book b where t held a book of no more rows
-pub record Written (t u : Tables) (b : Book) : Type 0 where
-  pub header-size : length (u .header) ≡ length (t .header)
-  pub accounts-size : length (u .accounts) ≡ length (t .accounts)
-  pub journal-size : length (u .journal) ≡ length (t .journal)
-  pub day : word (u .header) dayPlace ≡ b .day
-  pub used : word (u .header) usedPlace ≡ length (b .rows)
-  pub schedule : scheduleFrom (u .header) headerSchedule ≡ b .schedule
-  pub accounts : accountsOf (u .accounts) (accountsIn t) ≡ b .accounts
-  pub rows : rowsOf (u .journal) (length (b .rows)) ≡ b .rows
-  pub room : b .room ≡ roomIn t
-  pub longer : rowsUsed t ≤ length (b .rows)
-  pub rest : (k : ℕ) → length (b .rows) ≤ k → rowAt (u .journal) k ≡ rowAt (t .journal) k
+use Rattle.posting.specs.Written.{Written}
 
 -- ---- two tables with the same row have the same words there
 

@@ -6,15 +6,16 @@ use native.Mathlib.Omega.{arith}
 use lib.ListN.{length}
 use lib.Dec.{eqb, leb}
 use borrow.Author.Tests.{le-leb, eqb-true, not-false}
+use Rattle.records.specs.Codes.{EventOpen, EventCloseRequest}
 use Rattle.records.specs.AccountOperations.{opened, closeRequestedOn}
 use Rattle.lists.specs.Tests.{_is_, _from_to_, _implies_}
 use Rattle.lists.proofs.TestLaws.{and-left, and-right}
-use Rattle.rules.specs.Limits.{highestTopUp}
+use Rattle.records.specs.Limits.{highestTopup}
 use Rattle.rules.specs.Book.{Account, Instruction, Book, account}
 use Rattle.rules.specs.Events.{openAccount, requestClose}
-use Rattle.rules.specs.Soundness.{stateFits, unusedZero, requestFits, topUpFits, declineFits, returnedFits, even, closedClear}
+use Rattle.rules.specs.Soundness.{stateFits, unusedZero, requestFits, topupFits, declineFits, returnedFits, usedIsPaid, closedClear}
 use Rattle.rules.specs.Refusals.{changeOf, wellFormed, formOf, openForm, unknown, taken}
-use Rattle.rules.proofs.SoundnessLaws.{Standing, Counted, Near}
+use Rattle.rules.specs.SoundFacts.{Standing, SumsFit, Near}
 use Rattle.preservation.proofs.Accepted.{Accepted}
 use Rattle.preservation.proofs.LookupLaws.{today-fits, standing-of, counted-of, near-putAccount, inside}
 
@@ -46,10 +47,10 @@ module _ (b : Book) (n a m c d x : ℕ) where
         eqb-true (y .returned) 0 (and-right p1 p2 (and-left (p1 && p2) p3 (and-left (p1 && p2 && p3) p4 (and-left (p1 && p2 && p3 && p4) p5 (and-left (p1 && p2 && p3 && p4 && p5) (y .declined is 0) z)))))
 
     standing : Standing (b .day) (opened a m)
-    unfolding stateFits unusedZero requestFits topUpFits declineFits wellFormed formOf openForm
+    unfolding stateFits unusedZero requestFits topupFits declineFits wellFormed formOf openForm
     standing =
-        let p1 : Bool = leb a highestTopUp in
-        let p2 : Bool = leb m highestTopUp in
+        let p1 : Bool = leb a highestTopup in
+        let p2 : Bool = leb m highestTopup in
         let p3 : Bool = m is 0 implies a is 0 in
         let form = and-left (p1 && p2 && p3) _ (not-false _ (q .formed)) in
         let two = and-left (p1 && p2) p3 form in
@@ -65,11 +66,11 @@ module _ (b : Book) (n a m c d x : ℕ) where
         together true e = rw e
         together false e = refl
 
-    counted : Counted (b .rows) n (opened a m)
-    unfolding returnedFits even closedClear
-    counted = let v = counted-of (b .day) b s n in-table in record { returned = rw was-zero at (v .returned); even = v .even; clear = refl }
+    counted : SumsFit (b .rows) n (opened a m)
+    unfolding returnedFits usedIsPaid closedClear
+    counted = let v = counted-of (b .day) b s n in-table in record { returned = rw was-zero at (v .returned); used-is-paid = v .used-is-paid; clear = refl }
 
-    pub openAccount-near : Near (b .day) (changeOf 1 b event1)
+    pub openAccount-near : Near (b .day) (changeOf EventOpen b event1)
     unfolding changeOf openAccount
     openAccount-near = near-putAccount (b .day) b s n (opened a m) in-table refl standing counted
 
@@ -79,12 +80,12 @@ module _ (b : Book) (n a m c d x : ℕ) where
   abbrev event8 : Instruction
   event8 = record { kind = 8; account = n; a = a; b = m; c = c; d = d; e = x }
 
-  pub requestClose-near : Near (b .day) b → Accepted b event8 → Near (b .day) (changeOf 8 b event8)
-  unfolding changeOf requestClose unknown stateFits unusedZero requestFits topUpFits declineFits returnedFits even closedClear
+  pub requestClose-near : Near (b .day) b → Accepted b event8 → Near (b .day) (changeOf EventCloseRequest b event8)
+  unfolding changeOf requestClose unknown stateFits unusedZero requestFits topupFits declineFits returnedFits usedIsPaid closedClear
   requestClose-near s q =
       let in-table : n from 1 to length (b .accounts) ≡ true = inside n (length (b .accounts)) _ (q .known) in
       let v = standing-of (b .day) b s n in-table in
       let w = counted-of (b .day) b s n in-table in
       near-putAccount (b .day) b s n (closeRequestedOn (b .day) (account b n)) in-table refl
       (record { state = refl; zero = refl; request = today-fits (b .day) b s; topup = v .topup; decline = v .decline })
-      (record { returned = w .returned; even = w .even; clear = refl })
+      (record { returned = w .returned; used-is-paid = w .used-is-paid; clear = refl })

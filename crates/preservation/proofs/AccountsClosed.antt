@@ -12,14 +12,14 @@ use Rattle.records.specs.AccountOperations.{closed}
 use Rattle.lists.specs.Lists.{count, one, change}
 use Rattle.lists.proofs.TestLaws.{and-left, and-both}
 use Rattle.lists.proofs.GatherLaws.{gather-each, length-change, change-at, grown-each}
-use Rattle.rules.specs.Limits.{finalDay, highestRefund}
-use Rattle.rules.specs.Rows.{Row, Test, Refund, blank, newRow, withSettled, settleWhole, source, feeNaming}
+use Rattle.records.specs.Limits.{finalDay, highestRefund}
+use Rattle.rules.specs.Rows.{Row, Test, KindRefund, blank, newRow, withSettled, settleWhole, source, feeNaming}
 use Rattle.rules.specs.Settlement.{money}
 use Rattle.rules.specs.Book.{Account, unused, Book, account, accountNo}
 use Rattle.rules.specs.Opening.{dayFits}
 use Rattle.rules.specs.Tick.{closes, closeIf, refundRow, useUp, closeAccounts}
 use Rattle.rules.specs.Soundness.{kindFits, mostOf, amountFits, settledFits, markFits, tollWordsFit, noReference, rowDayFits, dueWithin, holdFits, accountUsed, names, referenceFits, passage, passageOnce, feesFit}
-use Rattle.rules.proofs.SoundnessLaws.{Shape, Live, Near}
+use Rattle.rules.specs.SoundFacts.{Shape, Live, Near}
 use Rattle.preservation.proofs.CarriedLaws.{carries-grown, reference-carried}
 use Rattle.rules.proofs.StorableLaws.{settled-le}
 use Rattle.preservation.proofs.ClosingLaws.{whole-live, keeps, up-blank, refunds, refund, same-closed, rows′, closing, counted-closed, standing-closed}
@@ -55,7 +55,7 @@ module _ (b : Book) where
       still : referenceFits (b .rows) m (useUp b r) ≡ referenceFits (b .rows) m r
       still = unfold referenceFits names in keeps b (referenceFits (b .rows) m) (λ x v. refl) r
 
-  count-closed : (t : Test) → ((r : Row) (v : ℕ) → t (withSettled v r) ≡ t r) → ((m i : ℕ) → t (settleWhole (newRow Refund m (b .day) i)) ≡ false) → count t (rows′ b) ≡ count t (b .rows)
+  count-closed : (t : Test) → ((r : Row) (v : ℕ) → t (withSettled v r) ≡ t r) → ((m i : ℕ) → t (settleWhole (newRow KindRefund m (b .day) i)) ≡ false) → count t (rows′ b) ≡ count t (b .rows)
   unfolding count
   count-closed t f z = same-closed b (λ r. cond (t r) 1 0) (λ r v. rw (f r v)) (λ m i. rw (z m i))
 

@@ -11,7 +11,7 @@ use Rattle.records.specs.Layout.{eventWidth, answerWidth}
 use Rattle.records.specs.Encoding.{instructionOf, instructionFrom}
 use Rattle.lists.specs.Tests.{first}
 use Rattle.lists.proofs.TestLaws.{allOf-at}
-use Rattle.rules.specs.Limits.{mostEvents}
+use Rattle.records.specs.Limits.{mostEvents}
 use Rattle.rules.specs.Book.{Instruction, Book}
 use Rattle.rules.specs.Soundness.{sound}
 use Rattle.rules.specs.Posting.{post, bookAfter}

@@ -13,7 +13,7 @@ use Rattle.lists.proofs.GatherLaws.{grown-at}
 use Rattle.rules.specs.Rows.{Row, blank, rowNo}
 use Rattle.rules.specs.Book.{Account}
 use Rattle.rules.specs.Soundness.{names, referenceFits, passageOnce, feesFit}
-use Rattle.rules.proofs.SoundnessLaws.{Shape}
+use Rattle.rules.specs.SoundFacts.{Shape}
 use Rattle.lists.proofs.ListLaws.{map-at}
 
 -- the second list of rows has those of the first under their numbers, with their kind and account

@@ -15,14 +15,14 @@ use Rattle.lists.specs.Lists.{sumBy, only, count, exists, one, gather}
 use Rattle.lists.proofs.TestLaws.{and-left, and-right, and-both, cond-zero}
 use Rattle.lists.proofs.SumLaws.{sumBy-ext, sumBy-zero}
 use Rattle.lists.proofs.GatherLaws.{gather-none, gather-only, sumBy-grown}
-use Rattle.rules.specs.Limits.{closingDays}
-use Rattle.rules.specs.Rows.{Row, Test, Refund, blank, newRow, withSettled, remaining, settleWhole, source, debit, unsettled, sourceOf, debitOf}
+use Rattle.records.specs.Limits.{closingDays}
+use Rattle.rules.specs.Rows.{Row, Test, KindRefund, blank, newRow, withSettled, remaining, settleWhole, source, debit, unsettled, sourceOf, debitOf}
 use Rattle.rules.specs.Settlement.{money, used, paid, owed}
 use Rattle.rules.specs.Book.{Account, unused, Book, account}
 use Rattle.rules.specs.Tick.{closes, closeIf, refundRow, useUp}
-use Rattle.rules.specs.Soundness.{settledFits, dueWithin, holdFits, returnedOf, returnedFits, even, closedClear, stateFits, unusedZero, requestFits, topUpFits, declineFits}
+use Rattle.rules.specs.Soundness.{settledFits, dueWithin, holdFits, returnedOf, returnedFits, usedIsPaid, closedClear, stateFits, unusedZero, requestFits, topupFits, declineFits}
 use Rattle.rules.proofs.SettlementLaws.{kinds-apart}
-use Rattle.rules.proofs.SoundnessLaws.{Live, Standing, Counted}
+use Rattle.rules.specs.SoundFacts.{Live, Standing, SumsFit}
 
 -- ---- sums
 
@@ -92,7 +92,7 @@ module _ (b : Book) where
   refunds = gather (refundRow b) (b .accounts)
 
   abbrev pub refund : ℕ → Row
-  refund n = settleWhole (newRow Refund n (b .day) (money n (b .rows)))
+  refund n = settleWhole (newRow KindRefund n (b .day) (money n (b .rows)))
 
   refund-zero : (g : Row → ℕ) (n : ℕ) (x : Account) → (closes b n x ≡ true → g (refund n) ≡ 0) → sumBy g (refundRow b n x) ≡ 0
   unfolding sumBy refundRow
@@ -103,11 +103,11 @@ module _ (b : Book) where
       go true false f = refl
       go false u f = refl
 
-  none-refunded : (g : Row → ℕ) → ((n m : ℕ) → g (settleWhole (newRow Refund n (b .day) m)) ≡ 0) → sumBy g refunds ≡ 0
+  none-refunded : (g : Row → ℕ) → ((n m : ℕ) → g (settleWhole (newRow KindRefund n (b .day) m)) ≡ 0) → sumBy g refunds ≡ 0
   none-refunded g z = gather-none (refundRow b) g 1 (b .accounts) unused (λ n k e l. refund-zero g n (getD (b .accounts) k unused) (λ q. z n (money n (b .rows))))
 
   -- a sum that does not look at the part settled, and to which no refund adds
-  pub same-closed : (g : Row → ℕ) → ((r : Row) (v : ℕ) → g (withSettled v r) ≡ g r) → ((n m : ℕ) → g (settleWhole (newRow Refund n (b .day) m)) ≡ 0)
+  pub same-closed : (g : Row → ℕ) → ((r : Row) (v : ℕ) → g (withSettled v r) ≡ g r) → ((n m : ℕ) → g (settleWhole (newRow KindRefund n (b .day) m)) ≡ 0)
       → sumBy g (map (useUp b) (b .rows) ++ refunds) ≡ sumBy g (b .rows)
   same-closed g f z =
       sumBy-grown (useUp b) blank up-blank (b .rows) refunds g
@@ -162,7 +162,7 @@ module _ (b : Book) where
   abbrev pub rows′ : List Row
   rows′ = map (useUp b) (b .rows) ++ refunds
 
-  no-source : (f : Row → ℕ) (n m k : ℕ) → only (sourceOf n) f (settleWhole (newRow Refund m (b .day) k)) ≡ 0
+  no-source : (f : Row → ℕ) (n m k : ℕ) → only (sourceOf n) f (settleWhole (newRow KindRefund m (b .day) k)) ≡ 0
   unfolding only sourceOf
   no-source f n m k = rw (and-false (eqb m n))
 
@@ -241,30 +241,30 @@ module _ (b : Book) where
         let a2 : Bool = leb (x .request + closingDays) (b .day) in
         (eqb-true (x .state) 2 (and-left a1 a2 (and-left (a1 && a2) _ e)), none-owed n (b .rows) (and-right (a1 && a2) _ e))
 
-    pub counted-closed : Counted (b .rows) n (getD (b .accounts) k unused) → Counted rows′ n (closeIf b n (getD (b .accounts) k unused))
-    unfolding closeIf returnedFits even closedClear returnedOf count
+    pub counted-closed : SumsFit (b .rows) n (getD (b .accounts) k unused) → SumsFit rows′ n (closeIf b n (getD (b .accounts) k unused))
+    unfolding closeIf returnedFits usedIsPaid closedClear returnedOf count
     counted-closed s = go c refl
       where
         ret : sumBy (λ r. cond (returnedOf n r) 1 0) rows′ ≡ sumBy (λ r. cond (returnedOf n r) 1 0) (b .rows)
         ret = same-closed (λ r. cond (returnedOf n r) 1 0) (λ r v. refl) (λ m i. rw (and-false (eqb m n)))
 
         ev : eqb (used n rows′) (paid n rows′) ≡ true
-        ev = eq-eqb (used n rows′) (paid n rows′) (used-closed ∙ ap (λ (m : ℕ). m + cond c (money n (b .rows)) 0) (eqb-true (used n (b .rows)) (paid n (b .rows)) (s .even)) ∙ sym paid-closed)
+        ev = eq-eqb (used n rows′) (paid n rows′) (used-closed ∙ ap (λ (m : ℕ). m + cond c (money n (b .rows)) 0) (eqb-true (used n (b .rows)) (paid n (b .rows)) (s .used-is-paid)) ∙ sym paid-closed)
 
-        go : (t : Bool) → c ≡ t → Counted rows′ n (cond t (closed (getD (b .accounts) k unused)) (getD (b .accounts) k unused))
+        go : (t : Bool) → c ≡ t → SumsFit rows′ n (cond t (closed (getD (b .accounts) k unused)) (getD (b .accounts) k unused))
         go true e = record {
           returned = rw ret (s .returned);
-          even = ev;
+          used-is-paid = ev;
           clear = rw (money-closed, e, owed-closed, closing e .1);
         }
         go false e = record {
           returned = rw ret (s .returned);
-          even = ev;
+          used-is-paid = ev;
           clear = rw (money-closed, e, owed-closed) (s .clear);
         }
 
     pub standing-closed : Standing (b .day) (getD (b .accounts) k unused) → Standing (b .day) (closeIf b n (getD (b .accounts) k unused))
-    unfolding closeIf stateFits unusedZero requestFits topUpFits declineFits
+    unfolding closeIf stateFits unusedZero requestFits topupFits declineFits
     standing-closed s = go c refl
       where
         go : (t : Bool) → c ≡ t → Standing (b .day) (cond t (closed (getD (b .accounts) k unused)) (getD (b .accounts) k unused))

@@ -6,14 +6,15 @@ use native.Mathlib.Omega.{arith}
 use mathlib.Core.List.{List}
 use lib.Dec.{eqb, leb, ltb}
 use borrow.Author.Tests.{leb-true, le-leb, ltb-true, lt-ltb, eqb-true, not-false}
+use Rattle.records.specs.Codes.{EventDispute}
 use Rattle.lists.specs.Tests.{_implies_}
 use Rattle.lists.proofs.TestLaws.{and-left, and-right, or-left, or-right}
-use Rattle.rules.specs.Rows.{Row, Toll, heldToll, unsettled}
+use Rattle.rules.specs.Rows.{Row, KindToll, heldToll, unsettled}
 use Rattle.rules.specs.Book.{Account, Instruction, Book, row}
 use Rattle.rules.specs.Events.{holdFrom, holdToll, release, reject}
 use Rattle.rules.specs.Soundness.{kindFits, amountFits, settledFits, markFits, tollWordsFit, noReference, rowDayFits, dueWithin, holdFits, accountUsed, names, referenceFits, passageOnce, feesFit}
 use Rattle.rules.specs.Refusals.{changeOf, noRow, untimely}
-use Rattle.rules.proofs.SoundnessLaws.{Shape, Live, Near}
+use Rattle.rules.specs.SoundFacts.{Shape, Live, Near}
 use Rattle.preservation.proofs.Accepted.{Accepted}
 use Rattle.preservation.proofs.LookupLaws.{day-from, shape-of, live-of, near-putRow, named-kind, named-account}
 
@@ -27,7 +28,7 @@ module _ (b : Book) (n a c d x y : ℕ) where
     abbrev it : Row
     it = row b a
 
-    is-toll : it .kind ≡ Toll
+    is-toll : it .kind ≡ KindToll
     unfolding noRow
     is-toll = named-kind b a n 1 (q .named)
 
@@ -87,7 +88,7 @@ module _ (b : Book) (n a c d x y : ℕ) where
       fees = v .fees;
     }
 
-    pub holdToll-near : Near (b .day) (changeOf 5 b event5)
+    pub holdToll-near : Near (b .day) (changeOf EventDispute b event5)
     unfolding changeOf holdToll holdFrom
     holdToll-near = near-putRow (b .day) b s a (holdFrom (b .day) it) has-kind refl shape live
 
@@ -101,7 +102,7 @@ pub record HeldToll (today L : ℕ) (r : Row) : Type 0 where
   pub due-by : r .due ≤ r .hold + L
   pub due-after : ltb (r .mark) 4 implies ltb (r .hold) (r .due) ≡ true
 
-pub held-is : (today L : ℕ) (r : Row) → r .kind ≡ 1 → r .dispute ≡ 1 → holdFits today L r ≡ true → HeldToll today L r
+pub held-is : (today L : ℕ) (r : Row) → r .kind ≡ KindToll → r .dispute ≡ 1 → holdFits today L r ≡ true → HeldToll today L r
 unfolding holdFits
 held-is today L r k d f =
     let a1 : Bool = leb 1 (r .hold) in
@@ -124,14 +125,14 @@ held-is today L r k d f =
       due-after = and-right (a1 && a2 && a3 && a4 && a5) a6 e;
     }
 
-pub held-due : (past last : ℕ) (r : Row) → r .kind ≡ 1 → r .dispute ≡ 1 → unsettled r ≡ true → dueWithin past last r ≡ true → 1 ≤ r .due
+pub held-due : (past last : ℕ) (r : Row) → r .kind ≡ KindToll → r .dispute ≡ 1 → unsettled r ≡ true → dueWithin past last r ≡ true → 1 ≤ r .due
 unfolding dueWithin
 held-due past last r k d u e =
     let z : leb (r .due) last && leb 1 (r .due) ≡ true = rw (k, d, u) at e in
     leb-true 1 (r .due) (and-right (leb (r .due) last) (leb 1 (r .due)) z)
 
 -- its hold ends: today, or on the day after
-pub live-released : (past past′ today now L : ℕ) (r : Row) → r .kind ≡ 1 → r .dispute ≡ 1 → past′ ≤ now → today ≤ now → Live past today L r → Live past′ now L (release now r)
+pub live-released : (past past′ today now L : ℕ) (r : Row) → r .kind ≡ KindToll → r .dispute ≡ 1 → past′ ≤ now → today ≤ now → Live past today L r → Live past′ now L (release now r)
 unfolding release settledFits dueWithin holdFits
 live-released past past′ today now L r k d p t v =
     let w : HeldToll today L r = held-is today L r k d (v .hold) in
@@ -149,7 +150,7 @@ live-released past past′ today now L r k d p t v =
     go h from true e = lt-ltb past′ (r .due + (now - r .hold)) (omega (arith, ltb-true (r .hold) (r .due) e))
     go h from false e = le-leb 1 (r .due + (now - r .hold)) (omega arith)
 
-pub shape-released : (today now : ℕ) (xs : List Account) (rows : List Row) (n : ℕ) (r : Row) → r .kind ≡ 1 → Shape today xs rows n r → Shape today xs rows n (release now r)
+pub shape-released : (today now : ℕ) (xs : List Account) (rows : List Row) (n : ℕ) (r : Row) → r .kind ≡ KindToll → Shape today xs rows n r → Shape today xs rows n (release now r)
 unfolding release kindFits amountFits markFits tollWordsFit noReference rowDayFits accountUsed referenceFits passageOnce feesFit names
 shape-released today now xs rows n r k s = record {
   kind = s .kind;
@@ -172,7 +173,7 @@ module _ (b : Book) (n a m c d x : ℕ) where
 
   -- the row that it names
   pub record Decided : Type 0 where
-    pub toll : row b a .kind ≡ 1
+    pub toll : row b a .kind ≡ KindToll
     pub account : row b a .account ≡ n
     pub held : row b a .dispute ≡ 1
 
@@ -186,7 +187,7 @@ module _ (b : Book) (n a m c d x : ℕ) where
   pub reject-near : Near (b .day) b → Accepted b event6 → Near (b .day) (reject b event6)
   unfolding reject release
   reject-near s q =
-      let t : row b a .kind ≡ 1 = decided q .toll in
+      let t : row b a .kind ≡ KindToll = decided q .toll in
       let h : 0 < row b a .kind = omega arith in
       near-putRow (b .day) b s a (release (b .day) (row b a)) h refl
       (shape-released (b .day) (b .day) (b .accounts) (b .rows) a (row b a) t (shape-of (b .day) b s a h))

@@ -8,13 +8,14 @@ use mathlib.Core.List.{List}
 use lib.ListN.{length, set}
 use lib.Seq.{getD-set-other}
 use lib.Dec.{eqb}
-use Rattle.records.specs.AccountOperations.{opened, checkReturned, declinedOn, topUpPaid, closeRequestedOn}
+use Rattle.records.specs.Codes.{KindToll, KindPayment}
+use Rattle.records.specs.AccountOperations.{opened, checkReturned, declinedOn, topupPaid, closeRequestedOn}
 use Rattle.lists.specs.Tests.{_from_to_}
 use Rattle.rules.specs.Rows.{Row, withMark}
 use Rattle.rules.specs.Book.{Account, unused, Instruction, Book, account, accountNo, row, putAccount}
-use Rattle.rules.specs.Events.{openAccount, postToll, postPayment, returnCheck, holdFrom, holdToll, release, uphold, reject, decide, payTopUp, declineTopUp, topUpResult, requestClose}
+use Rattle.rules.specs.Events.{openAccount, postToll, postPayment, returnCheck, holdFrom, holdToll, release, uphold, reject, decide, payTopup, declineTopup, topupResult, requestClose}
 use Rattle.rules.specs.Refusals.{changeOf, unknown, noRow}
-use Rattle.rules.proofs.SoundnessLaws.{Near}
+use Rattle.rules.specs.SoundFacts.{Near}
 use Rattle.preservation.proofs.Accepted.{Accepted}
 use Rattle.preservation.proofs.OthersLaws.{Others, others-same, others-others, others-add, others-set}
 use Rattle.preservation.proofs.LookupLaws.{named-kind, named-account}
@@ -42,7 +43,7 @@ return-others : (b : Book) (n a m c d x : ℕ) → Accepted b (record { kind = 4
     → Others n (b .rows) (returnCheck b (record { kind = 4; account = n; a = a; b = m; c = c; d = d; e = x }) .rows)
 unfolding returnCheck noRow
 return-others b n a m c d x q =
-    let k : row b a .kind ≡ 4 = named-kind b a n 4 (q .named) in
+    let k : row b a .kind ≡ KindPayment = named-kind b a n 4 (q .named) in
     let o : row b a .account ≡ n = named-account b a n 4 (q .named) in
     let xs : List Row = set (b .rows) (a - 1) (withMark 4 (row b a)) in
     others-others n (b .rows) xs _ (put-others b n a (withMark 4 (row b a)) (omega arith) o o)
@@ -52,14 +53,14 @@ hold-others : (b : Book) (n a m c d x : ℕ) → Accepted b (record { kind = 5; 
     → Others n (b .rows) (holdToll b (record { kind = 5; account = n; a = a; b = m; c = c; d = d; e = x }) .rows)
 unfolding holdToll holdFrom noRow
 hold-others b n a m c d x q =
-    let k : row b a .kind ≡ 1 = named-kind b a n 1 (q .named) in
+    let k : row b a .kind ≡ KindToll = named-kind b a n 1 (q .named) in
     let o : row b a .account ≡ n = named-account b a n 1 (q .named) in
     put-others b n a (holdFrom (b .day) (row b a)) (omega arith) o o
 
 reject-others : (b : Book) (n a m c d x : ℕ) → Accepted b (event6 b n a m c d x) → Others n (b .rows) (reject b (event6 b n a m c d x) .rows)
 unfolding reject release
 reject-others b n a m c d x q =
-    let k : row b a .kind ≡ 1 = decided b n a m c d x q .toll in
+    let k : row b a .kind ≡ KindToll = decided b n a m c d x q .toll in
     let o : row b a .account ≡ n = decided b n a m c d x q .account in
     put-others b n a (release (b .day) (row b a)) (omega arith) o o
 
@@ -78,11 +79,11 @@ decide-others b n a m c d x s q = go (eqb m 1)
     go true = upheld-others b n a m c d x s q
     go false = reject-others b n a m c d x q
 
-topUp-others : (b : Book) (e : Instruction) → Others (e .account) (b .rows) (topUpResult b e .rows)
-unfolding topUpResult payTopUp declineTopUp
-topUp-others b e = go (eqb (e .b) 1)
+topup-others : (b : Book) (e : Instruction) → Others (e .account) (b .rows) (topupResult b e .rows)
+unfolding topupResult payTopup declineTopup
+topup-others b e = go (eqb (e .b) 1)
   where
-    go : (t : Bool) → Others (e .account) (b .rows) (cond t (payTopUp b e) (declineTopUp b e) .rows)
+    go : (t : Bool) → Others (e .account) (b .rows) (cond t (payTopup b e) (declineTopup b e) .rows)
     go true = others-add (e .account) (b .rows) _ refl
     go false = others-same (e .account) (b .rows)
 
@@ -96,7 +97,7 @@ change-others b (suc (suc (suc zero))) n a m c d x s ne q = others-add n (b .row
 change-others b (suc (suc (suc (suc zero)))) n a m c d x s ne q = return-others b n a m c d x q
 change-others b (suc (suc (suc (suc (suc zero))))) n a m c d x s ne q = hold-others b n a m c d x q
 change-others b (suc (suc (suc (suc (suc (suc zero)))))) n a m c d x s ne q = decide-others b n a m c d x s q
-change-others b (suc (suc (suc (suc (suc (suc (suc zero))))))) n a m c d x s ne q = topUp-others b (record { kind = 7; account = n; a = a; b = m; c = c; d = d; e = x })
+change-others b (suc (suc (suc (suc (suc (suc (suc zero))))))) n a m c d x s ne q = topup-others b (record { kind = 7; account = n; a = a; b = m; c = c; d = d; e = x })
 change-others b (suc (suc (suc (suc (suc (suc (suc (suc zero)))))))) n a m c d x s ne q = others-same n (b .rows)
 change-others b (suc (suc (suc (suc (suc (suc (suc (suc (suc zero))))))))) n a m c d x s ne q = absurd (ne refl)
 change-others b (suc (suc (suc (suc (suc (suc (suc (suc (suc (suc k)))))))))) n a m c d x s ne q = others-same n (b .rows)
@@ -111,16 +112,16 @@ decide-accounts b e = go (eqb (e .b) 1)
     go true = refl
     go false = refl
 
-topUp-account : (b : Book) (n a m c d x i : ℕ) → i ≢ n → Accepted b (record { kind = 7; account = n; a = a; b = m; c = c; d = d; e = x })
-    → account (topUpResult b (record { kind = 7; account = n; a = a; b = m; c = c; d = d; e = x })) i ≡ account b i
-unfolding topUpResult payTopUp declineTopUp unknown
-topUp-account b n a m c d x i ne q = go (eqb m 1)
+topup-account : (b : Book) (n a m c d x i : ℕ) → i ≢ n → Accepted b (record { kind = 7; account = n; a = a; b = m; c = c; d = d; e = x })
+    → account (topupResult b (record { kind = 7; account = n; a = a; b = m; c = c; d = d; e = x })) i ≡ account b i
+unfolding topupResult payTopup declineTopup unknown
+topup-account b n a m c d x i ne q = go (eqb m 1)
   where
     e : Instruction
     e = record { kind = 7; account = n; a = a; b = m; c = c; d = d; e = x }
 
-    go : (t : Bool) → account (cond t (payTopUp b e) (declineTopUp b e)) i ≡ account b i
-    go true = put-account b n i (topUpPaid (account b n)) _ (q .known) ne
+    go : (t : Bool) → account (cond t (payTopup b e) (declineTopup b e)) i ≡ account b i
+    go true = put-account b n i (topupPaid (account b n)) _ (q .known) ne
     go false = put-account b n i (declinedOn (b .day) (account b n)) _ (q .known) ne
 
 pub change-account : (b : Book) (k n a m c d x : ℕ) → k ≢ 9 → Accepted b (record { kind = k; account = n; a = a; b = m; c = c; d = d; e = x }) → (i : ℕ) → i ≢ n
@@ -134,7 +135,7 @@ change-account b (suc (suc (suc (suc zero)))) n a m c d x ne q i w = put-account
 change-account b (suc (suc (suc (suc (suc zero))))) n a m c d x ne q i w = refl
 change-account b (suc (suc (suc (suc (suc (suc zero)))))) n a m c d x ne q i w =
     ap (λ (xs : List Account). accountNo xs i) (decide-accounts b (record { kind = 6; account = n; a = a; b = m; c = c; d = d; e = x }))
-change-account b (suc (suc (suc (suc (suc (suc (suc zero))))))) n a m c d x ne q i w = topUp-account b n a m c d x i w q
+change-account b (suc (suc (suc (suc (suc (suc (suc zero))))))) n a m c d x ne q i w = topup-account b n a m c d x i w q
 change-account b (suc (suc (suc (suc (suc (suc (suc (suc zero)))))))) n a m c d x ne q i w = put-account b n i (closeRequestedOn (b .day) (account b n)) _ (q .known) w
 change-account b (suc (suc (suc (suc (suc (suc (suc (suc (suc zero))))))))) n a m c d x ne q i w = absurd (ne refl)
 change-account b (suc (suc (suc (suc (suc (suc (suc (suc (suc (suc k)))))))))) n a m c d x ne q i w = refl

@@ -8,16 +8,17 @@ use mathlib.Core.List.{List, [], _∷_}
 use lib.ListN.{length, getD}
 use lib.Dec.{eqb, leb, ltb}
 use borrow.Author.Tests.{leb-true, ltb-true, eqb-true}
+use Rattle.records.specs.Codes.{KindFee}
 use Rattle.lists.specs.Tests.{_from_to_, _implies_, first}
 use Rattle.lists.specs.Lists.{count}
 use Rattle.lists.proofs.TestLaws.{and-left, and-right}
 use Rattle.lists.proofs.SumLaws.{sumBy-zero-at}
-use Rattle.rules.specs.Limits.{longestStage, highestFee, highestRate}
+use Rattle.records.specs.Limits.{longestStage, highestFee, highestRate}
 use Rattle.rules.specs.Schedule.{Rates, Schedule, classes, class, rate, stageFee, ratesFit, scheduleFits}
 use Rattle.rules.specs.Rows.{Row, blank, rowNo, feeNaming}
 use Rattle.rules.specs.Book.{Book}
 use Rattle.rules.specs.Soundness.{names, referenceFits}
-use Rattle.rules.proofs.SoundnessLaws.{Near}
+use Rattle.rules.specs.SoundFacts.{Near}
 
 -- ---- a fee's row
 
@@ -36,7 +37,7 @@ names-facts rows n x k e =
       account = eqb-true (rowNo rows (x .reference) .account) (x .account) (and-right (p && q) a e);
     }
 
-pub fee-names : (rows : List Row) (n : ℕ) (x : Row) → x .kind ≡ 2 → referenceFits rows n x ≡ true → Named rows n x
+pub fee-names : (rows : List Row) (n : ℕ) (x : Row) → x .kind ≡ KindFee → referenceFits rows n x ≡ true → Named rows n x
 unfolding referenceFits names
 fee-names rows n x k e =
     let p : Bool = eqb (x .kind) 2 implies names rows n x 1 || names rows n x 4 in
@@ -50,7 +51,7 @@ fee-names rows n x k e =
     go false a f = names-facts rows n x 4 f
 
 module _ (past : ℕ) (b : Book) (s : Near past b) where
-  pub fee-at : (k : ℕ) → k < length (b .rows) → getD (b .rows) k blank .kind ≡ 2 → Named (b .rows) (suc k) (getD (b .rows) k blank)
+  pub fee-at : (k : ℕ) → k < length (b .rows) → getD (b .rows) k blank .kind ≡ KindFee → Named (b .rows) (suc k) (getD (b .rows) k blank)
   fee-at k l e = fee-names (b .rows) (suc k) (getD (b .rows) k blank) e (s .shape k l .reference)
 
   -- no fee names a row that is yet to come

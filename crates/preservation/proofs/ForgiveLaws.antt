@@ -6,11 +6,12 @@ use native.Mathlib.Omega.{arith}
 use mathlib.Core.List.{List}
 use lib.Dec.{eqb, leb}
 use borrow.Author.Tests.{le-leb, eqb-true}
+use Rattle.records.specs.Codes.{KindFee}
 use Rattle.lists.proofs.TestLaws.{and-left, and-right, and-both}
 use Rattle.rules.specs.Rows.{Row, withSettled, settleWhole, feeNaming}
 use Rattle.rules.specs.Book.{Account}
 use Rattle.rules.specs.Soundness.{kindFits, amountFits, settledFits, markFits, tollWordsFit, noReference, rowDayFits, dueWithin, holdFits, accountUsed, names, referenceFits, passageOnce, feesFit}
-use Rattle.rules.proofs.SoundnessLaws.{Shape, Live}
+use Rattle.rules.specs.SoundFacts.{Shape, Live}
 
 -- every fee that names row n
 abbrev pub forgive : ℕ → Row → Row
@@ -24,14 +25,14 @@ forgive-keeps g f n r = go (feeNaming n r)
     go true = f r (r .amount)
     go false = refl
 
-pub naming-fee : (n : ℕ) (r : Row) → feeNaming n r ≡ true → (r .kind ≡ 2) × (r .reference ≡ n)
+pub naming-fee : (n : ℕ) (r : Row) → feeNaming n r ≡ true → (r .kind ≡ KindFee) × (r .reference ≡ n)
 unfolding feeNaming
 naming-fee n r e = (eqb-true (r .kind) 2 (and-left (eqb (r .kind) 2) _ e), eqb-true (r .reference) n (and-right (eqb (r .kind) 2) _ e))
 
 pub live-forgiven : (past today L n : ℕ) (r : Row) → Live past today L r → Live past today L (forgive n r)
 live-forgiven past today L n r v = go (feeNaming n r) refl
   where
-    whole : r .kind ≡ 2 → Live past today L (settleWhole r)
+    whole : r .kind ≡ KindFee → Live past today L (settleWhole r)
     whole k = unfold settledFits dueWithin holdFits in record { settled = rw k (and-both (leb (r .amount) (r .amount)) _ (le-leb (r .amount) (r .amount) (omega arith)) refl); due = rw k; hold = rw k }
 
     go : (t : Bool) → feeNaming n r ≡ t → Live past today L (cond t (settleWhole r) r)

@@ -8,19 +8,20 @@ use mathlib.Core.List.{List, map}
 use lib.ListN.{getD}
 use lib.Dec.{eqb, leb, ltb}
 use borrow.Author.Tests.{leb-true, le-leb, eqb-true, eqb-false}
+use Rattle.records.specs.Codes.{KindToll}
 use Rattle.lists.specs.Tests.{_from_to_, _implies_}
 use Rattle.lists.specs.Lists.{sumBy, only, count}
 use Rattle.lists.proofs.TestLaws.{and-left, and-right, and-both}
 use Rattle.lists.proofs.SumLaws.{sumBy-map, sumBy-ext}
-use Rattle.rules.specs.Limits.{finalDay}
+use Rattle.records.specs.Limits.{finalDay}
 use Rattle.rules.specs.Rows.{Row, blank, remaining, heldToll, unsettled, sourceOf, debitOf}
 use Rattle.rules.specs.Settlement.{money, used, paid, owed}
 use Rattle.rules.specs.Book.{Account, unused, Book}
 use Rattle.rules.specs.Events.{release}
 use Rattle.rules.specs.Tick.{nextDay, holdEnds, endHold, endHolds, beforeRaising}
 use Rattle.rules.specs.Opening.{dayFits}
-use Rattle.rules.specs.Soundness.{settledFits, rowDayFits, dueWithin, holdFits, requestFits, declineFits, returnedOf, returnedFits, even, closedClear}
-use Rattle.rules.proofs.SoundnessLaws.{Shape, Live, Standing, Counted, Near}
+use Rattle.rules.specs.Soundness.{settledFits, rowDayFits, dueWithin, holdFits, requestFits, declineFits, returnedOf, returnedFits, usedIsPaid, closedClear}
+use Rattle.rules.specs.SoundFacts.{Shape, Live, Standing, SumsFit, Near}
 use Rattle.preservation.proofs.SettledLaws.{hold-free, settled-near}
 use Rattle.preservation.proofs.KeepingLaws.{framed-near, framed-map, core}
 use Rattle.preservation.proofs.DisputeKept.{HeldToll, held-is, live-released, shape-released}
@@ -28,11 +29,11 @@ use Rattle.preservation.proofs.TickSteps.{endHold-keeps}
 
 -- ---- every row changed in its due day, dispute and hold alone
 
-counted-map : (f : Row → Row) → ((r : Row) → core (f r) ≡ core r) → (rows : List Row) (n : ℕ) (x : Account) → Counted rows n x → Counted (map f rows) n x
-unfolding returnedFits even closedClear returnedOf used paid money owed only sourceOf debitOf count
+counted-map : (f : Row → Row) → ((r : Row) → core (f r) ≡ core r) → (rows : List Row) (n : ℕ) (x : Account) → SumsFit rows n x → SumsFit (map f rows) n x
+unfolding returnedFits usedIsPaid closedClear returnedOf used paid money owed only sourceOf debitOf count
 counted-map f same rows n x c = record {
   returned = rw (sum-map (λ y. cond (returnedOf n y) 1 0) (λ y. refl)) (c .returned);
-  even = rw (sum-map (only (sourceOf n) (λ y. y .settled)) (λ y. refl), sum-map (only (debitOf n) (λ y. y .settled)) (λ y. refl)) (c .even);
+  used-is-paid = rw (sum-map (only (sourceOf n) (λ y. y .settled)) (λ y. refl), sum-map (only (debitOf n) (λ y. y .settled)) (λ y. refl)) (c .used-is-paid);
   clear = rw (sum-map (only (sourceOf n) remaining) (λ y. refl), sum-map (only (debitOf n) remaining) (λ y. refl)) (c .clear);
 }
   where
@@ -75,7 +76,7 @@ standing-later today x s = record {
 
 -- ---- a row whose hold may end
 
-ending : (today : ℕ) (r : Row) → holdEnds today r ≡ true → (r .kind ≡ 1) × (r .dispute ≡ 1)
+ending : (today : ℕ) (r : Row) → holdEnds today r ≡ true → (r .kind ≡ KindToll) × (r .dispute ≡ 1)
 unfolding holdEnds
 ending today r e = let h = and-left (heldToll r) _ e in (eqb-true (r .kind) 1 (and-left (eqb (r .kind) 1) _ h), eqb-true (r .dispute) 1 (and-right (eqb (r .kind) 1) _ h))
 
@@ -95,7 +96,7 @@ live-stays today L r n v = record { settled = v .settled; due = due (eqb (r .kin
 
     hold : (t : Bool) → heldToll r ≡ t → holdFits (today + 1) L r ≡ true
     hold true e =
-        let k : r .kind ≡ 1 = eqb-true (r .kind) 1 (and-left (eqb (r .kind) 1) _ e) in
+        let k : r .kind ≡ KindToll = eqb-true (r .kind) 1 (and-left (eqb (r .kind) 1) _ e) in
         let d : r .dispute ≡ 1 = eqb-true (r .dispute) 1 (and-right (eqb (r .kind) 1) _ e) in
         let w : HeldToll today L r = held-is today L r k d (v .hold) in
         let recent : today ≤ r .hold + 29 = w .recent in

@@ -15,12 +15,12 @@ use Rattle.lists.specs.Lists.{sumBy, only, count}
 use Rattle.lists.proofs.TestLaws.{cond-zero}
 use Rattle.lists.proofs.SumLaws.{sumBy-snoc, sumBy-set-same, sumBy-map, sumBy-ext}
 use Rattle.rules.specs.Schedule.{scheduleFits}
-use Rattle.rules.specs.Rows.{Row, Test, blank, toll, remaining, withDue, withDispute, withHold, feeNaming, sourceOf, debitOf}
+use Rattle.rules.specs.Rows.{Row, Test, blank, toll, remaining, withDue, withDispute, withHoldStart, feeNaming, sourceOf, debitOf}
 use Rattle.rules.specs.Settlement.{money, used, paid, owed}
 use Rattle.rules.specs.Book.{Account, unused, Book, withRows, withAccounts, addRow, accountNo}
 use Rattle.rules.specs.Opening.{dayFits, sizesFit}
-use Rattle.rules.specs.Soundness.{accountUsed, passage, passageOnce, feesFit, returnedOf, returnedFits, even, closedClear}
-use Rattle.rules.proofs.SoundnessLaws.{Shape, Live, Standing, Counted, Near}
+use Rattle.rules.specs.Soundness.{accountUsed, passage, passageOnce, feesFit, returnedOf, returnedFits, usedIsPaid, closedClear}
+use Rattle.rules.specs.SoundFacts.{Shape, Live, Standing, SumsFit, Near}
 use Rattle.preservation.proofs.CarriedLaws.{carries-map, carries-append, carries-set, shape-carried}
 use Rattle.lists.proofs.ListLaws.{map-at}
 
@@ -46,7 +46,7 @@ near-framed past b s = record {
   standing = s .standing;
 }
 
-pub framed-near : (past : ℕ) (b : Book) → Framed past b → ((k : ℕ) → k < length (b .accounts) → Counted (b .rows) (suc k) (getD (b .accounts) k unused)) → Near past b
+pub framed-near : (past : ℕ) (b : Book) → Framed past b → ((k : ℕ) → k < length (b .accounts) → SumsFit (b .rows) (suc k) (getD (b .accounts) k unused)) → Near past b
 framed-near past b s c = record {
   day = s .day;
   schedule = s .schedule;
@@ -132,15 +132,15 @@ pub record Quiet (xs : List Account) (r : Row) : Type 0 where
   pub settled : r .settled ≡ 0
   pub state : eqb (accountNo xs (r .account) .state) 3 ≡ false
 
-pub counted-add : (xs : List Account) (rows : List Row) (r : Row) (n : ℕ) → Quiet xs r → Counted rows n (accountNo xs n) → Counted (grown rows r) n (accountNo xs n)
-unfolding returnedFits even closedClear used paid money owed only sourceOf debitOf
+pub counted-add : (xs : List Account) (rows : List Row) (r : Row) (n : ℕ) → Quiet xs r → SumsFit rows n (accountNo xs n) → SumsFit (grown rows r) n (accountNo xs n)
+unfolding returnedFits usedIsPaid closedClear used paid money owed only sourceOf debitOf
 counted-add xs rows r n p c = record {
   returned = rw (count-add (returnedOf n) rows r (p .returned n)) (c .returned);
-  even =
+  used-is-paid =
       rw (
         sum-add (only (sourceOf n) (λ x. x .settled)) rows r (cond-zero (sourceOf n r) (r .settled) (p .settled)),
         sum-add (only (debitOf n) (λ x. x .settled)) rows r (cond-zero (debitOf n r) (r .settled) (p .settled)),
-      ) (c .even);
+      ) (c .used-is-paid);
   clear = go (eqb (r .account) n) refl;
 }
   where
@@ -205,7 +205,7 @@ shape-accounts today xs ys rows n r m v = record {
     still e = unfold accountUsed in m .used (r .account) e
 
 pub near-accounts : (past : ℕ) (b : Book) (xs : List Account) → Near past b → Kept (b .day) (b .accounts) xs
-    → ((k : ℕ) → k < length xs → Counted (b .rows) (suc k) (getD xs k unused)) → Near past (withAccounts xs b)
+    → ((k : ℕ) → k < length xs → SumsFit (b .rows) (suc k) (getD xs k unused)) → Near past (withAccounts xs b)
 near-accounts past b xs n m c = record {
   day = n .day;
   schedule = n .schedule;
@@ -219,10 +219,10 @@ near-accounts past b xs n m c = record {
 
 -- one account changed
 pub near-account : (past : ℕ) (b : Book) (k : ℕ) (x : Account) → Near past b → k < length (b .accounts) → eqb (x .state) 0 ≡ false
-    → Standing (b .day) x → Counted (b .rows) (suc k) x → Near past (withAccounts (set (b .accounts) k x) b)
+    → Standing (b .day) x → SumsFit (b .rows) (suc k) x → Near past (withAccounts (set (b .accounts) k x) b)
 near-account past b k x n l z s c =
     near-accounts past b (set (b .accounts) k x) n (kept-set past b k x n l z s)
-    (λ i h. set-account (b .accounts) k x l i (Counted (b .rows) (suc i)) (λ e. rw e c) (n .counted i (rw (length-set (b .accounts) k x) at h)))
+    (λ i h. set-account (b .accounts) k x l i (SumsFit (b .rows) (suc i)) (λ e. rw e c) (n .counted i (rw (length-set (b .accounts) k x) at h)))
 
 -- ---- a row changed, and accounts with it
 
@@ -281,13 +281,13 @@ framed-put past b xs j r s h same m w v =
 
 -- a row changed in its due day, dispute and hold alone
 abbrev pub core : Row → Row
-core r = withDue 0 (withDispute 0 (withHold 0 r))
+core r = withDue 0 (withDispute 0 (withHoldStart 0 r))
 
-pub counted-put : (rows : List Row) (j : ℕ) (r : Row) → core r ≡ core (getD rows j blank) → (n : ℕ) (x : Account) → Counted rows n x → Counted (set rows j r) n x
-unfolding returnedFits even closedClear returnedOf used paid money owed only sourceOf debitOf count
+pub counted-put : (rows : List Row) (j : ℕ) (r : Row) → core r ≡ core (getD rows j blank) → (n : ℕ) (x : Account) → SumsFit rows n x → SumsFit (set rows j r) n x
+unfolding returnedFits usedIsPaid closedClear returnedOf used paid money owed only sourceOf debitOf count
 counted-put rows j r same n x c = record {
   returned = rw (sum-put (λ y. cond (returnedOf n y) 1 0) (λ y. refl)) (c .returned);
-  even = rw (sum-put (only (sourceOf n) (λ y. y .settled)) (λ y. refl), sum-put (only (debitOf n) (λ y. y .settled)) (λ y. refl)) (c .even);
+  used-is-paid = rw (sum-put (only (sourceOf n) (λ y. y .settled)) (λ y. refl), sum-put (only (debitOf n) (λ y. y .settled)) (λ y. refl)) (c .used-is-paid);
   clear = rw (sum-put (only (sourceOf n) remaining) (λ y. refl), sum-put (only (debitOf n) remaining) (λ y. refl)) (c .clear);
 }
   where

@@ -10,12 +10,12 @@ use lib.Dec.{eqb, leb}
 use borrow.Author.Tests.{leb-true, le-leb, ltb-false, eqb-true, not-false}
 use Rattle.lists.specs.Tests.{_from_to_}
 use Rattle.lists.proofs.TestLaws.{and-left, and-right, and-both, or-left, or-right}
-use Rattle.rules.specs.Limits.{finalDay}
+use Rattle.records.specs.Limits.{finalDay}
 use Rattle.rules.specs.Rows.{Row, blank}
 use Rattle.rules.specs.Book.{Account, unused, Instruction, Book, account, row, putAccount, putRow}
 use Rattle.rules.specs.Opening.{dayFits}
 use Rattle.rules.specs.Refusals.{changeOf, after, full}
-use Rattle.rules.proofs.SoundnessLaws.{Shape, Live, Standing, Counted, Near}
+use Rattle.rules.specs.SoundFacts.{Shape, Live, Standing, SumsFit, Near}
 use Rattle.preservation.proofs.SettledLaws.{length-settled}
 use Rattle.preservation.proofs.KeepingLaws.{near-account, core, near-put-core}
 
@@ -39,12 +39,12 @@ module _ (past : ℕ) (b : Book) (s : Near past b) where
   standing-of zero i = absurd (false≢true i)
   standing-of (suc k) i = s .standing k (leb-true (suc k) (length (b .accounts)) (and-right (leb 1 (suc k)) _ i))
 
-  pub counted-of : (n : ℕ) → n from 1 to length (b .accounts) ≡ true → Counted (b .rows) n (account b n)
+  pub counted-of : (n : ℕ) → n from 1 to length (b .accounts) ≡ true → SumsFit (b .rows) n (account b n)
   counted-of zero i = absurd (false≢true i)
   counted-of (suc k) i = s .counted k (leb-true (suc k) (length (b .accounts)) (and-right (leb 1 (suc k)) _ i))
 
   pub near-putAccount : (n : ℕ) (x : Account) → n from 1 to length (b .accounts) ≡ true → eqb (x .state) 0 ≡ false
-      → Standing (b .day) x → Counted (b .rows) n x → Near past (putAccount n x b)
+      → Standing (b .day) x → SumsFit (b .rows) n x → Near past (putAccount n x b)
   near-putAccount zero x i z v c = absurd (false≢true i)
   near-putAccount (suc k) x i z v c =
       let q : suc k - 1 ≡ k = omega arith in

@@ -5,21 +5,22 @@ use Prim.Native.Nat.{ℕ, zero, suc, _≤_}
 use native.Mathlib.Omega.{arith}
 use mathlib.Core.List.{List}
 use lib.ListN.{length}
+use Rattle.records.specs.Codes.{EventTick}
 use Rattle.rules.specs.Rows.{Row}
 use Rattle.rules.specs.Settlement.{moved, settle}
 use Rattle.rules.specs.Book.{Instruction, Book, withRows, settled}
 use Rattle.rules.specs.Refusals.{changeOf, after}
 use Rattle.rules.proofs.SettlementAccountsLaws.{settleAccounts-same, settleAccounts-one}
-use Rattle.rules.proofs.SoundnessLaws.{Sound}
+use Rattle.rules.specs.SoundFacts.{Sound}
 use Rattle.preservation.proofs.Accepted.{Accepted}
 use Rattle.preservation.proofs.OthersLaws.{Others, money-others}
 use Rattle.preservation.proofs.EventFrame.{change-others}
-use Rattle.preservation.proofs.PostFrame.{spent-moved, debt-others}
+use Rattle.preservation.proofs.PostFrame.{no-idle-money-moved, debt-others}
 
 -- in a sound book no account has something to move
 pub sound-moved : (b : Book) → Sound b → (m : ℕ) → 1 ≤ m → m ≤ length (b .accounts) → moved m (b .rows) ≡ 0
 sound-moved b s zero l h = absurd (omega arith)
-sound-moved b s (suc k) l h = spent-moved (b .rows) (suc k) (s .spent k h)
+sound-moved b s (suc k) l h = no-idle-money-moved (b .rows) (suc k) (s .no-idle-money k h)
 
 -- nor has another account where only rows of account n change
 pub others-moved : (b : Book) → Sound b → (n : ℕ) (rows′ : List Row) → Others n (b .rows) rows′ → (m : ℕ) → 1 ≤ m → m ≤ length (b .accounts) → m ≢ n → moved m rows′ ≡ 0
@@ -42,7 +43,7 @@ settled-unmoved b b′ s r e =
     ap (λ (rows : List Row). withRows rows b′)
     (settleAccounts-same (length (b′ .accounts)) (b′ .rows) (λ m i j. rw r (sound-moved b s m i (rw e at j))))
 
-pub after-named : (b : Book) (e : Instruction) → Sound b → e .kind ≢ 9 → Accepted b e → 1 ≤ e .account → e .account ≤ length (b .accounts)
+pub after-named : (b : Book) (e : Instruction) → Sound b → e .kind ≢ EventTick → Accepted b e → 1 ≤ e .account → e .account ≤ length (b .accounts)
     → length (changeOf (e .kind) b e .accounts) ≡ length (b .accounts)
     → after b e ≡ withRows (settle (e .account) (changeOf (e .kind) b e .rows)) (changeOf (e .kind) b e)
 unfolding after

@@ -15,8 +15,8 @@ use Rattle.lists.proofs.SumLaws.{sumBy-longer}
 use Rattle.rules.specs.Rows.{Row, blank, remaining, sourceOf, debitOf}
 use Rattle.rules.specs.Settlement.{money, used, paid, owed}
 use Rattle.rules.specs.Book.{Account}
-use Rattle.rules.specs.Soundness.{returnedOf, returnedFits, even, closedClear}
-use Rattle.rules.proofs.SoundnessLaws.{Counted}
+use Rattle.rules.specs.Soundness.{returnedOf, returnedFits, usedIsPaid, closedClear}
+use Rattle.rules.specs.SoundFacts.{SumsFit}
 use Rattle.lists.proofs.ListLaws.{map-at}
 
 pub record Others (n : ℕ) (rows rows′ : List Row) : Type 0 where
@@ -121,10 +121,10 @@ module _ (n : ℕ) (rows rows′ : List Row) (o : Others n rows rows′) where
     unfolding count returnedOf
     returned-others = sum-others (λ r. cond (returnedOf m r) 1 0) (λ r e. rw (other-account n m ne r e))
 
-    pub counted-others : (x : Account) → Counted rows m x → Counted rows′ m x
-    unfolding returnedFits even closedClear
+    pub counted-others : (x : Account) → SumsFit rows m x → SumsFit rows′ m x
+    unfolding returnedFits usedIsPaid closedClear
     counted-others x c = record {
       returned = rw returned-others (c .returned);
-      even = rw (used-others, paid-others) (c .even);
+      used-is-paid = rw (used-others, paid-others) (c .used-is-paid);
       clear = rw (money-others, owed-others) (c .clear);
     }

@@ -7,17 +7,18 @@ use mathlib.Core.List.{[], _∷_}
 use lib.ListN.{length, length-append}
 use lib.Dec.{eqb, leb, ltb}
 use borrow.Author.Tests.{leb-true, leb-false, le-leb, ltb-true, eqb-true, ne-eqb, not-false}
-use Rattle.records.specs.AccountOperations.{topUpPaid, declinedOn}
-use Rattle.records.specs.Updates.{withTopUp, withDeclines}
+use Rattle.records.specs.Codes.{EventPayment, EventTopupResult}
+use Rattle.records.specs.AccountOperations.{topupPaid, declinedOn}
+use Rattle.records.specs.Updates.{withTopup, withDeclines}
 use Rattle.lists.specs.Tests.{_from_to_, _implies_}
 use Rattle.lists.proofs.TestLaws.{and-left, and-right, and-both, or-left}
-use Rattle.rules.specs.Limits.{highestPayment, highestTopUp, mostDeclines}
-use Rattle.rules.specs.Rows.{Row, Payment, newRow, withMark, feeNaming}
-use Rattle.rules.specs.Book.{Account, Instruction, Book, account, addRow, putAccount, topUpDue, lowBalance}
-use Rattle.rules.specs.Events.{postPayment, payTopUp, declineTopUp, topUpResult}
-use Rattle.rules.specs.Soundness.{kindFits, mostOf, amountFits, settledFits, markFits, tollWordsFit, noReference, rowDayFits, dueWithin, holdFits, accountUsed, referenceFits, passage, passageOnce, feesFit, returnedOf, stateFits, unusedZero, requestFits, topUpFits, declineFits, returnedFits, even, closedClear}
+use Rattle.records.specs.Limits.{highestPayment, highestTopup, mostDeclines}
+use Rattle.rules.specs.Rows.{Row, KindPayment, newRow, withMark, feeNaming}
+use Rattle.rules.specs.Book.{Account, Instruction, Book, account, addRow, putAccount, topupDue, lowBalance}
+use Rattle.rules.specs.Events.{postPayment, payTopup, declineTopup, topupResult}
+use Rattle.rules.specs.Soundness.{kindFits, mostOf, amountFits, settledFits, markFits, tollWordsFit, noReference, rowDayFits, dueWithin, holdFits, accountUsed, referenceFits, passage, passageOnce, feesFit, returnedOf, stateFits, unusedZero, requestFits, topupFits, declineFits, returnedFits, usedIsPaid, closedClear}
 use Rattle.rules.specs.Refusals.{changeOf, wellFormed, formOf, paymentForm, unknown, onClosed, untimely}
-use Rattle.rules.proofs.SoundnessLaws.{Shape, Live, Standing, Counted, Near}
+use Rattle.rules.specs.SoundFacts.{Shape, Live, Standing, SumsFit, Near}
 use Rattle.preservation.proofs.Accepted.{Accepted}
 use Rattle.preservation.proofs.KeepingLaws.{grown, Distinct, Quiet, near-add-quiet}
 use Rattle.preservation.proofs.LookupLaws.{today-fits, day-positive, standing-of, counted-of, near-putAccount, account-put, inside, used-state, after-fits}
@@ -26,7 +27,7 @@ use Rattle.preservation.proofs.LookupLaws.{today-fits, day-positive, st
 
 module _ (b : Book) (n amount method : ℕ) where
   abbrev payment : Row
-  payment = withMark method (newRow Payment n (b .day) amount)
+  payment = withMark method (newRow KindPayment n (b .day) amount)
 
   pub near-payment : Near (b .day) b → length (b .rows) < b .room → amount from 1 to highestPayment ≡ true → method from 1 to 3 ≡ true
       → eqb (account b n .state) 0 ≡ false → eqb (account b n .state) 3 ≡ false → Near (b .day) (addRow payment b)
@@ -64,7 +65,7 @@ module _ (b : Book) (n a m c d x : ℕ) where
   abbrev event3 : Instruction
   event3 = record { kind = 3; account = n; a = a; b = m; c = c; d = d; e = x }
 
-  pub postPayment-near : Near (b .day) b → Accepted b event3 → Near (b .day) (changeOf 3 b event3)
+  pub postPayment-near : Near (b .day) b → Accepted b event3 → Near (b .day) (changeOf EventPayment b event3)
   unfolding changeOf postPayment wellFormed formOf paymentForm unknown onClosed
   postPayment-near s q =
       let amounts : Bool = a from 1 to highestPayment in
@@ -75,16 +76,16 @@ module _ (b : Book) (n a m c d x : ℕ) where
 
 -- ---- event 7
 
-record TopUpParts (x : Account) : Type 0 where
-  threshold : leb (x .threshold) highestTopUp ≡ true
-  topup : leb (x .topup) highestTopUp ≡ true
+record TopupParts (x : Account) : Type 0 where
+  threshold : leb (x .threshold) highestTopup ≡ true
+  topup : leb (x .topup) highestTopup ≡ true
   declines : leb (x .declines) mostDeclines ≡ true
 
-top-up-parts : (x : Account) → topUpFits x ≡ true → TopUpParts x
-unfolding topUpFits
-top-up-parts x e =
-    let p : Bool = leb (x .threshold) highestTopUp in
-    let q : Bool = leb (x .topup) highestTopUp in
+topup-parts : (x : Account) → topupFits x ≡ true → TopupParts x
+unfolding topupFits
+topup-parts x e =
+    let p : Bool = leb (x .threshold) highestTopup in
+    let q : Bool = leb (x .topup) highestTopup in
     let d : Bool = leb (x .declines) mostDeclines in
     let f : Bool = eqb (x .declines) 0 implies eqb (x .declined) 0 in
     let g : Bool = eqb (x .declined) 0 implies eqb (x .declines) 0 in
@@ -104,12 +105,12 @@ module _ (b : Book) (n a m c d x : ℕ) where
     unfolding unknown
     in-table = inside n (length (b .accounts)) _ (q .known)
 
-    due : topUpDue b n ≡ true
+    due : topupDue b n ≡ true
     unfolding untimely
-    due = not-false (topUpDue b n) (or-left (not (topUpDue b n)) false (q .timely))
+    due = not-false (topupDue b n) (or-left (not (topupDue b n)) false (q .timely))
 
     first-two : eqb (it .state) 1 && ltb 0 (it .topup) ≡ true
-    unfolding topUpDue
+    unfolding topupDue
     first-two =
         let p : Bool = eqb (it .state) 1 && ltb 0 (it .topup) in
         let o : Bool = not (eqb (it .declined) (b .day)) in
@@ -124,11 +125,11 @@ module _ (b : Book) (n a m c d x : ℕ) where
     some-amount : eqb (it .topup) 0 ≡ false
     some-amount = ne-eqb (it .topup) 0 (λ e. omega (arith, has-amount))
 
-    parts : TopUpParts it
-    parts = top-up-parts it (standing-of (b .day) b s n in-table .topup)
+    parts : TopupParts it
+    parts = topup-parts it (standing-of (b .day) b s n in-table .topup)
 
-    paid-standing : Standing (b .day) (topUpPaid it)
-    unfolding stateFits unusedZero requestFits topUpFits declineFits
+    paid-standing : Standing (b .day) (topupPaid it)
+    unfolding stateFits unusedZero requestFits topupFits declineFits
     paid-standing = let v = standing-of (b .day) b s n in-table in record {
       state = v .state;
       zero = rw is-open;
@@ -137,28 +138,28 @@ module _ (b : Book) (n a m c d x : ℕ) where
       decline = le-leb 0 (b .day) (omega arith);
     }
 
-    paid-counted : Counted (b .rows) n (topUpPaid it)
-    unfolding returnedFits even closedClear
-    paid-counted = let v = counted-of (b .day) b s n in-table in record { returned = v .returned; even = v .even; clear = v .clear }
+    paid-counted : SumsFit (b .rows) n (topupPaid it)
+    unfolding returnedFits usedIsPaid closedClear
+    paid-counted = let v = counted-of (b .day) b s n in-table in record { returned = v .returned; used-is-paid = v .used-is-paid; clear = v .clear }
 
-    payTopUp-near : length (payTopUp b event7 .rows) ≤ b .room → Near (b .day) (payTopUp b event7)
-    unfolding payTopUp
-    payTopUp-near room =
-        let e : account (putAccount n (topUpPaid it) b) n ≡ topUpPaid it = account-put (b .day) b s n (topUpPaid it) in-table in
-        near-payment (putAccount n (topUpPaid it) b) n (it .topup) 1
-        (near-putAccount (b .day) b s n (topUpPaid it) in-table (rw is-open) paid-standing paid-counted)
+    payTopup-near : length (payTopup b event7 .rows) ≤ b .room → Near (b .day) (payTopup b event7)
+    unfolding payTopup
+    payTopup-near room =
+        let e : account (putAccount n (topupPaid it) b) n ≡ topupPaid it = account-put (b .day) b s n (topupPaid it) in-table in
+        near-payment (putAccount n (topupPaid it) b) n (it .topup) 1
+        (near-putAccount (b .day) b s n (topupPaid it) in-table (rw is-open) paid-standing paid-counted)
         (omega (arith, length-append (b .rows) (payment b n (it .topup) 1 ∷ [])))
         (and-both (leb 1 (it .topup)) _ (le-leb 1 (it .topup) has-amount) (parts .topup)) refl (rw (e, is-open)) (rw (e, is-open))
 
     declined-standing : Standing (b .day) (declinedOn (b .day) it)
-    unfolding declinedOn stateFits unusedZero requestFits topUpFits declineFits
+    unfolding declinedOn stateFits unusedZero requestFits topupFits declineFits
     declined-standing = go (leb 2 (it .declines)) refl
       where
         v : Standing (b .day) (account b n)
         v = standing-of (b .day) b s n in-table
 
         go : (t : Bool) → leb 2 (account b n .declines) ≡ t
-            → Standing (b .day) (cond t (withDeclines 0 0 (withTopUp 0 0 (account b n))) (withDeclines (account b n .declines + 1) (b .day) (account b n)))
+            → Standing (b .day) (cond t (withDeclines 0 0 (withTopup 0 0 (account b n))) (withDeclines (account b n .declines + 1) (b .day) (account b n)))
         go true e = record { state = v .state; zero = rw is-open; request = v .request; topup = refl; decline = le-leb 0 (b .day) (omega arith) }
         go false e = record {
           state = v .state;
@@ -176,33 +177,33 @@ module _ (b : Book) (n a m c d x : ℕ) where
           decline = le-leb (b .day) (b .day) (omega arith);
         }
 
-    declined-counted : Counted (b .rows) n (declinedOn (b .day) it)
-    unfolding declinedOn returnedFits even closedClear
+    declined-counted : SumsFit (b .rows) n (declinedOn (b .day) it)
+    unfolding declinedOn returnedFits usedIsPaid closedClear
     declined-counted = go (leb 2 (it .declines))
       where
-        v : Counted (b .rows) n (account b n)
+        v : SumsFit (b .rows) n (account b n)
         v = counted-of (b .day) b s n in-table
 
-        go : (t : Bool) → Counted (b .rows) n (cond t (withDeclines 0 0 (withTopUp 0 0 (account b n))) (withDeclines (account b n .declines + 1) (b .day) (account b n)))
-        go true = record { returned = v .returned; even = v .even; clear = v .clear }
-        go false = record { returned = v .returned; even = v .even; clear = v .clear }
+        go : (t : Bool) → SumsFit (b .rows) n (cond t (withDeclines 0 0 (withTopup 0 0 (account b n))) (withDeclines (account b n .declines + 1) (b .day) (account b n)))
+        go true = record { returned = v .returned; used-is-paid = v .used-is-paid; clear = v .clear }
+        go false = record { returned = v .returned; used-is-paid = v .used-is-paid; clear = v .clear }
 
     declined-used : eqb (declinedOn (b .day) it .state) 0 ≡ false
     unfolding declinedOn
     declined-used = go (leb 2 (it .declines))
       where
-        go : (t : Bool) → eqb (cond t (withDeclines 0 0 (withTopUp 0 0 (account b n))) (withDeclines (account b n .declines + 1) (b .day) (account b n)) .state) 0 ≡ false
+        go : (t : Bool) → eqb (cond t (withDeclines 0 0 (withTopup 0 0 (account b n))) (withDeclines (account b n .declines + 1) (b .day) (account b n)) .state) 0 ≡ false
         go true = rw is-open
         go false = rw is-open
 
-    declineTopUp-near : Near (b .day) (declineTopUp b event7)
-    unfolding declineTopUp
-    declineTopUp-near = near-putAccount (b .day) b s n (declinedOn (b .day) it) in-table declined-used declined-standing declined-counted
+    declineTopup-near : Near (b .day) (declineTopup b event7)
+    unfolding declineTopup
+    declineTopup-near = near-putAccount (b .day) b s n (declinedOn (b .day) it) in-table declined-used declined-standing declined-counted
 
-    pub topUpResult-near : Near (b .day) (changeOf 7 b event7)
-    unfolding changeOf topUpResult
-    topUpResult-near = go (eqb m 1) (after-fits b event7 (q .fits))
+    pub topupResult-near : Near (b .day) (changeOf EventTopupResult b event7)
+    unfolding changeOf topupResult
+    topupResult-near = go (eqb m 1) (after-fits b event7 (q .fits))
       where
-        go : (t : Bool) → length (cond t (payTopUp b event7) (declineTopUp b event7) .rows) ≤ b .room → Near (b .day) (cond t (payTopUp b event7) (declineTopUp b event7))
-        go true room = payTopUp-near room
-        go false room = declineTopUp-near
+        go : (t : Bool) → length (cond t (payTopup b event7) (declineTopup b event7) .rows) ≤ b .room → Near (b .day) (cond t (payTopup b event7) (declineTopup b event7))
+        go true room = payTopup-near room
+        go false room = declineTopup-near

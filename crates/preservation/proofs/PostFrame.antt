@@ -10,16 +10,18 @@ use mathlib.Core.List.{List}
 use lib.ListN.{length, getD}
 use lib.Dec.{eqb}
 use borrow.Author.Tests.{eqb-true, not-true}
+use Rattle.records.specs.Codes.{EventTick}
 use Rattle.lists.specs.Lists.{only}
 use Rattle.lists.proofs.SumLaws.{sumBy-longer}
 use Rattle.rules.specs.Rows.{Row, blank, rowNo, held, heldToll, remaining, payable}
 use Rattle.rules.specs.Settlement.{money, debt, moved}
 use Rattle.rules.specs.Book.{Instruction, Book, account, settled}
-use Rattle.rules.specs.Soundness.{accountUsed, spent, sound}
+use Rattle.rules.specs.Soundness.{accountUsed, noIdleMoney, sound}
 use Rattle.rules.specs.Refusals.{changeOf, after, answerNumber}
 use Rattle.rules.specs.Posting.{post}
 use Rattle.rules.proofs.SettlementAccountsLaws.{length-settleAccounts, settleAccounts-row, settleAccounts-still}
-use Rattle.rules.proofs.SoundnessLaws.{Near, Sound, sound-facts}
+use Rattle.rules.specs.SoundFacts.{Near, Sound}
+use Rattle.rules.proofs.SoundnessLaws.{sound-facts}
 use Rattle.rules.proofs.StorableLaws.{used-inside}
 use Rattle.rules.proofs.PostingLaws.{post-refused, post-accepted}
 use Rattle.preservation.proofs.Accepted.{Accepted, accepted}
@@ -60,24 +62,24 @@ module _ (b : Book) (s : Near (b .day) b) (n : ℕ) (rows′ : List Row) (o : Ot
 
 -- ---- settlement moves nothing in another account
 
-pub spent-moved : (rows : List Row) (n : ℕ) → spent rows n ≡ true → moved n rows ≡ 0
-unfolding spent moved
-spent-moved rows n e = go (eqb (money n rows) 0) refl e
+pub no-idle-money-moved : (rows : List Row) (n : ℕ) → noIdleMoney rows n ≡ true → moved n rows ≡ 0
+unfolding noIdleMoney moved
+no-idle-money-moved rows n e = go (eqb (money n rows) 0) refl e
   where
     go : (t : Bool) → eqb (money n rows) 0 ≡ t → t || eqb (debt n rows) 0 ≡ true → min (money n rows) (debt n rows) ≡ 0
     go true z e = omega (arith, eqb-true (money n rows) 0 z)
     go false z e = omega (arith, eqb-true (debt n rows) 0 e)
 
 -- a row's account is one of the table's, and one side of it is spent
-pub row-spent : (b : Book) → Sound b → (i : ℕ) → i < length (b .rows) → moved (getD (b .rows) i blank .account) (b .rows) ≡ 0
+pub row-no-idle-money : (b : Book) → Sound b → (i : ℕ) → i < length (b .rows) → moved (getD (b .rows) i blank .account) (b .rows) ≡ 0
 unfolding accountUsed
-row-spent b s i l = go (getD (b .rows) i blank .account) (not-true _ (s .near .shape i l .account))
+row-no-idle-money b s i l = go (getD (b .rows) i blank .account) (not-true _ (s .near .shape i l .account))
   where
     go : (m : ℕ) → eqb (account b m .state) 0 ≡ false → moved m (b .rows) ≡ 0
     go zero e = absurd (true≢false e)
-    go (suc k) e = spent-moved (b .rows) (suc k) (s .spent k (used-inside (b .accounts) (suc k) e))
+    go (suc k) e = no-idle-money-moved (b .rows) (suc k) (s .no-idle-money k (used-inside (b .accounts) (suc k) e))
 
-module _ (b : Book) (e : Instruction) (s : Sound b) (ne : e .kind ≢ 9) (q : Accepted b e) where
+module _ (b : Book) (e : Instruction) (s : Sound b) (ne : e .kind ≢ EventTick) (q : Accepted b e) where
   changed : Others (e .account) (b .rows) (changeOf (e .kind) b e .rows)
   changed = change-others b (e .kind) (e .account) (e .a) (e .b) (e .c) (e .d) (e .e) (s .near) ne q
 
@@ -87,7 +89,7 @@ module _ (b : Book) (e : Instruction) (s : Sound b) (ne : e .kind ≢ 9) (q : Ac
       let rows₁ : List Row = changeOf (e .kind) b e .rows in
       let m : ℕ = getD (b .rows) k blank .account in
       let f : getD rows₁ k blank ≡ getD (b .rows) k blank = changed .same k l w in
-      let z : moved m rows₁ ≡ 0 = rw (money-others (e .account) (b .rows) rows₁ changed m w, debt-others b (s .near) (e .account) rows₁ changed m w) (row-spent b s k l) in
+      let z : moved m rows₁ ≡ 0 = rw (money-others (e .account) (b .rows) rows₁ changed m w, debt-others b (s .near) (e .account) rows₁ changed m w) (row-no-idle-money b s k l) in
       settleAccounts-still m (length (changeOf (e .kind) b e .accounts)) rows₁ k (ap (λ (r : Row). r .account) f) z ∙ f
 
   after-added : (k : ℕ) → length (b .rows) ≤ k → k < length (after b e .rows) → getD (after b e .rows) k blank .account ≡ e .account
@@ -103,7 +105,7 @@ module _ (b : Book) (e : Instruction) (s : Sound b) (ne : e .kind ≢ 9) (q : Ac
 
 -- ---- post
 
-module _ (b : Book) (e : Instruction) (s : sound b ≡ true) (ne : e .kind ≢ 9) where
+module _ (b : Book) (e : Instruction) (s : sound b ≡ true) (ne : e .kind ≢ EventTick) where
   pub post-frame-account : (n : ℕ) → n ≢ e .account → account (post b e .book) n ≡ account b n
   post-frame-account n w = go (eqb (answerNumber b e) 0) refl
     where

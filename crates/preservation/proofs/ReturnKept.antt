@@ -9,20 +9,21 @@ use lib.ListN.{length, getD, set, length-append, length-set, List·getD-append}
 use lib.Seq.{getD-set-same, getD-set-other}
 use lib.Dec.{eqb, leb}
 use borrow.Author.Tests.{leb-true, le-leb, lt-ltb, eqb-true, eq-eqb, ne-eqb, not-false}
+use Rattle.records.specs.Codes.{KindPayment, EventReturnedCheck}
 use Rattle.records.specs.Updates.{withState, withReturned}
 use Rattle.records.specs.AccountOperations.{checkReturned}
 use Rattle.lists.specs.Tests.{_from_to_}
 use Rattle.lists.specs.Lists.{only, count}
 use Rattle.lists.proofs.TestLaws.{and-left, and-right, and-both, or-left}
 use Rattle.lists.proofs.SumLaws.{sumBy-set, sumBy-set-same}
-use Rattle.rules.specs.Limits.{highestPayment, highestFee, highestCharge, returnFee}
-use Rattle.rules.specs.Rows.{Row, Fee, Reversal, blank, rowNo, toll, newRow, withMark, withReference, feeNaming, sourceOf, debitOf}
+use Rattle.records.specs.Limits.{highestPayment, highestFee, highestCharge, returnFee}
+use Rattle.rules.specs.Rows.{Row, KindFee, KindReversal, blank, rowNo, toll, newRow, withMark, withReference, feeNaming, sourceOf, debitOf}
 use Rattle.rules.specs.Settlement.{used, paid}
 use Rattle.rules.specs.Book.{Account, unused, Instruction, Book, withRows, withAccounts, accountNo, addRow}
 use Rattle.rules.specs.Events.{returnCheck}
-use Rattle.rules.specs.Soundness.{kindFits, mostOf, amountFits, settledFits, markFits, tollWordsFit, noReference, rowDayFits, dueWithin, holdFits, accountUsed, names, referenceFits, passage, passageOnce, feesFit, returnedOf, stateFits, unusedZero, requestFits, topUpFits, declineFits, returnedFits, even, closedClear}
+use Rattle.rules.specs.Soundness.{kindFits, mostOf, amountFits, settledFits, markFits, tollWordsFit, noReference, rowDayFits, dueWithin, holdFits, accountUsed, names, referenceFits, passage, passageOnce, feesFit, returnedOf, stateFits, unusedZero, requestFits, topupFits, declineFits, returnedFits, usedIsPaid, closedClear}
 use Rattle.rules.specs.Refusals.{changeOf, wellFormed, formOf, returnForm, unknown, noRow, untimely}
-use Rattle.rules.proofs.SoundnessLaws.{Shape, Live, Standing, Counted, Near}
+use Rattle.rules.specs.SoundFacts.{Shape, Live, Standing, SumsFit, Near}
 use Rattle.preservation.proofs.Accepted.{Accepted}
 use Rattle.preservation.proofs.KeepingLaws.{grown, near-framed, framed-near, near-add-quiet, kept-set, framed-put}
 use Rattle.preservation.proofs.OthersLaws.{others-set, counted-others}
@@ -32,7 +33,7 @@ use Rattle.preservation.proofs.LookupLaws.{there, today-fits, inside, u
 
 module _ (today : ℕ) (y : Account) (u : eqb (y .state) 0 ≡ false) where
   returned-standing : Standing today y → Standing today (checkReturned y)
-  unfolding checkReturned stateFits unusedZero requestFits topUpFits declineFits
+  unfolding checkReturned stateFits unusedZero requestFits topupFits declineFits
   returned-standing v = go (eqb (y .state) 3) refl
     where
       go : (t : Bool) → eqb (y .state) 3 ≡ t → Standing today (withReturned (y .returned + 1) (cond t (withState 2 y) y))
@@ -67,12 +68,12 @@ returned-count y = refl
 
 -- ---- a new row that names payment row j
 
-named-payment : (rows : List Row) (y : Row) (j : ℕ) → j < length rows → y .reference ≡ suc j → getD rows j blank .kind ≡ 4 → getD rows j blank .account ≡ y .account
+named-payment : (rows : List Row) (y : Row) (j : ℕ) → j < length rows → y .reference ≡ suc j → getD rows j blank .kind ≡ KindPayment → getD rows j blank .account ≡ y .account
     → names (grown rows y) (suc (length rows)) y 4 ≡ true
 unfolding names
 named-payment rows y j l e k a =
     let f : rowNo (grown rows y) (y .reference) ≡ getD rows j blank = ap (λ (n : ℕ). rowNo (grown rows y) n) e ∙ List·getD-append rows (y ∷ []) blank j l in
-    let p : rowNo (grown rows y) (y .reference) .kind ≡ 4 = ap (λ (r : Row). r .kind) f ∙ k in
+    let p : rowNo (grown rows y) (y .reference) .kind ≡ KindPayment = ap (λ (r : Row). r .kind) f ∙ k in
     let q : rowNo (grown rows y) (y .reference) .account ≡ y .account = ap (λ (r : Row). r .account) f ∙ a in
     rw (lt-ltb (y .reference) (suc (length rows)) (omega arith), p, q) (eq-eqb (y .account) (y .account) refl)
 
@@ -99,13 +100,13 @@ module _ (b : Book) (k j m c d x : ℕ) where
   marked = withRows rows₁ (withAccounts accounts₁ b)
 
   abbrev reversal : Row
-  reversal = withReference (suc j) (newRow Reversal (suc k) (b .day) (it .amount))
+  reversal = withReference (suc j) (newRow KindReversal (suc k) (b .day) (it .amount))
 
   abbrev fee : Row
-  fee = withReference (suc j) (newRow Fee (suc k) (b .day) (m + returnFee))
+  fee = withReference (suc j) (newRow KindFee (suc k) (b .day) (m + returnFee))
 
   module _ (s : Near (b .day) b) (q : Accepted b event4) where
-    is-payment : it .kind ≡ 4
+    is-payment : it .kind ≡ KindPayment
     unfolding noRow
     is-payment = named-kind b (suc j) (suc k) 4 (q .named)
 
@@ -161,24 +162,24 @@ module _ (b : Book) (k j m c d x : ℕ) where
         let old : f it ≡ 0 = rw (its-account, is-payment, is-check, eq-eqb (suc k) (suc k) refl) in
         omega (arith, sumBy-set f (b .rows) j (withMark 4 it) blank row-there)
 
-    even-kept : even (b .rows) (suc k) ≡ true → even rows₁ (suc k) ≡ true
-    unfolding even used paid only sourceOf debitOf
-    even-kept e =
+    used-is-paid-kept : usedIsPaid (b .rows) (suc k) ≡ true → usedIsPaid rows₁ (suc k) ≡ true
+    unfolding usedIsPaid used paid only sourceOf debitOf
+    used-is-paid-kept e =
         rw (
           sumBy-set-same (only (sourceOf (suc k)) (λ r. r .settled)) (b .rows) j (withMark 4 it) blank refl,
           sumBy-set-same (only (debitOf (suc k)) (λ r. r .settled)) (b .rows) j (withMark 4 it) blank refl,
         ) e
 
-    marked-counted : (i : ℕ) → i < length (b .accounts) → Counted rows₁ (suc i) (getD accounts₁ i unused)
+    marked-counted : (i : ℕ) → i < length (b .accounts) → SumsFit rows₁ (suc i) (getD accounts₁ i unused)
     unfolding returnedFits closedClear
     marked-counted i l = go (ℕ-discrete i k)
       where
-        go : Dec (i ≡ k) → Counted rows₁ (suc i) (getD accounts₁ i unused)
+        go : Dec (i ≡ k) → SumsFit rows₁ (suc i) (getD accounts₁ i unused)
         go (yes e) =
             let v = s .counted k account-there in
             rw (e, getD-set-same (b .accounts) k (checkReturned holder) unused account-there) (record {
               returned = eq-eqb _ _ (returned-count holder ∙ omega (arith, one-more, eqb-true (holder .returned) (count (returnedOf (suc k)) (b .rows)) (v .returned)));
-              even = even-kept (v .even);
+              used-is-paid = used-is-paid-kept (v .used-is-paid);
               clear = rw (returned-unclosed holder);
             })
         go (no e) =
@@ -248,7 +249,7 @@ module _ (b : Book) (k j m c d x : ℕ) where
         shape
         (unfold settledFits dueWithin holdFits in record { settled = and-both (leb 0 (m + returnFee)) _ (le-leb 0 (m + returnFee) (omega arith)) refl; due = refl; hold = refl })
       where
-        kind-there : getD rows₂ j blank .kind ≡ 4
+        kind-there : getD rows₂ j blank .kind ≡ KindPayment
         kind-there = ap (λ (r : Row). r .kind) reversed-row ∙ is-payment
 
         there₂ : j < length rows₂
@@ -257,7 +258,7 @@ module _ (b : Book) (k j m c d x : ℕ) where
         no-toll : (i : ℕ) → i < length rows₂ → toll (getD rows₂ i blank) ≡ true → eqb (suc j) (suc i) ≡ false
         no-toll i h t = ne-eqb (suc j) (suc i) (λ e.
             let z : i ≡ j = omega arith in
-            let w : getD rows₂ i blank .kind ≡ 4 = rw z kind-there in
+            let w : getD rows₂ i blank .kind ≡ KindPayment = rw z kind-there in
             absurd (omega (arith, eqb-true (getD rows₂ i blank .kind) 1 t)))
 
         shape : Shape (b .day) accounts₁ (grown rows₂ fee) (suc (length rows₂)) fee
@@ -275,7 +276,7 @@ module _ (b : Book) (k j m c d x : ℕ) where
         }
 
 pub returnCheck-near : (b : Book) (n a m c d x : ℕ) → Near (b .day) b → Accepted b (record { kind = 4; account = n; a = a; b = m; c = c; d = d; e = x })
-    → Near (b .day) (changeOf 4 b (record { kind = 4; account = n; a = a; b = m; c = c; d = d; e = x }))
+    → Near (b .day) (changeOf EventReturnedCheck b (record { kind = 4; account = n; a = a; b = m; c = c; d = d; e = x }))
 unfolding changeOf returnCheck unknown noRow
 returnCheck-near b zero a m c d x s q = absurd (true≢false (q .known))
 returnCheck-near b (suc k) zero m c d x s q = absurd (true≢false (q .named))

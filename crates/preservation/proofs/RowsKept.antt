@@ -10,11 +10,11 @@ use lib.ListN.{length, getD, set, length-append, length-map, length-set, List·g
 use lib.Seq.{getD-set-same, getD-set-other}
 use lib.Dec.{eqb}
 use borrow.Author.Tests.{eqb-true}
-use Rattle.records.specs.Codes.{CheckReturned, Upheld}
-use Rattle.rules.specs.Rows.{Row, blank, withMark, withHold, withDispute, remaining, settleWhole, feeNaming, source}
+use Rattle.records.specs.Codes.{MethodCheckReturned, DisputeUpheld, KindToll, KindPayment}
+use Rattle.rules.specs.Rows.{Row, blank, withMark, withHoldStart, withDispute, remaining, settleWhole, feeNaming, source}
 use Rattle.rules.specs.Settlement.{settle, settleAccounts}
 use Rattle.rules.specs.Book.{Instruction, Book, account, row, settled}
-use Rattle.rules.specs.Events.{openAccount, postToll, postPayment, returnCheck, holdFrom, holdToll, release, uphold, reject, decide, payTopUp, declineTopUp, topUpResult, requestClose}
+use Rattle.rules.specs.Events.{openAccount, postToll, postPayment, returnCheck, holdFrom, holdToll, release, uphold, reject, decide, payTopup, declineTopup, topupResult, requestClose}
 use Rattle.rules.specs.Tick.{nextDay, holdEnds, endHold, endHolds, beforeRaising, rises, raise, raiseTolls, closes, useUp, closeAccounts, tick}
 use Rattle.rules.specs.Refusals.{changeOf, after, answerNumber, noRow}
 use Rattle.rules.specs.Posting.{post}
@@ -128,9 +128,9 @@ return-kept : (b : Book) (n a m c d x : ℕ) → Accepted b (record { kind = 4; 
     → RowsKept (b .rows) (returnCheck b (record { kind = 4; account = n; a = a; b = m; c = c; d = d; e = x }) .rows)
 unfolding returnCheck noRow
 return-kept b n a m c d x q =
-    let k : row b a .kind ≡ 4 = named-kind b a n 4 (q .named) in
-    let r : Row = withMark CheckReturned (row b a) in
-    let xs : List Row = set (b .rows) (a - 1) (withMark CheckReturned (row b a)) in
+    let k : row b a .kind ≡ KindPayment = named-kind b a n 4 (q .named) in
+    let r : Row = withMark MethodCheckReturned (row b a) in
+    let xs : List Row = set (b .rows) (a - 1) (withMark MethodCheckReturned (row b a)) in
     rows-kept (b .rows) xs _
     (put-kept b a r (omega arith) (record { kind = refl; account = refl; amount = refl; reference = refl; left = omega arith }))
     (rows-kept xs _ _ (rows-add xs _) (rows-add _ _))
@@ -139,18 +139,18 @@ hold-kept : (b : Book) (n a m c d x : ℕ) → Accepted b (record { kind = 5; ac
     → RowsKept (b .rows) (holdToll b (record { kind = 5; account = n; a = a; b = m; c = c; d = d; e = x }) .rows)
 unfolding holdToll holdFrom noRow
 hold-kept b n a m c d x q =
-    let k : row b a .kind ≡ 1 = named-kind b a n 1 (q .named) in
+    let k : row b a .kind ≡ KindToll = named-kind b a n 1 (q .named) in
     put-kept b a (holdFrom (b .day) (row b a)) (omega arith) (record { kind = refl; account = refl; amount = refl; reference = refl; left = omega arith })
 
 module _ (b : Book) (n a m c d x : ℕ) (q : Accepted b (event6 b n a m c d x)) where
   there : 0 < row b a .kind
-  there = let k : row b a .kind ≡ 1 = decided b n a m c d x q .toll in omega arith
+  there = let k : row b a .kind ≡ KindToll = decided b n a m c d x q .toll in omega arith
 
   uphold-kept : RowsKept (b .rows) (uphold b (event6 b n a m c d x) .rows)
   unfolding uphold feeNaming
   uphold-kept =
-      let r : Row = settleWhole (withHold 0 (withDispute Upheld (row b a))) in
-      let xs : List Row = set (b .rows) (a - 1) (settleWhole (withHold 0 (withDispute Upheld (row b a)))) in
+      let r : Row = settleWhole (withHoldStart 0 (withDispute DisputeUpheld (row b a))) in
+      let xs : List Row = set (b .rows) (a - 1) (settleWhole (withHoldStart 0 (withDispute DisputeUpheld (row b a)))) in
       rows-kept (b .rows) xs _ (put-kept b a r there (record { kind = refl; account = refl; amount = refl; reference = refl; left = omega arith }))
       (rows-kept xs _ _ (rows-map (λ y. cond (feeNaming a y) (settleWhole y) y) refl (λ y. row-cond (feeNaming a y) y (settleWhole y) (row-whole y)) xs) (rows-add _ _))
 
@@ -162,11 +162,11 @@ module _ (b : Book) (n a m c d x : ℕ) (q : Accepted b (event6 b n a m c d x)) 
       go true = uphold-kept
       go false = put-kept b a (release (b .day) (row b a)) there (row-released (b .day) (row b a))
 
-topUp-kept : (b : Book) (e : Instruction) → RowsKept (b .rows) (topUpResult b e .rows)
-unfolding topUpResult payTopUp declineTopUp
-topUp-kept b e = go (eqb (e .b) 1)
+topup-kept : (b : Book) (e : Instruction) → RowsKept (b .rows) (topupResult b e .rows)
+unfolding topupResult payTopup declineTopup
+topup-kept b e = go (eqb (e .b) 1)
   where
-    go : (t : Bool) → RowsKept (b .rows) (cond t (payTopUp b e) (declineTopUp b e) .rows)
+    go : (t : Bool) → RowsKept (b .rows) (cond t (payTopup b e) (declineTopup b e) .rows)
     go true = rows-add (b .rows) _
     go false = rows-same (b .rows)
 
@@ -208,7 +208,7 @@ change-kept b (suc (suc (suc zero))) n a m c d x q = rows-add (b .rows) _
 change-kept b (suc (suc (suc (suc zero)))) n a m c d x q = return-kept b n a m c d x q
 change-kept b (suc (suc (suc (suc (suc zero))))) n a m c d x q = hold-kept b n a m c d x q
 change-kept b (suc (suc (suc (suc (suc (suc zero)))))) n a m c d x q = decide-kept b n a m c d x q
-change-kept b (suc (suc (suc (suc (suc (suc (suc zero))))))) n a m c d x q = topUp-kept b (record { kind = 7; account = n; a = a; b = m; c = c; d = d; e = x })
+change-kept b (suc (suc (suc (suc (suc (suc (suc zero))))))) n a m c d x q = topup-kept b (record { kind = 7; account = n; a = a; b = m; c = c; d = d; e = x })
 change-kept b (suc (suc (suc (suc (suc (suc (suc (suc zero)))))))) n a m c d x q = rows-same (b .rows)
 change-kept b (suc (suc (suc (suc (suc (suc (suc (suc (suc zero))))))))) n a m c d x q = tick-kept b (record { kind = 9; account = n; a = a; b = m; c = c; d = d; e = x })
 change-kept b (suc (suc (suc (suc (suc (suc (suc (suc (suc (suc k)))))))))) n a m c d x q = rows-same (b .rows)

@@ -15,11 +15,11 @@ use Rattle.lists.proofs.TestLaws.{and-left, and-right, and-both}
 use Rattle.rules.specs.Rows.{Row, blank, heldToll, unsettled, settleMore, feeNaming, sourceOf, payable}
 use Rattle.rules.specs.Settlement.{money, debt, moved, settle, settleAccounts, used, paid, owed}
 use Rattle.rules.specs.Book.{Account, unused, Book, withRows, settled}
-use Rattle.rules.specs.Soundness.{kindFits, amountFits, settledFits, markFits, tollWordsFit, noReference, rowDayFits, dueWithin, holdFits, accountUsed, names, referenceFits, passage, passageOnce, feesFit, returnedOf, returnedFits, even, spent, closedClear}
+use Rattle.rules.specs.Soundness.{kindFits, amountFits, settledFits, markFits, tollWordsFit, noReference, rowDayFits, dueWithin, holdFits, accountUsed, names, referenceFits, passage, passageOnce, feesFit, returnedOf, returnedFits, usedIsPaid, noIdleMoney, closedClear}
 use Rattle.rules.proofs.AllocationLaws.{share, share-le}
 use Rattle.rules.proofs.SettlementLaws.{settle-same, settle-fair, settle-row, settle-at, length-settle, held-source, held-payable}
-use Rattle.rules.proofs.SettlementAccountsLaws.{used-other, money-other, paid-other, owed-other, count-settle, named-settle, length-settleAccounts, settleAccounts-spent}
-use Rattle.rules.proofs.SoundnessLaws.{Shape, Live, Counted, Near, Sound}
+use Rattle.rules.proofs.SettlementAccountsLaws.{used-other, money-other, paid-other, owed-other, count-settle, named-settle, length-settleAccounts, settleAccounts-no-idle-money}
+use Rattle.rules.specs.SoundFacts.{Shape, Live, SumsFit, Near, Sound}
 use Rattle.rules.proofs.StorableLaws.{settled-le}
 use Rattle.preservation.proofs.CarriedLaws.{Carries, reference-carried}
 
@@ -114,11 +114,11 @@ live-settle past today L a rows i v =
 
 -- ---- one account
 
-counted-self : (a : ℕ) (rows : List Row) (x : Account) → Counted rows a x → Counted (settle a rows) a x
-unfolding returnedFits even closedClear returnedOf moved
+counted-self : (a : ℕ) (rows : List Row) (x : Account) → SumsFit rows a x → SumsFit (settle a rows) a x
+unfolding returnedFits usedIsPaid closedClear returnedOf moved
 counted-self a rows x c = record {
   returned = rw (count-settle (returnedOf a) (λ r. refl) a rows) (c .returned);
-  even = eq-eqb _ _ (settle-fair a rows (eqb-true (used a rows) (paid a rows) (c .even)));
+  used-is-paid = eq-eqb _ _ (settle-fair a rows (eqb-true (used a rows) (paid a rows) (c .used-is-paid)));
   clear = clear (eqb (x .state) 3) (c .clear);
 }
   where
@@ -129,18 +129,18 @@ counted-self a rows x c = record {
         rw (settle-same a rows z) e
     clear false e = refl
 
-counted-other : (a : ℕ) (rows : List Row) (n : ℕ) (x : Account) → a ≢ n → Counted rows n x → Counted (settle a rows) n x
-unfolding returnedFits even closedClear returnedOf
+counted-other : (a : ℕ) (rows : List Row) (n : ℕ) (x : Account) → a ≢ n → SumsFit rows n x → SumsFit (settle a rows) n x
+unfolding returnedFits usedIsPaid closedClear returnedOf
 counted-other a rows n x q c = record {
   returned = rw (count-settle (returnedOf n) (λ r. refl) a rows) (c .returned);
-  even = rw (used-other a n q rows, paid-other a n q rows) (c .even);
+  used-is-paid = rw (used-other a n q rows, paid-other a n q rows) (c .used-is-paid);
   clear = rw (money-other a n q rows, owed-other a n q rows) (c .clear);
 }
 
-counted-settle : (a : ℕ) (rows : List Row) (n : ℕ) (x : Account) → Counted rows n x → Counted (settle a rows) n x
+counted-settle : (a : ℕ) (rows : List Row) (n : ℕ) (x : Account) → SumsFit rows n x → SumsFit (settle a rows) n x
 counted-settle a rows n x c = go (ℕ-discrete n a)
   where
-    go : Dec (n ≡ a) → Counted (settle a rows) n x
+    go : Dec (n ≡ a) → SumsFit (settle a rows) n x
     go (yes q) = rw q (counted-self a rows x (rw q at c))
     go (no q) = counted-other a rows n x (λ e. q (sym e)) c
 
@@ -167,9 +167,9 @@ unfolding settleAccounts
 near-settleAccounts past zero b s = s
 near-settleAccounts past (suc n) b s = near-settle past (withRows (settleAccounts n (b .rows)) b) (suc n) (near-settleAccounts past n b s)
 
-spent-is : (rows : List Row) (n : ℕ) → moved n rows ≡ 0 → spent rows n ≡ true
-unfolding moved spent
-spent-is rows n e = go (money n rows) (debt n rows) e
+no-idle-money-is : (rows : List Row) (n : ℕ) → moved n rows ≡ 0 → noIdleMoney rows n ≡ true
+unfolding moved noIdleMoney
+no-idle-money-is rows n e = go (money n rows) (debt n rows) e
   where
     go : (m d : ℕ) → min m d ≡ 0 → eqb m 0 || eqb d 0 ≡ true
     go zero d q = refl
@@ -183,7 +183,7 @@ pub settled-sound : (b : Book) → Near (b .day) b → Sound (settled b)
 unfolding settled
 settled-sound b s = record {
   near = near-settleAccounts (b .day) (length (b .accounts)) b s;
-  spent = λ k h. spent-is (settleAccounts (length (b .accounts)) (b .rows)) (suc k) (settleAccounts-spent (length (b .accounts)) (b .rows) k h);
+  no-idle-money = λ k h. no-idle-money-is (settleAccounts (length (b .accounts)) (b .rows)) (suc k) (settleAccounts-no-idle-money (length (b .accounts)) (b .rows) k h);
 }
 
 pub length-settled : (b : Book) → length (settled b .rows) ≡ length (b .rows)

@@ -6,17 +6,18 @@ use mathlib.Core.List.{List, [], _∷_}
 use lib.Dec.{eqb}
 use borrow.Author.Tests.{eqb-true}
 use Rattle.rules.specs.Book.{Instruction, Book}
-use Rattle.rules.specs.Events.{openAccount, postToll, postPayment, returnCheck, holdToll, decide, uphold, reject, topUpResult, payTopUp, declineTopUp, requestClose}
+use Rattle.rules.specs.Events.{openAccount, postToll, postPayment, returnCheck, holdToll, decide, uphold, reject, topupResult, payTopup, declineTopup, requestClose}
 use Rattle.rules.specs.Soundness.{sound}
 use Rattle.rules.specs.Refusals.{changeOf, after, wellFormed, formOf, answerNumber}
 use Rattle.rules.specs.Posting.{post, bookAfter}
 use Rattle.rules.proofs.PostingLaws.{post-refused, post-accepted}
-use Rattle.rules.proofs.SoundnessLaws.{Near, Sound, sound-facts, facts-sound}
+use Rattle.rules.specs.SoundFacts.{Near, Sound}
+use Rattle.rules.proofs.SoundnessLaws.{sound-facts, facts-sound}
 use Rattle.preservation.proofs.Accepted.{Accepted, accepted}
 use Rattle.preservation.proofs.SettledLaws.{settled-sound}
 use Rattle.preservation.proofs.AccountKept.{openAccount-near, requestClose-near}
 use Rattle.preservation.proofs.TollKept.{postToll-near}
-use Rattle.preservation.proofs.PaymentKept.{postPayment-near, topUpResult-near}
+use Rattle.preservation.proofs.PaymentKept.{postPayment-near, topupResult-near}
 use Rattle.preservation.proofs.ReturnKept.{returnCheck-near}
 use Rattle.preservation.proofs.DisputeKept.{holdToll-near}
 use Rattle.preservation.proofs.UpholdKept.{decide-near}
@@ -34,17 +35,17 @@ module _ (b : Book) (e : Instruction) where
       go true = refl
       go false = refl
 
-  day-topUpResult : topUpResult b e .day ≡ b .day
-  unfolding topUpResult payTopUp declineTopUp
-  day-topUpResult = go (eqb (e .b) 1)
+  day-topupResult : topupResult b e .day ≡ b .day
+  unfolding topupResult payTopup declineTopup
+  day-topupResult = go (eqb (e .b) 1)
     where
-      go : (t : Bool) → cond t (payTopUp b e) (declineTopUp b e) .day ≡ b .day
+      go : (t : Bool) → cond t (payTopup b e) (declineTopup b e) .day ≡ b .day
       go true = refl
       go false = refl
 
 change-near : (b : Book) (k n a m c d x : ℕ) → Near (b .day) b → Accepted b (record { kind = k; account = n; a = a; b = m; c = c; d = d; e = x })
     → Near (changeOf k b (record { kind = k; account = n; a = a; b = m; c = c; d = d; e = x }) .day) (changeOf k b (record { kind = k; account = n; a = a; b = m; c = c; d = d; e = x }))
-unfolding changeOf openAccount postToll postPayment returnCheck holdToll decide topUpResult requestClose wellFormed formOf
+unfolding changeOf openAccount postToll postPayment returnCheck holdToll decide topupResult requestClose wellFormed formOf
 change-near b zero n a m c d x s q = absurd (true≢false (q .formed))
 change-near b (suc zero) n a m c d x s q = openAccount-near b n a m c d x s q
 change-near b (suc (suc zero)) n a m c d x s q = postToll-near b n a m c d x s q
@@ -52,7 +53,7 @@ change-near b (suc (suc (suc zero))) n a m c d x s q = postPayment-near b n a m 
 change-near b (suc (suc (suc (suc zero)))) n a m c d x s q = returnCheck-near b n a m c d x s q
 change-near b (suc (suc (suc (suc (suc zero))))) n a m c d x s q = holdToll-near b n a m c d x s q
 change-near b (suc (suc (suc (suc (suc (suc zero)))))) n a m c d x s q = rw (day-decide b (record { kind = 6; account = n; a = a; b = m; c = c; d = d; e = x })) (decide-near b n a m c d x s q)
-change-near b (suc (suc (suc (suc (suc (suc (suc zero))))))) n a m c d x s q = rw (day-topUpResult b (record { kind = 7; account = n; a = a; b = m; c = c; d = d; e = x })) (topUpResult-near b n a m c d x s q)
+change-near b (suc (suc (suc (suc (suc (suc (suc zero))))))) n a m c d x s q = rw (day-topupResult b (record { kind = 7; account = n; a = a; b = m; c = c; d = d; e = x })) (topupResult-near b n a m c d x s q)
 change-near b (suc (suc (suc (suc (suc (suc (suc (suc zero)))))))) n a m c d x s q = requestClose-near b n a m c d x s q
 change-near b (suc (suc (suc (suc (suc (suc (suc (suc (suc zero))))))))) n a m c d x s q = tick-near b n a m c d x s q
 change-near b (suc (suc (suc (suc (suc (suc (suc (suc (suc (suc k)))))))))) n a m c d x s q = absurd (true≢false (q .formed))

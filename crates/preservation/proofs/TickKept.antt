@@ -9,10 +9,11 @@ use lib.ListN.{length, getD, drop, length-append, length-map, length-drop}
 use lib.Seq.{getD-drop, drop-append-le}
 use lib.Dec.{eqb, ltb}
 use borrow.Author.Tests.{ltb-false, eq-eqb}
+use Rattle.records.specs.Codes.{EventTick}
 use Rattle.lists.specs.Lists.{sumBy, count, exists, one, gather}
 use Rattle.lists.proofs.SumLaws.{sumBy-append, sumBy-longer}
 use Rattle.lists.proofs.GatherLaws.{gather-at-le}
-use Rattle.rules.specs.Limits.{finalDay, highestRefund}
+use Rattle.records.specs.Limits.{finalDay, highestRefund}
 use Rattle.rules.specs.Rows.{Row, Test, blank}
 use Rattle.rules.specs.Settlement.{money, settleAccounts}
 use Rattle.rules.specs.Book.{Account, unused, Instruction, Book, settled}
@@ -20,7 +21,7 @@ use Rattle.rules.specs.Tick.{beforeRaising, raise, feeRow, raiseTolls, closes, 
 use Rattle.rules.specs.Refusals.{changeOf, after, lastDay, ceiling}
 use Rattle.rules.proofs.AllocationLaws.{bare}
 use Rattle.rules.proofs.SettlementAccountsLaws.{length-settleAccounts, settleAccounts-row}
-use Rattle.rules.proofs.SoundnessLaws.{Near}
+use Rattle.rules.specs.SoundFacts.{Near}
 use Rattle.preservation.proofs.Accepted.{Accepted}
 use Rattle.preservation.proofs.LookupLaws.{after-fits}
 use Rattle.preservation.proofs.HoldsEnded.{beforeRaising-near}
@@ -117,7 +118,7 @@ module _ (b : Book) (n a m c d x : ℕ) where
   unfolding raiseTolls
   late-room = unraised-room b
 
-  pub tick-near : Near (b .day) b → Accepted b event9 → Near (changeOf 9 b event9 .day) (changeOf 9 b event9)
+  pub tick-near : Near (b .day) b → Accepted b event9 → Near (changeOf EventTick b event9 .day) (changeOf EventTick b event9)
   unfolding changeOf tick
   tick-near s q =
       same-day

@@ -11,7 +11,7 @@ use Rattle.lists.proofs.TestLaws.{and3, cond-either}
 use Rattle.lists.proofs.ListLaws.{map-at}
 use Rattle.lists.proofs.SumLaws.{sumBy-map, sumBy-ext}
 use Rattle.rules.specs.Schedule.{Schedule}
-use Rattle.rules.specs.Rows.{Row, Toll, LastStage, blank, withDue, withMark, toll, heldToll, unsettled, remaining, sourceOf}
+use Rattle.rules.specs.Rows.{Row, KindToll, LastStage, blank, withDue, withMark, toll, heldToll, unsettled, remaining, sourceOf}
 use Rattle.rules.specs.Settlement.{money, settleAccounts}
 use Rattle.rules.specs.Book.{Book, settled}
 use Rattle.rules.specs.Events.{release}
@@ -41,7 +41,7 @@ endHold-free today r f = endHold-goes-on today r (rw f)
 -- ---- a toll rises
 
 pub record Rising (today : ℕ) (r : Row) : Type 0 where
-  pub toll : r .kind ≡ Toll
+  pub toll : r .kind ≡ KindToll
   pub free : heldToll r ≡ false
   pub open-still : unsettled r ≡ true
   pub under : r .mark < LastStage

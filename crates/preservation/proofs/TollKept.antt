@@ -7,17 +7,18 @@ use mathlib.Core.List.{[], _∷_}
 use lib.ListN.{length, length-append}
 use lib.Dec.{eqb, leb}
 use borrow.Author.Tests.{leb-true, le-leb, lt-ltb, ltb-false, eqb-true, eq-eqb, not-false}
+use Rattle.records.specs.Codes.{EventToll}
 use Rattle.lists.specs.Tests.{_from_to_}
 use Rattle.lists.specs.Lists.{count, exists}
 use Rattle.lists.proofs.TestLaws.{and-left, and-right, and-both}
 use Rattle.lists.proofs.SumLaws.{sumBy-snoc}
-use Rattle.rules.specs.Limits.{finalDay, highestRate, highestPassage, mostAxles, highestHeight}
-use Rattle.rules.specs.Rows.{Row, Toll, newRow, withDue, withReference, feeNaming}
+use Rattle.records.specs.Limits.{finalDay, highestRate, highestPassage, mostAxles, highestHeight}
+use Rattle.rules.specs.Rows.{Row, KindToll, newRow, withDue, withReference, feeNaming}
 use Rattle.rules.specs.Book.{Instruction, Book, account}
 use Rattle.rules.specs.Events.{tollRate, postToll}
 use Rattle.rules.specs.Soundness.{kindFits, mostOf, amountFits, settledFits, markFits, tollWordsFit, noReference, rowDayFits, dueWithin, holdFits, accountUsed, referenceFits, passage, passageOnce, feesFit, returnedOf}
 use Rattle.rules.specs.Refusals.{changeOf, wellFormed, formOf, tollForm, unknown, onClosed, duplicate}
-use Rattle.rules.proofs.SoundnessLaws.{Shape, Live, Near}
+use Rattle.rules.specs.SoundFacts.{Shape, Live, Near}
 use Rattle.preservation.proofs.Accepted.{Accepted}
 use Rattle.preservation.proofs.KeepingLaws.{grown, Distinct, Quiet, count-add, near-add-quiet}
 use Rattle.preservation.proofs.LookupLaws.{today-fits, used-state, after-fits}
@@ -28,7 +29,7 @@ module _ (b : Book) (n a m c d x : ℕ) where
   event2 = record { kind = 2; account = n; a = a; b = m; c = c; d = d; e = x }
 
   abbrev it : Row
-  it = withReference a (withDue (b .day + b .schedule .stage) (newRow Toll n (b .day) (tollRate (b .schedule) event2)))
+  it = withReference a (withDue (b .day + b .schedule .stage) (newRow KindToll n (b .day) (tollRate (b .schedule) event2)))
 
   module _ (s : Near (b .day) b) (q : Accepted b event2) where
     abbrev p1 : Bool
@@ -106,7 +107,7 @@ module _ (b : Book) (n a m c d x : ℕ) where
           hold = refl;
         }
 
-    pub postToll-near : Near (b .day) (changeOf 2 b event2)
+    pub postToll-near : Near (b .day) (changeOf EventToll b event2)
     unfolding changeOf postToll
     postToll-near =
         near-add-quiet (b .day) b it s (omega (arith, after-fits b event2 (q .fits), length-append (b .rows) (it ∷ []))) distinct quiet shape live

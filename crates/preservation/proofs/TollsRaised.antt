@@ -9,19 +9,20 @@ use mathlib.Core.List.{List, _++_, map}
 use lib.ListN.{length, getD}
 use lib.Dec.{eqb, leb, ltb}
 use borrow.Author.Tests.{leb-true, le-leb, ltb-true, lt-ltb, eqb-true, eq-eqb, ne-eqb}
+use Rattle.records.specs.Codes.{KindToll}
 use Rattle.lists.specs.Tests.{_implies_}
 use Rattle.lists.specs.Lists.{sumBy, only, count, one, gather}
 use Rattle.lists.proofs.TestLaws.{and-left, and-right, and-both, cond-zero, cond-both}
 use Rattle.lists.proofs.SumLaws.{sumBy-append, sumBy-map, sumBy-ext, sumBy-at-le}
 use Rattle.lists.proofs.GatherLaws.{gather-none, gather-only, gather-each, grown-each}
-use Rattle.rules.specs.Limits.{highestFee}
+use Rattle.records.specs.Limits.{highestFee}
 use Rattle.rules.specs.Schedule.{Schedule, stageFee}
-use Rattle.rules.specs.Rows.{Row, Test, Fee, blank, rowNo, newRow, withDue, withMark, withReference, remaining, unsettled, heldToll, feeNaming, sourceOf, debitOf}
+use Rattle.rules.specs.Rows.{Row, Test, KindFee, blank, rowNo, newRow, withDue, withMark, withReference, remaining, unsettled, heldToll, feeNaming, sourceOf, debitOf}
 use Rattle.rules.specs.Settlement.{money, used, paid, owed}
 use Rattle.rules.specs.Book.{Account, unused, Book}
 use Rattle.rules.specs.Tick.{rises, raise, feeRow, raiseTolls}
-use Rattle.rules.specs.Soundness.{kindFits, mostOf, amountFits, settledFits, markFits, tollWordsFit, noReference, rowDayFits, dueWithin, holdFits, accountUsed, names, referenceFits, passage, passageOnce, feesFit, returnedOf, returnedFits, even, closedClear}
-use Rattle.rules.proofs.SoundnessLaws.{Shape, Live, Counted, Near}
+use Rattle.rules.specs.Soundness.{kindFits, mostOf, amountFits, settledFits, markFits, tollWordsFit, noReference, rowDayFits, dueWithin, holdFits, accountUsed, names, referenceFits, passage, passageOnce, feesFit, returnedOf, returnedFits, usedIsPaid, closedClear}
+use Rattle.rules.specs.SoundFacts.{Shape, Live, SumsFit, Near}
 use Rattle.preservation.proofs.CarriedLaws.{Carries, carries-grown, reference-carried}
 use Rattle.preservation.proofs.SettledLaws.{hold-free}
 use Rattle.preservation.proofs.FeeLaws.{ScheduleParts, schedule-parts, stageFee-le}
@@ -30,7 +31,7 @@ use Rattle.preservation.proofs.TickSteps.{Rising, rising, raise-keeps}
 -- ---- a row that rises
 
 -- an account that owes nothing has no toll that rises
-wanted : (n : ℕ) (r : Row) (m : ℕ) → r .kind ≡ 1 → r .settled < r .amount → only (debitOf n) remaining r ≤ 0 → cond (eqb (r .account) n && true) m 0 ≡ 0
+wanted : (n : ℕ) (r : Row) (m : ℕ) → r .kind ≡ KindToll → r .settled < r .amount → only (debitOf n) remaining r ≤ 0 → cond (eqb (r .account) n && true) m 0 ≡ 0
 unfolding only debitOf
 wanted n r m k l b = go (eqb (r .account) n) refl
   where
@@ -51,7 +52,7 @@ module _ (s : Schedule) (today : ℕ) where
   returned-keeps n r = go (rises today r) refl
     where
       go : (t : Bool) → rises today r ≡ t → returnedOf n (cond t (withDue (r .due + s .stage) (withMark (r .mark + 1) r)) r) ≡ returnedOf n r
-      go true e = let k : r .kind ≡ 1 = rising today r e .toll in rw (k, and-false (eqb (r .account) n))
+      go true e = let k : r .kind ≡ KindToll = rising today r e .toll in rw (k, and-false (eqb (r .account) n))
       go false e = refl
 
   -- the stage and due day of a row after the step
@@ -102,7 +103,7 @@ module _ (s : Schedule) (today : ℕ) where
     gets x = rises today x && ltb 0 (stageFee s (x .mark + 1))
 
     abbrev newFee : ℕ → Row → Row
-    newFee n x = withReference n (newRow Fee (x .account) today (stageFee s (x .mark + 1)))
+    newFee n x = withReference n (newRow KindFee (x .account) today (stageFee s (x .mark + 1)))
 
     fee-zero : (g : Row → ℕ) (n : ℕ) (x : Row) → (gets x ≡ true → g (newFee n x) ≡ 0) → sumBy g (feeRow s today n x) ≡ 0
     unfolding sumBy feeRow
@@ -112,11 +113,11 @@ module _ (s : Schedule) (today : ℕ) where
         go true f = omega (arith, f refl)
         go false f = refl
 
-    same-later : (g : Row → ℕ) → ((r : Row) → g (raise s today r) ≡ g r) → ((n a m : ℕ) → g (withReference n (newRow Fee a today m)) ≡ 0) → sumBy g (later ++ added) ≡ sumBy g rows
+    same-later : (g : Row → ℕ) → ((r : Row) → g (raise s today r) ≡ g r) → ((n a m : ℕ) → g (withReference n (newRow KindFee a today m)) ≡ 0) → sumBy g (later ++ added) ≡ sumBy g rows
     unfolding feeRow
     same-later g f z = sum-later g f ∙ rw (gather-none (feeRow s today) g 1 rows blank (λ n k e l. fee-zero g n (getD rows k blank) (λ q. z n _ _)), add-zero)
 
-    count-later : (t : Test) → ((r : Row) → t (raise s today r) ≡ t r) → ((n a m : ℕ) → t (withReference n (newRow Fee a today m)) ≡ false) → count t (later ++ added) ≡ count t rows
+    count-later : (t : Test) → ((r : Row) → t (raise s today r) ≡ t r) → ((n a m : ℕ) → t (withReference n (newRow KindFee a today m)) ≡ false) → count t (later ++ added) ≡ count t rows
     unfolding count
     count-later t f z = same-later (λ r. cond (t r) 1 0) (λ r. rw (f r)) (λ n a m. rw (z n a m))
 
@@ -135,7 +136,7 @@ module _ (s : Schedule) (today : ℕ) where
         other : (m : ℕ) (x : Row) → m ≢ suc k → sumBy (λ r. cond (feeNaming (suc k) r) 1 0) (feeRow s today m x) ≡ 0
         other m x ne = fee-zero (λ r. cond (feeNaming (suc k) r) 1 0) m x (λ q. rw (ne-eqb m (suc k) ne))
 
-        self : (t : Bool) (a : ℕ) → sumBy (λ r. cond (feeNaming (suc k) r) 1 0) (one t (withReference (suc k) (newRow Fee a today (stageFee s (getD rows k blank .mark + 1))))) ≡ cond t 1 0
+        self : (t : Bool) (a : ℕ) → sumBy (λ r. cond (feeNaming (suc k) r) 1 0) (one t (withReference (suc k) (newRow KindFee a today (stageFee s (getD rows k blank .mark + 1))))) ≡ cond t 1 0
         self true a = rw (eq-eqb (suc k) (suc k) refl)
         self false a = refl
 
@@ -182,7 +183,7 @@ module _ (s : Schedule) (today : ℕ) where
     words-raised r v = go (rises today r) refl
       where
         go : (t : Bool) → rises today r ≡ t → tollWordsFit (cond t (withDue (r .due + s .stage) (withMark (r .mark + 1) r)) r) ≡ true
-        go true e = let k : r .kind ≡ 1 = rising today r e .toll in rw k (rw k at v)
+        go true e = let k : r .kind ≡ KindToll = rising today r e .toll in rw k (rw k at v)
         go false e = v
 
     reference-keeps : (n : ℕ) (r : Row) → referenceFits rows n (raise s today r) ≡ referenceFits rows n r
@@ -223,7 +224,7 @@ module _ (s : Schedule) (today : ℕ) where
         let x : Row = getD rows k blank in
         let w : Rising today x = rising today x (and-left (rises today x) _ e) in
         let amt : ℕ = stageFee s (x .mark + 1) in
-        let kd : rowNo (later ++ added) (suc k) .kind ≡ 1 = carries .kind (suc k) l ∙ w .toll in
+        let kd : rowNo (later ++ added) (suc k) .kind ≡ KindToll = carries .kind (suc k) l ∙ w .toll in
         let ac : rowNo (later ++ added) (suc k) .account ≡ x .account = carries .account (suc k) l in
         record {
           shape = λ n h. record {
@@ -254,14 +255,14 @@ module _ (s : Schedule) (today : ℕ) where
 
     -- ---- an account
 
-    counted-raised : (n : ℕ) (x : Account) → Counted rows n x → Counted (later ++ added) n x
-    unfolding returnedFits even closedClear returnedOf used paid money owed only sourceOf debitOf
+    counted-raised : (n : ℕ) (x : Account) → SumsFit rows n x → SumsFit (later ++ added) n x
+    unfolding returnedFits usedIsPaid closedClear returnedOf used paid money owed only sourceOf debitOf
     counted-raised n x c = record {
       returned = rw (count-later (returnedOf n) (returned-keeps n) (λ m a k. rw (and-false (eqb a n)))) (c .returned);
-      even = rw (
-        same-later (only (sourceOf n) (λ r. r .settled)) (keeps (only (sourceOf n) (λ r. r .settled)) (λ r v w. refl)) (λ m a k. cond-zero (sourceOf n (withReference m (newRow Fee a today k))) 0 refl),
-        same-later (only (debitOf n) (λ r. r .settled)) (keeps (only (debitOf n) (λ r. r .settled)) (λ r v w. refl)) (λ m a k. cond-zero (debitOf n (withReference m (newRow Fee a today k))) 0 refl),
-      ) (c .even);
+      used-is-paid = rw (
+        same-later (only (sourceOf n) (λ r. r .settled)) (keeps (only (sourceOf n) (λ r. r .settled)) (λ r v w. refl)) (λ m a k. cond-zero (sourceOf n (withReference m (newRow KindFee a today k))) 0 refl),
+        same-later (only (debitOf n) (λ r. r .settled)) (keeps (only (debitOf n) (λ r. r .settled)) (λ r v w. refl)) (λ m a k. cond-zero (debitOf n (withReference m (newRow KindFee a today k))) 0 refl),
+      ) (c .used-is-paid);
       clear = clear (eqb (x .state) 3) (c .clear);
     }
       where

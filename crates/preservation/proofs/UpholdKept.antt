@@ -11,18 +11,19 @@ use lib.ListN.{length, getD, set, length-append, length-set, length-map}
 use lib.Seq.{getD-set-same}
 use lib.Dec.{eqb, leb}
 use borrow.Author.Tests.{leb-true, le-leb, ltb-true, le-ltb, lt-ltb, eqb-true, eq-eqb}
+use Rattle.records.specs.Codes.{KindToll, KindFee, EventDecision}
 use Rattle.lists.specs.Tests.{_from_to_}
 use Rattle.lists.specs.Lists.{sumBy, only, count}
 use Rattle.lists.proofs.TestLaws.{and-left, and-right, and-both}
 use Rattle.lists.proofs.SumLaws.{sumBy-snoc, sumBy-set, sumBy-set-same, sumBy-map, sumBy-ext, sumBy-ext-at, sumBy-add, sumBy-le, sumBy-only-le, sumBy-at-le}
-use Rattle.rules.specs.Limits.{highestRate, highestFee, highestCredit}
-use Rattle.rules.specs.Rows.{Row, Credit, blank, rowNo, newRow, withSettled, withDispute, withHold, withReference, remaining, settleWhole, feeNaming, sourceOf, debitOf}
+use Rattle.records.specs.Limits.{highestRate, highestFee, highestCredit}
+use Rattle.rules.specs.Rows.{Row, KindCredit, blank, rowNo, newRow, withSettled, withDispute, withHoldStart, withReference, remaining, settleWhole, feeNaming, sourceOf, debitOf}
 use Rattle.rules.specs.Settlement.{money, used, paid, owed}
 use Rattle.rules.specs.Book.{unused, Instruction, Book, withRows, account, addRow}
 use Rattle.rules.specs.Events.{withFees, uphold, reject, decide}
-use Rattle.rules.specs.Soundness.{kindFits, mostOf, amountFits, settledFits, markFits, tollWordsFit, noReference, rowDayFits, dueWithin, holdFits, accountUsed, names, referenceFits, passage, passageOnce, feesFit, returnedOf, returnedFits, even, closedClear}
+use Rattle.rules.specs.Soundness.{kindFits, mostOf, amountFits, settledFits, markFits, tollWordsFit, noReference, rowDayFits, dueWithin, holdFits, accountUsed, names, referenceFits, passage, passageOnce, feesFit, returnedOf, returnedFits, usedIsPaid, closedClear}
 use Rattle.rules.specs.Refusals.{changeOf, unknown}
-use Rattle.rules.proofs.SoundnessLaws.{Shape, Live, Counted, Near}
+use Rattle.rules.specs.SoundFacts.{Shape, Live, SumsFit, Near}
 use Rattle.preservation.proofs.Accepted.{Accepted}
 use Rattle.preservation.proofs.CarriedLaws.{Carries, carries-set, carries-map, carries-append, carries-carries}
 use Rattle.rules.proofs.StorableLaws.{settled-le}
@@ -40,7 +41,7 @@ module _ (b : Book) (n j m c d x : ℕ) where
   it = getD (b .rows) j blank
 
   abbrev upheld : Row
-  upheld = settleWhole (withHold 0 (withDispute 3 it))
+  upheld = settleWhole (withHoldStart 0 (withDispute 3 it))
 
   abbrev rows₁ : List Row
   rows₁ = set (b .rows) j upheld
@@ -49,13 +50,13 @@ module _ (b : Book) (n j m c d x : ℕ) where
   rows₂ = map (forgive (suc j)) rows₁
 
   abbrev credit : Row
-  credit = withReference (suc j) (withSettled (withFees b (suc j) remaining) (newRow Credit n (b .day) (withFees b (suc j) (λ r. r .amount))))
+  credit = withReference (suc j) (withSettled (withFees b (suc j) remaining) (newRow KindCredit n (b .day) (withFees b (suc j) (λ r. r .amount))))
 
   abbrev rows₃ : List Row
   rows₃ = grown rows₂ credit
 
   module _ (s : Near (b .day) b) (q : Accepted b (event6 b n (suc j) m c d x)) where
-    is-toll : it .kind ≡ 1
+    is-toll : it .kind ≡ KindToll
     is-toll = decided b n (suc j) m c d x q .toll
 
     its-account : it .account ≡ n
@@ -123,7 +124,7 @@ module _ (b : Book) (n j m c d x : ℕ) where
 
     -- ---- the toll's fees: of its account, and few
 
-    fee-facts : (k : ℕ) → k < length rows₁ → feeNaming (suc j) (getD rows₁ k blank) ≡ true → (getD rows₁ k blank .kind ≡ 2) × (getD rows₁ k blank .account ≡ n)
+    fee-facts : (k : ℕ) → k < length rows₁ → feeNaming (suc j) (getD rows₁ k blank) ≡ true → (getD rows₁ k blank .kind ≡ KindFee) × (getD rows₁ k blank .account ≡ n)
     fee-facts k l e =
         let r : Row = getD rows₁ k blank in
         let f = naming-fee (suc j) r e in
@@ -154,7 +155,7 @@ module _ (b : Book) (n j m c d x : ℕ) where
     fees-le =
         let z = sumBy-only-le (feeNaming (suc j)) (λ r. r .amount) highestFee blank (b .rows) (λ i l e.
         let r : Row = getD (b .rows) i blank in
-        let k : r .kind ≡ 2 = naming-fee (suc j) r e .0 in
+        let k : r .kind ≡ KindFee = naming-fee (suc j) r e .0 in
         let a : r .amount from 1 to highestFee ≡ true = rw k at (s .shape i l .amount) in
         leb-true (r .amount) highestFee (and-right (leb 1 (r .amount)) _ a)) in
         omega (arith, few-fees)
@@ -195,7 +196,7 @@ module _ (b : Book) (n j m c d x : ℕ) where
     credit-names =
         let l : suc j ≤ length rows₂ = omega (arith, length₂, row-there) in
         let o : Carries rows₂ rows₃ = carries-append rows₂ (credit ∷ []) in
-        let k : rowNo rows₃ (suc j) .kind ≡ 1 = o .kind (suc j) l ∙ carries .kind (suc j) (omega (arith, row-there)) ∙ is-toll in
+        let k : rowNo rows₃ (suc j) .kind ≡ KindToll = o .kind (suc j) l ∙ carries .kind (suc j) (omega (arith, row-there)) ∙ is-toll in
         let a : rowNo rows₃ (suc j) .account ≡ n = o .account (suc j) l ∙ carries .account (suc j) (omega (arith, row-there)) ∙ its-account in
         rw (lt-ltb (suc j) (suc (length rows₂)) (omega arith), k, a) (eq-eqb n n refl)
 
@@ -314,13 +315,13 @@ module _ (b : Book) (n j m c d x : ℕ) where
             ))
         go false e = e
 
-    counted-self : Counted rows₃ n (account b n)
-    unfolding returnedFits even closedClear unknown
+    counted-self : SumsFit rows₃ n (account b n)
+    unfolding returnedFits usedIsPaid closedClear unknown
     counted-self =
         let v = counted-of (b .day) b s n (inside n (length (b .accounts)) _ (q .known)) in
         record {
           returned = rw returned₃ (v .returned);
-          even = eq-eqb (used n rows₃) (paid n rows₃) (omega (arith, used₃, paid₃, eqb-true (used n (b .rows)) (paid n (b .rows)) (v .even)));
+          used-is-paid = eq-eqb (used n rows₃) (paid n rows₃) (omega (arith, used₃, paid₃, eqb-true (used n (b .rows)) (paid n (b .rows)) (v .used-is-paid)));
           clear = rw unclosed;
         }
 
@@ -338,10 +339,10 @@ module _ (b : Book) (n j m c d x : ℕ) where
             go true e = absurd (ne (fee-facts k l e .1))
             go false e = refl
 
-    counted₃ : (k : ℕ) → k < length (b .accounts) → Counted rows₃ (suc k) (getD (b .accounts) k unused)
+    counted₃ : (k : ℕ) → k < length (b .accounts) → SumsFit rows₃ (suc k) (getD (b .accounts) k unused)
     counted₃ k l =
         elim (ℕ-discrete (suc k) n) [
-          | yes e ↦ subst (λ (i : ℕ). Counted rows₃ i (account b i)) (sym e) counted-self
+          | yes e ↦ subst (λ (i : ℕ). SumsFit rows₃ i (account b i)) (sym e) counted-self
           | no e ↦ counted-others n (b .rows) rows₃ uphold-others (suc k) e (getD (b .accounts) k unused) (s .counted k l)
         ]
 
@@ -358,7 +359,7 @@ uphold-near b n (suc j) m c d x s q room =
     let w : suc j - 1 ≡ j = omega arith in
     rw w (upheld-near b n j m c d x s q (rw w at room))
 
-pub decide-near : (b : Book) (n a m c d x : ℕ) → Near (b .day) b → Accepted b (event6 b n a m c d x) → Near (b .day) (changeOf 6 b (event6 b n a m c d x))
+pub decide-near : (b : Book) (n a m c d x : ℕ) → Near (b .day) b → Accepted b (event6 b n a m c d x) → Near (b .day) (changeOf EventDecision b (event6 b n a m c d x))
 unfolding changeOf decide
 decide-near b n a m c d x s q = go (eqb m 1) (after-fits b e (q .fits))
   where

@@ -29,7 +29,7 @@ accountFrom t p = record {
   request = word t (p + Layout.requestPlace);
   returned = word t (p + Layout.returnedPlace);
   threshold = word t (p + Layout.thresholdPlace);
-  topup = word t (p + Layout.topUpPlace);
+  topup = word t (p + Layout.topupPlace);
   declines = word t (p + Layout.declinesPlace);
   declined = word t (p + Layout.declinedPlace);
 }

@@ -77,8 +77,8 @@ returnedPlace = 2
 abbrev pub thresholdPlace : ℕ
 thresholdPlace = 3
 
-abbrev pub topUpPlace : ℕ
-topUpPlace = 4
+abbrev pub topupPlace : ℕ
+topupPlace = 4
 
 abbrev pub declinesPlace : ℕ
 declinesPlace = 5

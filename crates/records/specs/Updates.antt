@@ -25,8 +25,8 @@ withDue v r = record { kind = r .kind; account = r .account; day = r .day; amoun
 abbrev pub withDispute : ℕ → Row → Row
 withDispute v r = record { kind = r .kind; account = r .account; day = r .day; amount = r .amount; settled = r .settled; mark = r .mark; due = r .due; dispute = v; hold = r .hold; reference = r .reference }
 
-abbrev pub withHold : ℕ → Row → Row
-withHold v r = record { kind = r .kind; account = r .account; day = r .day; amount = r .amount; settled = r .settled; mark = r .mark; due = r .due; dispute = r .dispute; hold = v; reference = r .reference }
+abbrev pub withHoldStart : ℕ → Row → Row
+withHoldStart v r = record { kind = r .kind; account = r .account; day = r .day; amount = r .amount; settled = r .settled; mark = r .mark; due = r .due; dispute = r .dispute; hold = v; reference = r .reference }
 
 abbrev pub withReference : ℕ → Row → Row
 withReference v r = record { kind = r .kind; account = r .account; day = r .day; amount = r .amount; settled = r .settled; mark = r .mark; due = r .due; dispute = r .dispute; hold = r .hold; reference = v }
@@ -46,8 +46,8 @@ withRequest v x = record { state = x .state; request = v; returned = x .returned
 abbrev pub withReturned : ℕ → Account → Account
 withReturned v x = record { state = x .state; request = x .request; returned = v; threshold = x .threshold; topup = x .topup; declines = x .declines; declined = x .declined }
 
-abbrev pub withTopUp : ℕ → ℕ → Account → Account
-withTopUp t n x = record { state = x .state; request = x .request; returned = x .returned; threshold = t; topup = n; declines = x .declines; declined = x .declined }
+abbrev pub withTopup : ℕ → ℕ → Account → Account
+withTopup t n x = record { state = x .state; request = x .request; returned = x .returned; threshold = t; topup = n; declines = x .declines; declined = x .declined }
 
 abbrev pub withDeclines : ℕ → ℕ → Account → Account
 withDeclines n d x = record { state = x .state; request = x .request; returned = x .returned; threshold = x .threshold; topup = x .topup; declines = n; declined = d }

@@ -1,8 +1,17 @@
-// The ledger's records as values: a journal row, an account with its own operations, an event, an answer; and the words in
-// which each is stored. Uses lists. Document 01 is the scope document of the toll account ledger.
+// The ledger's records as values: a journal row, an account with its own operations, an event, an answer; and the words in which each is
+// stored. Document 01 is the scope document of the toll account ledger.
+pub mod codes; // codes.rt: the numbers of kinds, states, methods, disputes, modes and events
+pub mod numbers; // numbers.rt: the numbers of the answers
+pub mod limits; // limits.rt: the limits of document 01
+pub mod layout; // layout.rt: the widths and places of the tables' words
+
+use crate::codes::STATE_CLOSED;
+use crate::codes::STATE_OPEN;
+use crate::codes::STATE_PENDING;
+use crate::limits::MOST_DECLINES;
 ghost use mathlib.Core.Path.{_≡_};
 ghost use Prim.Native.Nat.{_^_, _<_};
-ghost use Rattle.records.specs.AccountOperations.{opened, checkReturned, declinedOn, topUpPaid, closeRequestedOn, closed};
+ghost use Rattle.records.specs.AccountOperations.{opened, checkReturned, declinedOn, topupPaid, closeRequestedOn, closed};
 
 // One row of the journal.
 pub struct Row {
@@ -67,7 +76,7 @@ impl Account {
         ensures { λ r. ⌜ r ≡ opened threshold topup ⌝ }
     {
         Self {
-            state: 1,
+            state: STATE_OPEN,
             request: 0,
             returned: 0,
             threshold,
@@ -83,8 +92,8 @@ impl Account {
         ensures { λ r. ⌜ r ≡ checkReturned self ⌝ }
     {
         self.returned = self.returned + 1;
-        if self.state == 3 {
-            self.state = 2;
+        if self.state == STATE_CLOSED {
+            self.state = STATE_PENDING;
         }
         self
     }
@@ -93,7 +102,7 @@ impl Account {
     pub fn decline(mut self, today: u64) -> Self
         ensures { λ r. ⌜ r ≡ declinedOn today self ⌝ }
     {
-        if 2 <= self.declines {
+        if MOST_DECLINES <= self.declines {
             self.threshold = 0;
             self.topup = 0;
             self.declines = 0;
@@ -106,8 +115,8 @@ impl Account {
     }
 
     // Event 7, paid: the declines are forgotten.
-    pub fn pay_top_up(mut self) -> Self
-        ensures { λ r. ⌜ r ≡ topUpPaid self ⌝ }
+    pub fn pay_topup(mut self) -> Self
+        ensures { λ r. ⌜ r ≡ topupPaid self ⌝ }
     {
         self.declines = 0;
         self.declined = 0;
@@ -118,7 +127,7 @@ impl Account {
     pub fn request_close(mut self, today: u64) -> Self
         ensures { λ r. ⌜ r ≡ closeRequestedOn today self ⌝ }
     {
-        self.state = 2;
+        self.state = STATE_PENDING;
         self.request = today;
         self
     }
@@ -127,7 +136,7 @@ impl Account {
     pub fn close(mut self) -> Self
         ensures { λ r. ⌜ r ≡ closed self ⌝ }
     {
-        self.state = 3;
+        self.state = STATE_CLOSED;
         self
     }
 }

@@ -19,21 +19,21 @@ use Rattle.rules.proofs.TableLaws.{bookOf-tablesOf, soundTables-tablesOf, sound
 use Rattle.preservation.proofs.SoundKept.{post-keeps-sound, bookAfter-keeps-sound}
 use Rattle.replay.specs.Replay.{Replay, Report, settledReplay, stepOf, replayOne, replay}
 use Rattle.replay.specs.Demand3.{Call, single, batch, called, tablesAfter, reportsOf, reportsIf, reportsAt, reports}
-use Rattle.replay.proofs.Relation.{Alike}
+use Rattle.replay.proofs.Relation.{Agrees}
 use Rattle.replay.proofs.SoundRows.{stage-length}
-use Rattle.replay.proofs.AnyEvent.{accepted-proper, event-alike}
+use Rattle.replay.proofs.AnyEvent.{accepted-proper, event-agrees}
 use Rattle.replay.proofs.FeesAlong.{FeesOf, later, Advanced, report-advanced, fees-advance, Ends, ends-none, ends-more}
 
 -- where a list of calls stands: a sound book, a replay like it, and the days on which stages were reached
 pub record Underway (b : Book) (p : Replay) (days : ℕ → ℕ → ℕ) : Type 0 where
   pub is-sound : sound b ≡ true
-  pub alike : Alike b p
+  pub alike : Agrees b p
   pub fees : FeesOf p days
 
 -- where it ends, seen from p: the book, and the reports hs from here on
 pub record Ended (b : Book) (p : Replay) (days : ℕ → ℕ → ℕ) (hs : List Report) : Type 0 where
   pub is-sound : sound b ≡ true
-  pub alike : Alike b (replay p hs)
+  pub alike : Agrees b (replay p hs)
   pub schedule : replay p hs .schedule ≡ p .schedule
   pub fees : Ends p days hs
 
@@ -42,12 +42,12 @@ reportOf b e = record { event = e; accepted = answerNumber b e is 0 }
 
 -- ---- one event
 
-report-alike : (b : Book) (p : Replay) (e : Instruction) → sound b ≡ true → Alike b p → Alike (post b e .book) (replayOne p (reportOf b e))
+report-agrees : (b : Book) (p : Replay) (e : Instruction) → sound b ≡ true → Agrees b p → Agrees (post b e .book) (replayOne p (reportOf b e))
 unfolding replayOne
-report-alike b p e s a = go (answerNumber b e is 0) refl
+report-agrees b p e s a = go (answerNumber b e is 0) refl
   where
-    go : (v : Bool) → answerNumber b e is 0 ≡ v → Alike (post b e .book) (cond v (settledReplay (stepOf (e .kind) p e)) p)
-    go true z = rw (post-accepted b e z) (event-alike b e (eqb-true _ _ z) p (sound-facts b s) a)
+    go : (v : Bool) → answerNumber b e is 0 ≡ v → Agrees (post b e .book) (cond v (settledReplay (stepOf (e .kind) p e)) p)
+    go true z = rw (post-accepted b e z) (event-agrees b e (eqb-true _ _ z) p (sound-facts b s) a)
     go false z = rw (post-refused b e z) a
 
 advanced : (b : Book) (p : Replay) (e : Instruction) → Advanced p (replayOne p (reportOf b e))
@@ -57,7 +57,7 @@ event-underway : (b : Book) (p : Replay) (days : ℕ → ℕ → ℕ) (e : Instr
     → Underway (post b e .book) (replayOne p (reportOf b e)) (later p (replayOne p (reportOf b e)) days)
 event-underway b p days e s = record {
   is-sound = post-keeps-sound b e (s .is-sound);
-  alike = report-alike b p e (s .is-sound) (s .alike);
+  alike = report-agrees b p e (s .is-sound) (s .alike);
   fees = fees-advance p (replayOne p (reportOf b e)) days
       (rw (s .alike .schedule) at (stage-length b (sound-facts b (s .is-sound) .near))) (advanced b p e) (s .fees);
 }

@@ -6,19 +6,19 @@ use native.Mathlib.Omega.{arith}
 use lib.ListN.{getD}
 use lib.Dec.{leb, ltb}
 use borrow.Author.Tests.{eqb-true, leb-true, ltb-true, lt-ltb, not-false}
-use Rattle.records.specs.Codes.{Check}
+use Rattle.records.specs.Codes.{MethodCheck, EventOpen, EventReturnedCheck, EventDispute, EventDecision, EventTopupResult, EventTick}
 use Rattle.lists.specs.Tests.{_is_}
 use Rattle.lists.proofs.TestLaws.{and-left, and-right, and-then, or-left, or-right, first-fails}
 use Rattle.rules.specs.Rows.{heldToll, unsettled}
-use Rattle.rules.specs.Book.{Unused, Open, Instruction, Book, account, row, topUpDue, lowBalance}
+use Rattle.rules.specs.Book.{StateUnused, StateOpen, Instruction, Book, account, row, topupDue, lowBalance}
 use Rattle.rules.specs.Refusals.{changeOf, after, inTable, stateOf, unknown, taken, namedKind, noRow, untimely, refusals, answerNumber}
-use Rattle.rules.proofs.SoundnessLaws.{Sound}
+use Rattle.rules.specs.SoundFacts.{Sound}
 use Rattle.replay.specs.Replay.{Replay, settledReplay, stepOf}
-use Rattle.replay.proofs.Relation.{Alike}
-use Rattle.replay.proofs.Growing.{row-place, settled-alike}
-use Rattle.replay.proofs.PlainEvents.{openAccount-alike, requestClose-alike, postToll-alike, postPayment-alike, topUpResult-alike}
-use Rattle.replay.proofs.RowEvents.{returnCheck-alike, holdToll-alike, decide-alike}
-use Rattle.replay.proofs.Ticking.{tick-alike}
+use Rattle.replay.proofs.Relation.{Agrees}
+use Rattle.replay.proofs.Growing.{row-place, settled-agrees}
+use Rattle.replay.proofs.PlainEvents.{openAccount-agrees, requestClose-agrees, postToll-agrees, postPayment-agrees, topupResult-agrees}
+use Rattle.replay.proofs.RowEvents.{returnCheck-agrees, holdToll-agrees, decide-agrees}
+use Rattle.replay.proofs.Ticking.{tick-agrees}
 use Rattle.replay.proofs.ReplaySteps.{Proper}
 
 -- ---- no refusal applies
@@ -46,16 +46,16 @@ module _ (b : Book) (e : Instruction) (z : answerNumber b e ≡ 0) where
   fails = first-fails (refusals b e) (λ k h. positive k) z
 
   -- 3
-  known : e .kind is 9 ≡ false → 1 ≤ e .account
+  known : e .kind is EventTick ≡ false → 1 ≤ e .account
   unfolding refusals unknown
   known k =
-      let h : not (inTable b e) || not (e .kind is 1) && stateOf b e is Unused ≡ false = rw k at (fails 1) in
+      let h : not (inTable b e) || not (e .kind is EventOpen) && stateOf b e is StateUnused ≡ false = rw k at (fails 1) in
       leb-true _ _ (and-left (leb 1 (e .account)) _ (not-false (inTable b e) (or-left (not (inTable b e)) _ h)))
 
   -- 4
-  free : e .kind is 1 ≡ true → account b (e .account) .state ≡ Unused
+  free : e .kind is EventOpen ≡ true → account b (e .account) .state ≡ StateUnused
   unfolding refusals taken
-  free k = eqb-true _ _ (not-false _ (and-then (e .kind is 1) _ k (fails 2)))
+  free k = eqb-true _ _ (not-false _ (and-then (e .kind is EventOpen) _ k (fails 2)))
 
   -- 10
   there : (j : ℕ) → namedKind e ≡ suc j → row b (e .a) .kind ≡ suc j
@@ -66,37 +66,37 @@ module _ (b : Book) (e : Instruction) (z : answerNumber b e ≡ 0) where
 
   -- 11
   abbrev late4 : Bool
-  late4 = e .kind is 4 && not (row b (e .a) .mark is Check)
+  late4 = e .kind is EventReturnedCheck && not (row b (e .a) .mark is MethodCheck)
 
   abbrev late5 : Bool
-  late5 = e .kind is 5 && (not (unsettled (row b (e .a))) || not (row b (e .a) .dispute is 0))
+  late5 = e .kind is EventDispute && (not (unsettled (row b (e .a))) || not (row b (e .a) .dispute is 0))
 
   abbrev late6 : Bool
-  late6 = e .kind is 6 && not (heldToll (row b (e .a)))
+  late6 = e .kind is EventDecision && not (heldToll (row b (e .a)))
 
   abbrev late7 : Bool
-  late7 = e .kind is 7 && not (topUpDue b (e .account))
+  late7 = e .kind is EventTopupResult && not (topupDue b (e .account))
 
   timely : late4 || late5 || late6 || late7 ≡ false
   unfolding refusals untimely
   timely = or-left (late4 || late5 || late6 || late7) _ (fails 9)
 
-  undisputed : e .kind is 5 ≡ true → row b (e .a) .dispute ≡ 0
+  undisputed : e .kind is EventDispute ≡ true → row b (e .a) .dispute ≡ 0
   undisputed k =
       let h : late5 ≡ false = or-right late4 late5 (or-left (late4 || late5) late6 (or-left (late4 || late5 || late6) late7 timely)) in
-      eqb-true _ _ (not-false _ (or-right (not (unsettled (row b (e .a)))) _ (and-then (e .kind is 5) _ k h)))
+      eqb-true _ _ (not-false _ (or-right (not (unsettled (row b (e .a)))) _ (and-then (e .kind is EventDispute) _ k h)))
 
-  held-still : e .kind is 6 ≡ true → heldToll (row b (e .a)) ≡ true
-  held-still k = not-false _ (and-then (e .kind is 6) _ k (or-right (late4 || late5) late6 (or-left (late4 || late5 || late6) late7 timely)))
+  held-still : e .kind is EventDecision ≡ true → heldToll (row b (e .a)) ≡ true
+  held-still k = not-false _ (and-then (e .kind is EventDecision) _ k (or-right (late4 || late5) late6 (or-left (late4 || late5 || late6) late7 timely)))
 
-  topped-up : e .kind is 7 ≡ true → 0 < account b (e .account) .topup
-  unfolding topUpDue
+  topped-up : e .kind is EventTopupResult ≡ true → 0 < account b (e .account) .topup
+  unfolding topupDue
   topped-up k =
       let x = account b (e .account) in
-      let o : Bool = x .state is Open && ltb 0 (x .topup) in
+      let o : Bool = x .state is StateOpen && ltb 0 (x .topup) in
       let d : Bool = not (x .declined is b .day) in
-      let h : o && d && lowBalance b (e .account) ≡ true = not-false _ (and-then (e .kind is 7) _ k (or-right (late4 || late5 || late6) late7 timely)) in
-      ltb-true _ _ (and-right (x .state is Open) (ltb 0 (x .topup)) (and-left o d (and-left (o && d) (lowBalance b (e .account)) h)))
+      let h : o && d && lowBalance b (e .account) ≡ true = not-false _ (and-then (e .kind is EventTopupResult) _ k (or-right (late4 || late5 || late6) late7 timely)) in
+      ltb-true _ _ (and-right (x .state is StateOpen) (ltb 0 (x .topup)) (and-left o d (and-left (o && d) (lowBalance b (e .account)) h)))
 
   -- ---- each event by its kind
 
@@ -106,20 +106,20 @@ module _ (b : Book) (e : Instruction) (z : answerNumber b e ≡ 0) where
     decision = λ q. row-place (b .rows) (e .a) 0 (there 0 (rw q)) .low;
   }
 
-  changed-alike : (p : Replay) → Sound b → Alike b p → (k : ℕ) → e .kind ≡ k → Alike (changeOf k b e) (stepOf k p e)
+  changed-agrees : (p : Replay) → Sound b → Agrees b p → (k : ℕ) → e .kind ≡ k → Agrees (changeOf k b e) (stepOf k p e)
   unfolding changeOf stepOf
-  changed-alike p s a zero q = a
-  changed-alike p s a (suc zero) q = openAccount-alike b p e (s .near) a (free (rw q))
-  changed-alike p s a (suc (suc zero)) q = postToll-alike b p e (s .near) a
-  changed-alike p s a (suc (suc (suc zero))) q = postPayment-alike b p e (s .near) a
-  changed-alike p s a (suc (suc (suc (suc zero)))) q = returnCheck-alike b p e (s .near) a (known (rw q)) (there 3 (rw q))
-  changed-alike p s a (suc (suc (suc (suc (suc zero))))) q = holdToll-alike b p e (s .near) a (there 0 (rw q)) (undisputed (rw q))
-  changed-alike p s a (suc (suc (suc (suc (suc (suc zero)))))) q = decide-alike b p e (s .near) a (held-still (rw q))
-  changed-alike p s a (suc (suc (suc (suc (suc (suc (suc zero))))))) q = topUpResult-alike b p e (s .near) a (known (rw q)) (topped-up (rw q))
-  changed-alike p s a (suc (suc (suc (suc (suc (suc (suc (suc zero)))))))) q = requestClose-alike b p e a
-  changed-alike p s a (suc (suc (suc (suc (suc (suc (suc (suc (suc zero))))))))) q = tick-alike b p s a e
-  changed-alike p s a (suc (suc (suc (suc (suc (suc (suc (suc (suc (suc k)))))))))) q = a
+  changed-agrees p s a zero q = a
+  changed-agrees p s a (suc zero) q = openAccount-agrees b p e (s .near) a (free (rw q))
+  changed-agrees p s a (suc (suc zero)) q = postToll-agrees b p e (s .near) a
+  changed-agrees p s a (suc (suc (suc zero))) q = postPayment-agrees b p e (s .near) a
+  changed-agrees p s a (suc (suc (suc (suc zero)))) q = returnCheck-agrees b p e (s .near) a (known (rw q)) (there 3 (rw q))
+  changed-agrees p s a (suc (suc (suc (suc (suc zero))))) q = holdToll-agrees b p e (s .near) a (there 0 (rw q)) (undisputed (rw q))
+  changed-agrees p s a (suc (suc (suc (suc (suc (suc zero)))))) q = decide-agrees b p e (s .near) a (held-still (rw q))
+  changed-agrees p s a (suc (suc (suc (suc (suc (suc (suc zero))))))) q = topupResult-agrees b p e (s .near) a (known (rw q)) (topped-up (rw q))
+  changed-agrees p s a (suc (suc (suc (suc (suc (suc (suc (suc zero)))))))) q = requestClose-agrees b p e a
+  changed-agrees p s a (suc (suc (suc (suc (suc (suc (suc (suc (suc zero))))))))) q = tick-agrees b p s a e
+  changed-agrees p s a (suc (suc (suc (suc (suc (suc (suc (suc (suc (suc k)))))))))) q = a
 
-  pub event-alike : (p : Replay) → Sound b → Alike b p → Alike (after b e) (settledReplay (stepOf (e .kind) p e))
+  pub event-agrees : (p : Replay) → Sound b → Agrees b p → Agrees (after b e) (settledReplay (stepOf (e .kind) p e))
   unfolding after
-  event-alike p s a = settled-alike (changeOf (e .kind) b e) (stepOf (e .kind) p e) (changed-alike p s a (e .kind) refl)
+  event-agrees p s a = settled-agrees (changeOf (e .kind) b e) (stepOf (e .kind) p e) (changed-agrees p s a (e .kind) refl)

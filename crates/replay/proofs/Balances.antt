@@ -10,10 +10,10 @@ use Rattle.lists.specs.Tests.{_is_}
 use Rattle.lists.specs.Lists.{sumBy, only}
 use Rattle.lists.proofs.SumLaws.{sumBy-add}
 use Rattle.lists.proofs.PairLaws.{Pairs, pairs-to, pairs-sum}
-use Rattle.rules.specs.Rows.{Row, Toll, Fee, Reversal, Payment, Credit, Refund, sourceOf, debitOf}
-use Rattle.rules.specs.Book.{Book, sources, debits, less, balance}
+use Rattle.rules.specs.Rows.{Row, KindToll, KindFee, KindReversal, KindPayment, KindCredit, KindRefund, sourceOf, debitOf}
+use Rattle.rules.specs.Book.{Book, sources, debits, minus, balance}
 use Rattle.replay.specs.Entries.{Entry, sumOf, payments, credits, tolls, fees, reversals, refunds, balanceOf, moneyIn, moneyOut}
-use Rattle.replay.proofs.Relation.{Face}
+use Rattle.replay.proofs.Relation.{SameLine}
 
 -- ---- the sums
 
@@ -44,15 +44,15 @@ apart f k n e = go (k is n) refl
     go true q = rw (eqb-true k n q, e)
     go false q = and-false (f k)
 
-source-share : (a : ℕ) (r : Row) (x : Entry) → Face r x → only (sourceOf a) (λ s. s .amount) r ≡ ofKind Payment a x + ofKind Credit a x
+source-share : (a : ℕ) (r : Row) (x : Entry) → SameLine r x → only (sourceOf a) (λ s. s .amount) r ≡ ofKind KindPayment a x + ofKind KindCredit a x
 unfolding only sourceOf
 source-share a r x f =
     let k : ℕ = x .kind in
     let v : Bool = x .account is a in
     rw (f .kind, f .account, f .amount)
-    (omega (arith, split (x .amount) (k is Payment) (k is Credit) v (apart (λ j. j is Payment) k Credit refl), swap (x .amount) (k is Payment) v))
+    (omega (arith, split (x .amount) (k is KindPayment) (k is KindCredit) v (apart (λ j. j is KindPayment) k KindCredit refl), swap (x .amount) (k is KindPayment) v))
 
-debit-share : (a : ℕ) (r : Row) (x : Entry) → Face r x → only (debitOf a) (λ s. s .amount) r ≡ ofKind Toll a x + ofKind Fee a x + ofKind Reversal a x + ofKind Refund a x
+debit-share : (a : ℕ) (r : Row) (x : Entry) → SameLine r x → only (debitOf a) (λ s. s .amount) r ≡ ofKind KindToll a x + ofKind KindFee a x + ofKind KindReversal a x + ofKind KindRefund a x
 unfolding only debitOf
 debit-share a r x f =
     let k : ℕ = x .kind in
@@ -61,40 +61,40 @@ debit-share a r x f =
     rw (f .kind, f .account, f .amount)
     (omega (
       arith,
-      split m (k is Toll || k is Fee || k is Reversal) (k is Refund) v (apart (λ j. j is Toll || j is Fee || j is Reversal) k Refund refl),
-      split m (k is Toll || k is Fee) (k is Reversal) v (apart (λ j. j is Toll || j is Fee) k Reversal refl),
-      split m (k is Toll) (k is Fee) v (apart (λ j. j is Toll) k Fee refl),
-      swap m (k is Toll) v,
+      split m (k is KindToll || k is KindFee || k is KindReversal) (k is KindRefund) v (apart (λ j. j is KindToll || j is KindFee || j is KindReversal) k KindRefund refl),
+      split m (k is KindToll || k is KindFee) (k is KindReversal) v (apart (λ j. j is KindToll || j is KindFee) k KindReversal refl),
+      split m (k is KindToll) (k is KindFee) v (apart (λ j. j is KindToll) k KindFee refl),
+      swap m (k is KindToll) v,
     ))
 
-pub sources-same : {rows : List Row} {xs : List Entry} → Pairs Face rows xs → (a : ℕ) → sources rows a ≡ moneyIn a xs
+pub sources-same : {rows : List Row} {xs : List Entry} → Pairs SameLine rows xs → (a : ℕ) → sources rows a ≡ moneyIn a xs
 unfolding sources moneyIn sumOf
-sources-same {rows} {xs} p a = pairs-sum (pairs-to (source-share a) p) ∙ sumBy-add (ofKind Payment a) (ofKind Credit a) xs
+sources-same {rows} {xs} p a = pairs-sum (pairs-to (source-share a) p) ∙ sumBy-add (ofKind KindPayment a) (ofKind KindCredit a) xs
 
-pub debits-same : {rows : List Row} {xs : List Entry} → Pairs Face rows xs → (a : ℕ) → debits rows a ≡ moneyOut a xs
+pub debits-same : {rows : List Row} {xs : List Entry} → Pairs SameLine rows xs → (a : ℕ) → debits rows a ≡ moneyOut a xs
 unfolding debits moneyOut sumOf
 debits-same {rows} {xs} p a =
-    let t : Entry → ℕ = ofKind Toll a in
-    let f : Entry → ℕ = ofKind Fee a in
-    let r : Entry → ℕ = ofKind Reversal a in
-    let u : Entry → ℕ = ofKind Refund a in
+    let t : Entry → ℕ = ofKind KindToll a in
+    let f : Entry → ℕ = ofKind KindFee a in
+    let r : Entry → ℕ = ofKind KindReversal a in
+    let u : Entry → ℕ = ofKind KindRefund a in
     let q : debits rows a ≡ sumBy (λ x. t x + f x + r x + u x) xs = unfold debits in (pairs-sum (pairs-to (debit-share a) p)) in
     q ∙ omega (arith, sumBy-add (λ x. t x + f x + r x) u xs, sumBy-add (λ x. t x + f x) r xs, sumBy-add t f xs)
 
 -- ---- the balance
 
-less-less : (m n k : ℕ) → less m n -ℤ pos k ≡ less m (n + k)
-unfolding less
-less-less m n k =
+minus-minus : (m n k : ℕ) → minus m n -ℤ pos k ≡ minus m (n + k)
+unfolding minus
+minus-minus m n k =
     +ℤ-assoc (pos m) (negℤ (pos n)) (negℤ (pos k)) ∙ ap {B = ℤ} (λ (z : ℤ). pos m +ℤ z) (sym (negℤ-+ℤ (pos n) (pos k)) ∙ ap negℤ (pos-+ℤ-pos n k))
 
-six-sums : (p c t f r u : ℕ) → pos p +ℤ pos c -ℤ pos t -ℤ pos f -ℤ pos r -ℤ pos u ≡ less (p + c) (t + f + r + u)
-unfolding less
+six-sums : (p c t f r u : ℕ) → pos p +ℤ pos c -ℤ pos t -ℤ pos f -ℤ pos r -ℤ pos u ≡ minus (p + c) (t + f + r + u)
+unfolding minus
 six-sums p c t f r u =
-    ap {B = ℤ} (λ (z : ℤ). z -ℤ pos r -ℤ pos u) (less-less (p + c) t f) ∙ ap {B = ℤ} (λ (z : ℤ). z -ℤ pos u) (less-less (p + c) (t + f) r) ∙ less-less (p + c) (t + f + r) u
+    ap {B = ℤ} (λ (z : ℤ). z -ℤ pos r -ℤ pos u) (minus-minus (p + c) t f) ∙ ap {B = ℤ} (λ (z : ℤ). z -ℤ pos u) (minus-minus (p + c) (t + f) r) ∙ minus-minus (p + c) (t + f + r) u
 
-pub balance-same : (b : Book) (xs : List Entry) → Pairs Face (b .rows) xs → (a : ℕ) → balance b a ≡ balanceOf a xs
+pub balance-same : (b : Book) (xs : List Entry) → Pairs SameLine (b .rows) xs → (a : ℕ) → balance b a ≡ balanceOf a xs
 unfolding balance balanceOf
 balance-same b xs p a =
-    ap₂ {C = ℤ} less (sources-same p a) (debits-same p a)
+    ap₂ {C = ℤ} minus (sources-same p a) (debits-same p a)
     ∙ unfold moneyIn moneyOut in (sym (six-sums (payments a xs) (credits a xs) (tolls a xs) (fees a xs) (reversals a xs) (refunds a xs)))

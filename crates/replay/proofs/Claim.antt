@@ -15,12 +15,13 @@ use Rattle.lists.specs.Lists.{one}
 use Rattle.lists.proofs.PairLaws.{Pairs, none, more, pairs-to, pairs-same}
 use Rattle.lists.proofs.CollectLaws.{collect, gather-collect, collect-pairs}
 use Rattle.rules.specs.Schedule.{Schedule}
-use Rattle.rules.specs.Rows.{Row, Toll, Held, LastStage, blank, toll, heldToll, feeNaming}
+use Rattle.rules.specs.Rows.{Row, KindToll, DisputeHeld, LastStage, blank, toll, heldToll, feeNaming}
 use Rattle.rules.specs.Book.{unused, Book, row}
 use Rattle.rules.specs.Opening.{opening}
 use Rattle.rules.specs.Tables.{Tables, accountsIn, bookOf}
 use Rattle.rules.specs.Calls.{openedBook, openCall}
-use Rattle.rules.proofs.SoundnessLaws.{Sound, sound-facts}
+use Rattle.rules.specs.SoundFacts.{Sound}
+use Rattle.rules.proofs.SoundnessLaws.{sound-facts}
 use Rattle.rules.proofs.OpeningLaws.{openedBook-sound, openCall-sound, bookOf-openCall}
 use Rattle.replay.specs.Entries.{entryNo, isToll}
 use Rattle.replay.specs.Replay.{noNote, Replay, Report, replay, begin}
@@ -68,10 +69,10 @@ module _ (b : Book) (start : Replay) (days : ℕ → ℕ → ℕ) (hs : List Rep
   stage-some : 1 ≤ L
   stage-some = rw schedule-same at (stage-length b (facts .near))
 
-  stages : (n : ℕ) → row b n .kind ≡ Toll → row b n .mark ≡ stageOf L (entryNo (replay start hs .entries) n)
+  stages : (n : ℕ) → row b n .kind ≡ KindToll → row b n .mark ≡ stageOf L (entryNo (replay start hs .entries) n)
   unfolding stageOf
   stages n k =
-      let t = rows-no (ended .alike .rows) n .is .track in
+      let t = rows-no (ended .alike .rows) n .is .counts in
       let q : toll (row b n) ≡ true = eq-eqb _ _ k in
       let s : b .schedule .stage ≡ L = ap (λ (x : Schedule). x .stage) schedule-same in
       let place : Place (b .rows) n = row-place (b .rows) n 0 k in
@@ -79,13 +80,13 @@ module _ (b : Book) (start : Replay) (days : ℕ → ℕ → ℕ) (hs : List Rep
       stage-of L (row b n .mark) (entryNo (replay start hs .entries) n .open-days) stage-some top (rw s at (t .low q)) (λ u. rw s at (t .high q u))
 
   -- the fee rows that name toll n are the fee entries that do
-  fees-named : (n : ℕ) → row b n .kind ≡ Toll → feesNaming n (b .rows) ≡ collect (feeShare n) (replay start hs .entries)
+  fees-named : (n : ℕ) → row b n .kind ≡ KindToll → feesNaming n (b .rows) ≡ collect (feeShare n) (replay start hs .entries)
   unfolding feesNaming
   fees-named n k =
       gather-collect (λ (r : Row). one {A = ℕ × ℕ} (feeNaming n r) (r .amount, r .day)) 1 (b .rows)
-      ∙ collect-pairs (pairs-to {R = Named (Match 0 (b .day) (b .schedule .stage)) (b .rows)} (λ r x m. let f = m .is .face in rw (fee-same (b .rows) n k r x f (m .toll), f .amount, f .day)) (ended .alike .rows))
+      ∙ collect-pairs (pairs-to {R = Named (Match 0 (b .day) (b .schedule .stage)) (b .rows)} (λ r x m. let f = m .is .line in rw (fee-same (b .rows) n k r x f (m .toll), f .amount, f .day)) (ended .alike .rows))
 
-  fees : ((n k : ℕ) → 2 ≤ k → attained start n k ≡ false) → (n : ℕ) → row b n .kind ≡ Toll
+  fees : ((n k : ℕ) → 2 ≤ k → attained start n k ≡ false) → (n : ℕ) → row b n .kind ≡ KindToll
       → feesNaming n (b .rows) ≡ stageFees (start .schedule) (row b n .mark) (λ k. dayReached n k start hs)
   unfolding stageOf
   fees unreached n k =
@@ -99,10 +100,10 @@ module _ (b : Book) (start : Replay) (days : ℕ → ℕ → ℕ) (hs : List Rep
       ∙ ap {B = List (ℕ × ℕ)} (λ (j : ℕ). stageFees s j reached) (sym (stages n k))
 
   lines : map lineOfRow (b .rows) ≡ map lineOfEntry (replay start hs .entries)
-  lines = pairs-same (pairs-to {R = Named (Match 0 (b .day) (b .schedule .stage)) (b .rows)} (λ r x m. let f = m .is .face in rw (f .kind, f .account, f .day, f .amount, f .settled)) (ended .alike .rows))
+  lines = pairs-same (pairs-to {R = Named (Match 0 (b .day) (b .schedule .stage)) (b .rows)} (λ r x m. let f = m .is .line in rw (f .kind, f .account, f .day, f .amount, f .settled)) (ended .alike .rows))
 
   held : map heldToll (b .rows) ≡ map (λ x. isToll x && x .hold) (replay start hs .entries)
-  held = pairs-same (pairs-to {R = Named (Match 0 (b .day) (b .schedule .stage)) (b .rows)} (λ r x m. let f = m .is .face in rw (← (f .hold), ← (f .kind)) (twice (r .kind is Toll) (r .dispute is Held))) (ended .alike .rows))
+  held = pairs-same (pairs-to {R = Named (Match 0 (b .day) (b .schedule .stage)) (b .rows)} (λ r x m. let f = m .is .line in rw (← (f .hold), ← (f .kind)) (twice (r .kind is KindToll) (r .dispute is DisputeHeld))) (ended .alike .rows))
     where
       twice : (v w : Bool) → v && w ≡ v && (v && w)
       twice true w = refl
@@ -110,7 +111,7 @@ module _ (b : Book) (start : Replay) (days : ℕ → ℕ → ℕ) (hs : List Rep
 
   pub demand3 : ((n k : ℕ) → 2 ≤ k → attained start n k ≡ false) → Demand3 b start hs (replay start hs .entries)
   demand3 unreached = record {
-    balances = balance-same b (replay start hs .entries) (pairs-to (λ r x m. m .is .face) (ended .alike .rows));
+    balances = balance-same b (replay start hs .entries) (pairs-to (λ r x m. m .is .line) (ended .alike .rows));
     no-idle-money = idle-none b (replay start hs) facts (ended .alike);
     stages = stages;
     fees = fees unreached;

@@ -14,36 +14,36 @@ use Rattle.lists.specs.Lists.{sumBy, only, count, exists, gather}
 use Rattle.lists.proofs.TestLaws.{and-left, and-right}
 use Rattle.lists.proofs.SumLaws.{sumBy-some}
 use Rattle.lists.proofs.PairLaws.{Pairs, pairs-to, pairs-sum}
-use Rattle.rules.specs.Limits.{closingDays}
+use Rattle.records.specs.Limits.{closingDays}
 use Rattle.rules.specs.Rows.{Row, blank, unsettled, debitOf, remaining}
 use Rattle.rules.specs.Settlement.{money, used, paid, owed}
-use Rattle.rules.specs.Book.{Account, Unused, Open, Pending, Closed, unused, Book, settled, account}
+use Rattle.rules.specs.Book.{Account, StateUnused, StateOpen, StatePending, StateClosed, unused, Book, settled, account}
 use Rattle.rules.specs.Soundness.{stateFits, unusedZero, requestFits}
 use Rattle.rules.specs.Tick.{nextDay, endHolds, beforeRaising, raiseTolls, closes}
-use Rattle.rules.proofs.SoundnessLaws.{Sound}
+use Rattle.rules.specs.SoundFacts.{Sound}
 use Rattle.replay.specs.Entries.{Entry, isToll, moneyIn, moneyOut}
 use Rattle.replay.specs.Replay.{Note, Replay, noteNo, addFees, closing}
-use Rattle.replay.proofs.Relation.{Face, Match, Rows, Alike}
+use Rattle.replay.proofs.Relation.{SameLine, Match, Rows, Agrees}
 use Rattle.replay.proofs.PlainEvents.{noted-no, zero-request}
 use Rattle.replay.proofs.Balances.{sources-same, debits-same}
 use Rattle.replay.proofs.Raising.{unraisedEntries}
 use Rattle.replay.proofs.RaisedFees.{raise-rows}
-use Rattle.replay.proofs.RaisedSums.{heldOf, afterRaising, afterRaising-even, afterRaising-sources, afterRaising-debits, held-owes, none-owed, closed-none}
+use Rattle.replay.proofs.RaisedSums.{heldOf, afterRaising, afterRaising-used-is-paid, afterRaising-sources, afterRaising-debits, held-owes, none-owed, closed-none}
 
 -- ---- an account's state and its request day
 
-request-none : (today : ℕ) (x : Account) → unusedZero x ≡ true → requestFits today x ≡ true → stateFits x ≡ true → x .state is Pending ≡ false → x .state is Closed ≡ false → x .request ≡ 0
+request-none : (today : ℕ) (x : Account) → unusedZero x ≡ true → requestFits today x ≡ true → stateFits x ≡ true → x .state is StatePending ≡ false → x .state is StateClosed ≡ false → x .request ≡ 0
 unfolding requestFits stateFits
-request-none today x z q f p c = go (x .state is Open) refl
+request-none today x z q f p c = go (x .state is StateOpen) refl
   where
-    go : (v : Bool) → x .state is Open ≡ v → x .request ≡ 0
-    go true e = eqb-true _ _ (rw e at (and-left (x .state is Open implies x .request is 0) _ q))
+    go : (v : Bool) → x .state is StateOpen ≡ v → x .request ≡ 0
+    go true e = eqb-true _ _ (rw e at (and-left (x .state is StateOpen implies x .request is 0) _ q))
     go false e =
-        let l : x .state ≤ Closed = leb-true _ _ f in
-        let n : x .state ≡ Unused = omega (arith, eqb-false (x .state) Open e, eqb-false (x .state) Pending p, eqb-false (x .state) Closed c) in
+        let l : x .state ≤ StateClosed = leb-true _ _ f in
+        let n : x .state ≡ StateUnused = omega (arith, eqb-false (x .state) StateOpen e, eqb-false (x .state) StatePending p, eqb-false (x .state) StateClosed c) in
         zero-request x n z
 
-request-some : (today : ℕ) (x : Account) → requestFits today x ≡ true → x .state ≡ Pending → 1 ≤ x .request
+request-some : (today : ℕ) (x : Account) → requestFits today x ≡ true → x .state ≡ StatePending → 1 ≤ x .request
 unfolding requestFits
 request-some today x q e =
     let f : x .request from 1 to today ≡ true = rw e at q in
@@ -89,7 +89,7 @@ judged u v o m h e f g = go (decLt 0 h) (decLt m o)
 
 -- ---- the accounts that close
 
-module _ (b : Book) (p : Replay) (sound : Sound b) (a : Alike b p) where
+module _ (b : Book) (p : Replay) (sound : Sound b) (a : Agrees b p) where
   abbrev pub now : ℕ
   now = b .day + 1
 
@@ -105,8 +105,8 @@ module _ (b : Book) (p : Replay) (sound : Sound b) (a : Alike b p) where
   pub rows : Rows (Match 0 now L) (afterRaising b p sound a) raisedEntries
   rows = raise-rows b p sound a
 
-  faces : Pairs Face (afterRaising b p sound a) raisedEntries
-  faces = pairs-to (λ r x m. m .is .face) rows
+  lines : Pairs SameLine (afterRaising b p sound a) raisedEntries
+  lines = pairs-to (λ r x m. m .is .line) rows
 
   abbrev pub noteOf : ℕ → Note
   noteOf c = noteNo (p .notes) c
@@ -123,7 +123,7 @@ module _ (b : Book) (p : Replay) (sound : Sound b) (a : Alike b p) where
     idle : closesNow c ≡ false → money c (afterRaising b p sound a) ≡ 0 → moneyIn c raisedEntries ≡ moneyOut c raisedEntries → Judged c
 
   -- an account without a request
-  quiet : (c : ℕ) → account b c .state is Pending ≡ false → account b c .request ≡ 0 → Judged c
+  quiet : (c : ℕ) → account b c .state is StatePending ≡ false → account b c .request ≡ 0 → Judged c
   unfolding closes closing
   quiet c e z =
       let n : noteOf c .request ≡ 0 = sym (noted-no b p a c .request) ∙ z in
@@ -136,14 +136,14 @@ module _ (b : Book) (p : Replay) (sound : Sound b) (a : Alike b p) where
     c = suc j
 
     sums-in : moneyIn c raisedEntries ≡ used c (afterRaising b p sound a) + money c (afterRaising b p sound a)
-    sums-in = sym (sources-same faces c) ∙ afterRaising-sources b p sound a j h
+    sums-in = sym (sources-same lines c) ∙ afterRaising-sources b p sound a j h
 
     sums-out : moneyOut c raisedEntries ≡ paid c (afterRaising b p sound a) + owed c (afterRaising b p sound a)
-    sums-out = sym (debits-same faces c) ∙ afterRaising-debits b p sound a j h
+    sums-out = sym (debits-same lines c) ∙ afterRaising-debits b p sound a j h
 
     held-count : sumBy (heldOf c) (afterRaising b p sound a) ≡ count (λ y. y .account is c && (isToll y && y .hold)) raisedEntries
     unfolding count
-    held-count = pairs-sum (pairs-to (λ r x f. rw (f .hold, f .kind, f .account)) faces)
+    held-count = pairs-sum (pairs-to (λ r x f. rw (f .hold, f .kind, f .account)) lines)
 
     -- "no unsettled debit, held ones counted"
     clear-same : not (exists (λ r. debitOf c r && unsettled r) (afterRaising b p sound a))
@@ -153,9 +153,9 @@ module _ (b : Book) (p : Replay) (sound : Sound b) (a : Alike b p) where
         unsettled-owed c (afterRaising b p sound a)
         ∙ rw (sums-in, sums-out, ← held-count)
         (judged (used c (afterRaising b p sound a)) (paid c (afterRaising b p sound a)) (owed c (afterRaising b p sound a)) (money c (afterRaising b p sound a)) (sumBy (heldOf c) (afterRaising b p sound a))
-        (afterRaising-even b p sound a j h) (held-owes b p sound a j h) (none-owed b p sound a j h))
+        (afterRaising-used-is-paid b p sound a j h) (held-owes b p sound a j h) (none-owed b p sound a j h))
 
-    pending : account b c .state ≡ Pending → Judged c
+    pending : account b c .state ≡ StatePending → Judged c
     unfolding closes closing raiseTolls beforeRaising settled endHolds nextDay
     pending e =
         let n = noted-no b p a c in
@@ -163,19 +163,19 @@ module _ (b : Book) (p : Replay) (sound : Sound b) (a : Alike b p) where
         let t : closesNow c ≡ closingNow c = rw (e, ← (n .request), lt-ltb 0 (account b c .request) r, clear-same)
         (sym (and-assoc (leb (account b c .request + closingDays) now) (not (exists (λ y. y .account is c && (isToll y && y .hold)) raisedEntries)) (leb (moneyOut c raisedEntries) (moneyIn c raisedEntries)))) in
         same t (λ v.
-        let o : owed c (afterRaising b p sound a) ≡ 0 = eqb-true _ _ (sym (unsettled-owed c (afterRaising b p sound a)) ∙ and-right (account b c .state is Pending && leb (account b c .request + closingDays) now) _ (t ∙ v)) in
-        omega (arith, sums-in, sums-out, afterRaising-even b p sound a j h))
+        let o : owed c (afterRaising b p sound a) ≡ 0 = eqb-true _ _ (sym (unsettled-owed c (afterRaising b p sound a)) ∙ and-right (account b c .state is StatePending && leb (account b c .request + closingDays) now) _ (t ∙ v)) in
+        omega (arith, sums-in, sums-out, afterRaising-used-is-paid b p sound a j h))
 
-    closed-idle : account b c .state ≡ Closed → Judged c
+    closed-idle : account b c .state ≡ StateClosed → Judged c
     unfolding closes
     closed-idle e =
         let z = closed-none b p sound a j h e in
-        idle (rw e) (z .0) (omega (arith, sums-in, sums-out, afterRaising-even b p sound a j h, z .0, z .1))
+        idle (rw e) (z .0) (omega (arith, sums-in, sums-out, afterRaising-used-is-paid b p sound a j h, z .0, z .1))
 
     in-table : Judged c
-    in-table = go (account b c .state is Pending) (account b c .state is Closed) refl refl
+    in-table = go (account b c .state is StatePending) (account b c .state is StateClosed) refl refl
       where
-        go : (v w : Bool) → account b c .state is Pending ≡ v → account b c .state is Closed ≡ w → Judged c
+        go : (v w : Bool) → account b c .state is StatePending ≡ v → account b c .state is StateClosed ≡ w → Judged c
         go true w e f = pending (eqb-true _ _ e)
         go false true e f = closed-idle (eqb-true _ _ f)
         go false false e f =

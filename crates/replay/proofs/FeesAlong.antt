@@ -7,6 +7,7 @@ use native.Mathlib.Decide.{ℕ-discrete}
 use mathlib.Core.List.{List, [], _∷_, _++_, append-nil}
 use lib.Dec.{leb}
 use borrow.Author.Tests.{le-leb, leb-true}
+use Rattle.records.specs.Codes.{EventTick}
 use Rattle.records.specs.declared.Instruction.{Instruction}
 use Rattle.lists.specs.Tests.{_is_}
 use Rattle.lists.proofs.CollectLaws.{collect}
@@ -74,7 +75,7 @@ report-advanced p h f = go (h .accepted) f
     e : Instruction
     e = h .event
 
-    by-kind : Dec (e .kind ≡ 9) → Proper e → Advanced p (stepOf (e .kind) p e)
+    by-kind : Dec (e .kind ≡ EventTick) → Proper e → Advanced p (stepOf (e .kind) p e)
     by-kind (yes q) f = rw q (unfold stepOf in (tick-advanced p _))
     by-kind (no q) f = steady-advanced p (stepOf (e .kind) p e) (step-steady (e .kind) p e q (f .dispute) (f .decision))
 

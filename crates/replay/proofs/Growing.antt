@@ -10,13 +10,13 @@ use lib.ListN.{length, getD, List·getD-append, List·getD-eq-default}
 use borrow.Author.Tests.{ltb-true, lt-ltb}
 use Rattle.lists.specs.Tests.{_is_}
 use Rattle.lists.proofs.PairLaws.{Pairs, none, more, pairs-length, pairs-at, pairs-in, pairs-each, pairs-append}
-use Rattle.rules.specs.Rows.{Row, Toll, Fee, blank, rowNo, settleMore}
+use Rattle.rules.specs.Rows.{Row, KindToll, KindFee, blank, rowNo, settleMore}
 use Rattle.rules.specs.Book.{Book, settled}
-use Rattle.rules.proofs.SoundnessLaws.{Near}
+use Rattle.rules.specs.SoundFacts.{Near}
 use Rattle.replay.specs.Entries.{Entry, noEntry, entryNo, withCovered}
 use Rattle.replay.specs.Replay.{Replay, settledReplay}
 use Rattle.replay.specs.Demand3.{tollNamed}
-use Rattle.replay.proofs.Relation.{Match, Named, Rows, Alike, match-blank}
+use Rattle.replay.proofs.Relation.{Match, Named, Rows, Agrees, match-blank}
 use Rattle.replay.proofs.Settling.{settleAll-pairs}
 use Rattle.replay.proofs.SoundRows.{sound-row}
 
@@ -24,7 +24,7 @@ use Rattle.replay.proofs.SoundRows.{sound-row}
 
 -- fees name earlier rows
 abbrev pub Referring : List Row → Type 0
-Referring rows = (k : ℕ) → k < length rows → getD rows k blank .kind is Fee ≡ true → getD rows k blank .reference ≤ k
+Referring rows = (k : ℕ) → k < length rows → getD rows k blank .kind is KindFee ≡ true → getD rows k blank .reference ≤ k
 
 pub referring : (b : Book) → Near (b .day) b → Referring (b .rows)
 referring b near k h f = let q = sound-row b near k h .refers f in omega arith
@@ -49,12 +49,12 @@ named-kept : (rows olds news : List Row) → Referring rows → Pairs Kept rows 
 unfolding tollNamed
 named-kept rows olds news f p k h =
     let q = pairs-in blank blank p k h in
-    rw (q .kind, q .reference) (go (getD rows k blank .kind is Fee) refl)
+    rw (q .kind, q .reference) (go (getD rows k blank .kind is KindFee) refl)
   where
     n : ℕ
     n = getD rows k blank .reference
 
-    go : (v : Bool) → getD rows k blank .kind is Fee ≡ v → cond (v && rowNo (olds ++ news) n .kind is Toll) n 0 ≡ cond (v && rowNo rows n .kind is Toll) n 0
+    go : (v : Bool) → getD rows k blank .kind is KindFee ≡ v → cond (v && rowNo (olds ++ news) n .kind is KindToll) n 0 ≡ cond (v && rowNo rows n .kind is KindToll) n 0
     go true e = let b = f k h e in rw (kind-kept rows olds news p n (omega arith))
     go false e = refl
 
@@ -111,12 +111,12 @@ rows-no {late} {today} {L} {rows} p n = pairs-at blank noEntry q (more q p) n
 
 pub match-keep : (late today L : ℕ) (r : Row) (x : Entry) (n : ℕ) → Match late today L r x → Match late today L (settleMore r n) (withCovered (x .covered + n) x)
 match-keep late today L r x n m =
-    let f = m .face in
-    let t = m .track in
+    let f = m .line in
+    let t = m .counts in
     let s : r .settled ≡ x .covered = f .settled in
     record {
-      face = record { kind = f .kind; account = f .account; day = f .day; amount = f .amount; settled = rw s; hold = f .hold };
-      track = record {
+      line = record { kind = f .kind; account = f .account; day = f .day; amount = f .amount; settled = rw s; hold = f .hold };
+      counts = record {
         ticks = t .ticks;
         fresh = t .fresh;
         clock = λ k u. t .clock k (lt-ltb (r .settled) (r .amount) (let h : r .settled + n < r .amount = ltb-true _ _ u in omega arith));
@@ -125,12 +125,12 @@ match-keep late today L r x n m =
       };
     }
 
-pub settled-alike : (b : Book) (p : Replay) → Alike b p → Alike (settled b) (settledReplay p)
+pub settled-agrees : (b : Book) (p : Replay) → Agrees b p → Agrees (settled b) (settledReplay p)
 unfolding settled settledReplay
-settled-alike b p a = record {
+settled-agrees b p a = record {
   day = a .day;
   schedule = a .schedule;
   rows = rw (← (pairs-length (a .notes)))
-      (settleAll-pairs (Match 0 (b .day) (b .schedule .stage)) (λ r x m. m .face) (match-keep 0 (b .day) (b .schedule .stage)) (length (b .accounts)) (a .rows));
+      (settleAll-pairs (Match 0 (b .day) (b .schedule .stage)) (λ r x m. m .line) (match-keep 0 (b .day) (b .schedule .stage)) (length (b .accounts)) (a .rows));
   notes = a .notes;
 }

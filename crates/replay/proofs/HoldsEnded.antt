@@ -10,16 +10,16 @@ use borrow.Author.Tests.{eqb-true, eqb-false}
 use Rattle.lists.specs.Tests.{_is_}
 use Rattle.lists.proofs.TestLaws.{cond-either}
 use Rattle.lists.proofs.PairLaws.{pairs-map-in, pairs-map-self, pairs-length}
-use Rattle.rules.specs.Limits.{holdDays}
+use Rattle.records.specs.Limits.{holdDays}
 use Rattle.rules.specs.Rows.{Row, blank, toll, heldToll, unsettled}
 use Rattle.rules.specs.Book.{Book, settled}
 use Rattle.rules.specs.Events.{release}
 use Rattle.rules.specs.Tick.{nextDay, holdEnds, endHold, endHolds, beforeRaising}
-use Rattle.rules.proofs.SoundnessLaws.{Near}
+use Rattle.rules.specs.SoundFacts.{Near}
 use Rattle.preservation.proofs.TickSteps.{endHold-keeps}
 use Rattle.replay.specs.Entries.{Entry, noEntry, isToll, withHold, withTicks, withOpenDays, settleAllEntries}
 use Rattle.replay.specs.Replay.{Replay, gains, countTick, countDay}
-use Rattle.replay.proofs.Relation.{Face, Track, Match, Rows, Alike}
+use Rattle.replay.proofs.Relation.{SameLine, CountsOf, Match, Rows, Agrees}
 use Rattle.replay.proofs.SoundRows.{SoundRow, sound-row}
 use Rattle.replay.proofs.Settling.{settleAll-pairs}
 use Rattle.replay.proofs.Growing.{referring, SameToll, regrow, match-keep}
@@ -28,7 +28,7 @@ use Rattle.replay.proofs.RowEvents.{release-match}
 -- ---- a row whose hold may end, and its entry
 
 -- "neither covered whole nor held"
-pub gains-same : (r : Row) (x : Entry) → Face r x → gains x ≡ (toll r && unsettled r && not (heldToll r))
+pub gains-same : (r : Row) (x : Entry) → SameLine r x → gains x ≡ (toll r && unsettled r && not (heldToll r))
 unfolding gains
 gains-same r x f = rw (f .hold, f .kind, f .amount, f .settled) (go (isToll x) (ltb (x .covered) (x .amount)) (not (x .hold)))
   where
@@ -37,11 +37,11 @@ gains-same r x f = rw (f .hold, f .kind, f .amount, f .settled) (go (isToll x) (
     go a false d = refl
 
 module _ (today L : ℕ) (r : Row) (x : Entry) (m : Match 0 today L r x) where
-  f : Face r x
-  f = m .face
+  f : SameLine r x
+  f = m .line
 
-  t : Track 0 today L r x
-  t = m .track
+  t : CountsOf 0 today L r x
+  t = m .counts
 
   -- a held toll: its ticks are counted, and its hold ends by the thirtieth
   held-ended : heldToll r ≡ true → r .hold ≤ today → Match 1 (today + 1) L (endHold (today + 1) r) (countDay x)
@@ -58,8 +58,8 @@ module _ (today L : ℕ) (r : Row) (x : Entry) (m : Match 0 today L r x) where
       -- one more tick
       counted : Match 1 (today + 1) L r (withHold true (withTicks (x .ticks + 1) x))
       counted = record {
-        face = record { kind = f .kind; account = f .account; day = f .day; amount = f .amount; settled = f .settled; hold = h };
-        track = record {
+        line = record { kind = f .kind; account = f .account; day = f .day; amount = f .amount; settled = f .settled; hold = h };
+        counts = record {
           ticks = λ i. omega (arith, t .ticks h);
           fresh = λ i. absurd (disputed i);
           clock = λ i u n. rw h (rw h at (t .clock i u n));
@@ -86,8 +86,8 @@ module _ (today L : ℕ) (r : Row) (x : Entry) (m : Match 0 today L r x) where
     where
       go : (v : Bool) → toll r && unsettled r ≡ v → Match 1 (today + 1) L r (cond (v && true) (withOpenDays (x .open-days + 1) x) x)
       go true e = record {
-        face = record { kind = f .kind; account = f .account; day = f .day; amount = f .amount; settled = f .settled; hold = f .hold };
-        track = record {
+        line = record { kind = f .kind; account = f .account; day = f .day; amount = f .amount; settled = f .settled; hold = f .hold };
+        counts = record {
           ticks = λ i. absurd (false≢true (sym h ∙ i));
           fresh = t .fresh;
           clock = λ i u n. rw h (let c : x .open-days + r .due ≡ r .mark * L + L + today = rw h at (t .clock i u n) in omega arith);
@@ -96,8 +96,8 @@ module _ (today L : ℕ) (r : Row) (x : Entry) (m : Match 0 today L r x) where
         };
       }
       go false e = record {
-        face = f;
-        track = record {
+        line = f;
+        counts = record {
           ticks = λ i. absurd (false≢true (sym h ∙ i));
           fresh = t .fresh;
           clock = λ i u n. absurd (true≢false (sym (rw (i, u)) ∙ e));
@@ -122,9 +122,9 @@ day-toll x =
 
 -- ---- all rows, settled
 
-module _ (b : Book) (p : Replay) (near : Near (b .day) b) (a : Alike b p) where
-  pub ended-alike : Rows (Match 1 (b .day + 1) (b .schedule .stage)) (map (endHold (b .day + 1)) (b .rows)) (map countDay (p .entries))
-  ended-alike =
+module _ (b : Book) (p : Replay) (near : Near (b .day) b) (a : Agrees b p) where
+  pub ended-agrees : Rows (Match 1 (b .day + 1) (b .schedule .stage)) (map (endHold (b .day + 1)) (b .rows)) (map countDay (p .entries))
+  ended-agrees =
       regrow (b .rows) (p .entries) (referring b near) (a .rows) _ _
       (pairs-map-self (endHold (b .day + 1)) (λ r. record {
         kind = endHold-keeps (λ s. s .kind) (λ s today. unfold release in refl) (b .day + 1) r;
@@ -134,8 +134,8 @@ module _ (b : Book) (p : Replay) (near : Near (b .day) b) (a : Alike b p) where
       (pairs-map-in (endHold (b .day + 1)) countDay blank noEntry (a .rows)
       (λ k h m. ended-match (b .day) (b .schedule .stage) (length (b .accounts)) (b .rows) (suc k) _ _ (sound-row b near k h) (m .is)))
 
-  pub unraised-alike : Rows (Match 1 (b .day + 1) (b .schedule .stage)) (beforeRaising b .rows) (settleAllEntries (length (p .notes)) (map countDay (p .entries)))
+  pub unraised-agrees : Rows (Match 1 (b .day + 1) (b .schedule .stage)) (beforeRaising b .rows) (settleAllEntries (length (p .notes)) (map countDay (p .entries)))
   unfolding beforeRaising settled endHolds nextDay
-  unraised-alike =
+  unraised-agrees =
       rw (← (pairs-length (a .notes)))
-      (settleAll-pairs (Match 1 (b .day + 1) (b .schedule .stage)) (λ r x m. m .face) (match-keep 1 (b .day + 1) (b .schedule .stage)) (length (b .accounts)) ended-alike)
+      (settleAll-pairs (Match 1 (b .day + 1) (b .schedule .stage)) (λ r x m. m .line) (match-keep 1 (b .day + 1) (b .schedule .stage)) (length (b .accounts)) ended-agrees)

@@ -14,11 +14,11 @@ use Rattle.lists.proofs.PairLaws.{Pairs, pairs-to}
 use Rattle.rules.specs.Rows.{Row, blank, source, debit, unsettled, held, sourceOf, payable, remaining}
 use Rattle.rules.specs.Settlement.{money, debt}
 use Rattle.rules.specs.Book.{Book, row}
-use Rattle.rules.specs.Soundness.{spent}
-use Rattle.rules.proofs.SoundnessLaws.{Sound}
+use Rattle.rules.specs.Soundness.{noIdleMoney}
+use Rattle.rules.specs.SoundFacts.{Sound}
 use Rattle.replay.specs.Entries.{Entry, entryNo, isMoney, isDebt, coveredWhole, onHold}
 use Rattle.replay.specs.Replay.{Replay}
-use Rattle.replay.proofs.Relation.{Face, Alike}
+use Rattle.replay.proofs.Relation.{SameLine, Agrees}
 use Rattle.replay.proofs.SoundRows.{sound-row, Within}
 use Rattle.replay.proofs.Settling.{held-same, faces-no}
 use Rattle.replay.proofs.Growing.{Place, row-there, number-at, rows-no}
@@ -39,11 +39,11 @@ debt-least rows a k h e s f =
     omega (arith, sumBy-at-le (only (payable rows a) remaining) rows k blank h)
 
 -- "no unused source beside an unsettled unheld debit"
-pub spent-none : (b : Book) → Sound b → (a : ℕ) → Within (length (b .accounts)) a → 0 < debt a (b .rows) → money a (b .rows) ≡ 0
-unfolding spent
-spent-none b s zero w h = absurd (omega (arith, w .low))
-spent-none b s (suc a) w h =
-    let q : money (suc a) (b .rows) is 0 || debt (suc a) (b .rows) is 0 ≡ true = s .spent a (w .high) in
+pub no-idle-money-none : (b : Book) → Sound b → (a : ℕ) → Within (length (b .accounts)) a → 0 < debt a (b .rows) → money a (b .rows) ≡ 0
+unfolding noIdleMoney
+no-idle-money-none b s zero w h = absurd (omega (arith, w .low))
+no-idle-money-none b s (suc a) w h =
+    let q : money (suc a) (b .rows) is 0 || debt (suc a) (b .rows) is 0 ≡ true = s .no-idle-money a (w .high) in
     go (money (suc a) (b .rows) is 0) refl (rw (ne-eqb (debt (suc a) (b .rows)) 0 (λ z. omega arith)) at q)
   where
     go : (v : Bool) → money (suc a) (b .rows) is 0 ≡ v → v || false ≡ true → money (suc a) (b .rows) ≡ 0
@@ -55,18 +55,18 @@ pub open-none : (b : Book) → Sound b → (k : ℕ) → k < length (b .rows) �
     → held (b .rows) (getD (b .rows) k blank) ≡ false → money (getD (b .rows) k blank .account) (b .rows) ≡ 0
 open-none b s k h d u f =
     let l : getD (b .rows) k blank .settled < getD (b .rows) k blank .amount = ltb-true _ _ u in
-    spent-none b s _ (sound-row b (s .near) k h .account) (omega (arith, debt-least (b .rows) _ k h refl d f))
+    no-idle-money-none b s _ (sound-row b (s .near) k h .account) (omega (arith, debt-least (b .rows) _ k h refl d f))
 
 -- ---- no idle money
 
-pub idle-none : (b : Book) (p : Replay) → Sound b → Alike b p → (i j : ℕ)
+pub idle-none : (b : Book) (p : Replay) → Sound b → Agrees b p → (i j : ℕ)
     → isMoney (entryNo (p .entries) i) && not (coveredWhole (entryNo (p .entries) i)) ≡ true
     → isDebt (entryNo (p .entries) j) && not (coveredWhole (entryNo (p .entries) j)) && not (onHold (p .entries) (entryNo (p .entries) j)) ≡ true
     → entryNo (p .entries) i .account ≡ entryNo (p .entries) j .account → ⊥
 idle-none b p s a i j m d e =
-    let faces : Pairs Face (b .rows) (p .entries) = pairs-to (λ r x q. q .is .face) (a .rows) in
-    let f = faces-no faces i in
-    let g = faces-no faces j in
+    let lines : Pairs SameLine (b .rows) (p .entries) = pairs-to (λ r x q. q .is .line) (a .rows) in
+    let f = faces-no lines i in
+    let g = faces-no lines j in
     let x : Entry = entryNo (p .entries) i in
     let y : Entry = entryNo (p .entries) j in
     let m1 : source (row b i) ≡ true = rw (f .kind) (and-left (isMoney x) (not (coveredWhole x)) m) in
@@ -75,7 +75,7 @@ idle-none b p s a i j m d e =
     let d1 : debit (row b j) ≡ true = rw (g .kind) (and-left (isDebt y) (not (coveredWhole y)) d0) in
     let d2 : unsettled (row b j) ≡ true = rw (g .amount, g .settled) (not-false _ (not-true _ (and-right (isDebt y) (not (coveredWhole y)) d0))) in
     let d3 : held (b .rows) (row b j) ≡ false =
-    held-same faces (row b j) y g (rows-no (a .rows) j .toll) ∙ not-true _ (and-right (isDebt y && not (coveredWhole y)) (not (onHold (p .entries) y)) d) in
+    held-same lines (row b j) y g (rows-no (a .rows) j .toll) ∙ not-true _ (and-right (isDebt y && not (coveredWhole y)) (not (onHold (p .entries) y)) d) in
     let pi : Place (b .rows) i = row-there (b .rows) i (λ z. false≢true (rw z at m1)) in
     let pj : Place (b .rows) j = row-there (b .rows) j (λ z. false≢true (rw z at d1)) in
     let at-i : getD (b .rows) (i - 1) blank ≡ row b i = number-at (b .rows) i blank (pi .low) in

@@ -8,44 +8,44 @@ use mathlib.Core.List.{[], _∷_, _++_}
 use lib.ListN.{length, getD, List·getD-eq-default}
 use borrow.Author.Tests.{eqb-true}
 use Rattle.records.specs.Codes.{Yes}
-use Rattle.records.specs.Updates.{withTopUp, withDeclines}
-use Rattle.records.specs.AccountOperations.{opened, declinedOn, topUpPaid, closeRequestedOn, lastDecline}
+use Rattle.records.specs.Updates.{withTopup, withDeclines}
+use Rattle.records.specs.AccountOperations.{opened, declinedOn, topupPaid, closeRequestedOn, lastDecline}
 use Rattle.lists.specs.Tests.{_is_}
 use Rattle.lists.proofs.TestLaws.{and-left}
 use Rattle.lists.proofs.PairLaws.{none, more, pairs-at, pairs-set, pairs-set-left, pairs-self, pairs-to}
 use Rattle.rules.specs.Rows.{Row}
-use Rattle.rules.specs.Book.{Account, unused, Unused, Instruction, Book, account, putAccount, addRow}
-use Rattle.rules.specs.Events.{openAccount, tollRate, postToll, postPayment, payTopUp, declineTopUp, topUpResult, requestClose}
+use Rattle.rules.specs.Book.{Account, unused, StateUnused, Instruction, Book, account, putAccount, addRow}
+use Rattle.rules.specs.Events.{openAccount, tollRate, postToll, postPayment, payTopup, declineTopup, topupResult, requestClose}
 use Rattle.rules.specs.Soundness.{unusedZero}
-use Rattle.rules.proofs.SoundnessLaws.{Near}
-use Rattle.replay.specs.Entries.{Entry, Payment, newEntry}
-use Rattle.replay.specs.Replay.{Note, noNote, Replay, noteNo, putNote, addEntry, noteTopUp, noteRequest, addToll, addPayment, addTopUp}
+use Rattle.rules.specs.SoundFacts.{Near}
+use Rattle.replay.specs.Entries.{Entry, KindPayment, newEntry}
+use Rattle.replay.specs.Replay.{Note, noNote, Replay, noteNo, putNote, addEntry, noteTopup, noteRequest, addToll, addPayment, addTopup}
 use Rattle.replay.specs.Demand3.{tollNamed}
-use Rattle.replay.proofs.Relation.{Face, Match, Noted, Alike, track-other}
+use Rattle.replay.proofs.Relation.{SameLine, Match, Noted, Agrees, counts-other}
 use Rattle.replay.proofs.SoundRows.{stage-length}
 use Rattle.replay.proofs.Growing.{Referring, referring, kept-self, grow}
 
 -- ---- accounts and notes
 
-pub noted-no : (b : Book) (p : Replay) → Alike b p → (n : ℕ) → Noted (account b n) (noteNo (p .notes) n)
+pub noted-no : (b : Book) (p : Replay) → Agrees b p → (n : ℕ) → Noted (account b n) (noteNo (p .notes) n)
 noted-no b p a n = pairs-at unused noNote q (more q (a .notes)) n
   where
     q : Noted unused noNote
     q = record { request = refl; topup = λ h. refl }
 
 -- an account and its note change
-note-alike : (b : Book) (p : Replay) → Alike b p → (n : ℕ) (x : Account) (y : Note) → Noted x y → Alike (putAccount n x b) (putNote n y p)
-note-alike b p a n x y q = record { day = a .day; schedule = a .schedule; rows = a .rows; notes = pairs-set (n - 1) x y q (a .notes) }
+note-agrees : (b : Book) (p : Replay) → Agrees b p → (n : ℕ) (x : Account) (y : Note) → Noted x y → Agrees (putAccount n x b) (putNote n y p)
+note-agrees b p a n x y q = record { day = a .day; schedule = a .schedule; rows = a .rows; notes = pairs-set (n - 1) x y q (a .notes) }
 
 -- an account changes
-pub account-alike : (b : Book) (p : Replay) → Alike b p → (n : ℕ) → 1 ≤ n → (x : Account) → Noted x (noteNo (p .notes) n) → Alike (putAccount n x b) p
-account-alike b p a zero h x q = absurd (omega arith)
-account-alike b p a (suc n) h x q =
+pub account-agrees : (b : Book) (p : Replay) → Agrees b p → (n : ℕ) → 1 ≤ n → (x : Account) → Noted x (noteNo (p .notes) n) → Agrees (putAccount n x b) p
+account-agrees b p a zero h x q = absurd (omega arith)
+account-agrees b p a (suc n) h x q =
     let z : suc n - 1 ≡ n = omega arith in
     record { day = a .day; schedule = a .schedule; rows = a .rows; notes = rw z (pairs-set-left n x noNote q (a .notes)) }
 
 -- an unused account has no request day
-pub zero-request : (x : Account) → x .state ≡ Unused → unusedZero x ≡ true → x .request ≡ 0
+pub zero-request : (x : Account) → x .state ≡ StateUnused → unusedZero x ≡ true → x .request ≡ 0
 unfolding unusedZero
 zero-request x e f =
     let a : Bool = x .request is 0 && x .returned is 0 && x .threshold is 0 && x .topup is 0 && x .declines is 0 in
@@ -54,7 +54,7 @@ zero-request x e f =
     let f1 : a && x .declined is 0 ≡ true = rw e at f in
     eqb-true (x .request) 0 (and-left (x .request is 0) (x .returned is 0) (and-left (x .request is 0 && x .returned is 0) (x .threshold is 0) (and-left d (x .topup is 0) (and-left c (x .declines is 0) (and-left a (x .declined is 0) f1)))))
 
-unused-request : (b : Book) → Near (b .day) b → (n : ℕ) → account b n .state ≡ Unused → account b n .request ≡ 0
+unused-request : (b : Book) → Near (b .day) b → (n : ℕ) → account b n .state ≡ StateUnused → account b n .request ≡ 0
 unused-request b near zero e = refl
 unused-request b near (suc n) e = elim (decLt n (length (b .accounts))) [
   | yes h ↦ zero-request (getD (b .accounts) n unused) e (near .standing n h .zero)
@@ -63,9 +63,9 @@ unused-request b near (suc n) e = elim (decLt n (length (b .accounts))) [
 
 -- ---- a row and its entry are added
 
-pub add-alike : (b : Book) (p : Replay) → Referring (b .rows) → Alike b p → (r : Row) (x : Entry) → Match 0 (b .day) (b .schedule .stage) r x
-    → tollNamed (b .rows ++ (r ∷ [])) r ≡ x .toll → Alike (addRow r b) (addEntry x p)
-add-alike b p f a r x m t = record {
+pub add-agrees : (b : Book) (p : Replay) → Referring (b .rows) → Agrees b p → (r : Row) (x : Entry) → Match 0 (b .day) (b .schedule .stage) r x
+    → tollNamed (b .rows ++ (r ∷ [])) r ≡ x .toll → Agrees (addRow r b) (addEntry x p)
+add-agrees b p f a r x m t = record {
   day = a .day;
   schedule = a .schedule;
   rows = grow (b .rows) (p .entries) f (a .rows) (b .rows) (p .entries)
@@ -76,29 +76,29 @@ add-alike b p f a r x m t = record {
 
 -- ---- 1 and 8
 
-pub openAccount-alike : (b : Book) (p : Replay) (e : Instruction) → Near (b .day) b → Alike b p → account b (e .account) .state ≡ Unused → Alike (openAccount b e) (noteTopUp p e)
-unfolding openAccount noteTopUp
-openAccount-alike b p e near a u =
-    note-alike b p a (e .account) (opened (e .a) (e .b)) _
+pub openAccount-agrees : (b : Book) (p : Replay) (e : Instruction) → Near (b .day) b → Agrees b p → account b (e .account) .state ≡ StateUnused → Agrees (openAccount b e) (noteTopup p e)
+unfolding openAccount noteTopup
+openAccount-agrees b p e near a u =
+    note-agrees b p a (e .account) (opened (e .a) (e .b)) _
     (record { request = sym (unused-request b near (e .account) u) ∙ noted-no b p a (e .account) .request; topup = λ h. refl })
 
-pub requestClose-alike : (b : Book) (p : Replay) (e : Instruction) → Alike b p → Alike (requestClose b e) (noteRequest p e)
+pub requestClose-agrees : (b : Book) (p : Replay) (e : Instruction) → Agrees b p → Agrees (requestClose b e) (noteRequest p e)
 unfolding requestClose noteRequest
-requestClose-alike b p e a =
-    note-alike b p a (e .account) (closeRequestedOn (b .day) (account b (e .account))) _
+requestClose-agrees b p e a =
+    note-agrees b p a (e .account) (closeRequestedOn (b .day) (account b (e .account))) _
     (record { request = a .day; topup = noted-no b p a (e .account) .topup })
 
 -- ---- 2, 3 and 7
 
-pub postToll-alike : (b : Book) (p : Replay) (e : Instruction) → Near (b .day) b → Alike b p → Alike (postToll b e) (addToll p e)
+pub postToll-agrees : (b : Book) (p : Replay) (e : Instruction) → Near (b .day) b → Agrees b p → Agrees (postToll b e) (addToll p e)
 unfolding postToll addToll tollRate tollNamed
-postToll-alike b p e near a =
+postToll-agrees b p e near a =
     let L : ℕ = b .schedule .stage in
     let l = stage-length b near in
     let z : 0 * L ≡ 0 = omega arith in
-    add-alike b p (referring b near) a _ _ (record {
-      face = record { kind = refl; account = refl; day = a .day; amount = rw (a .schedule); settled = refl; hold = refl };
-      track = record {
+    add-agrees b p (referring b near) a _ _ (record {
+      line = record { kind = refl; account = refl; day = a .day; amount = rw (a .schedule); settled = refl; hold = refl };
+      counts = record {
         ticks = λ h. absurd (false≢true h);
         fresh = λ h. refl;
         clock = λ k u m. omega arith;
@@ -108,20 +108,20 @@ postToll-alike b p e near a =
     }) refl
 
 -- a payment
-payment-alike : (b : Book) (p : Replay) → Referring (b .rows) → Alike b p → (r : Row) (x : Entry) → Face r x → r .kind ≡ Payment → x .ticks ≡ 0 → x .toll ≡ 0 → Alike (addRow r b) (addEntry x p)
+payment-agrees : (b : Book) (p : Replay) → Referring (b .rows) → Agrees b p → (r : Row) (x : Entry) → SameLine r x → r .kind ≡ KindPayment → x .ticks ≡ 0 → x .toll ≡ 0 → Agrees (addRow r b) (addEntry x p)
 unfolding tollNamed
-payment-alike b p g a r x f q t n =
-    add-alike b p g a r x (record { face = f; track = track-other 0 (b .day) (b .schedule .stage) r x (rw q) (λ h. t) }) (rw q (sym n))
+payment-agrees b p g a r x f q t n =
+    add-agrees b p g a r x (record { line = f; counts = counts-other 0 (b .day) (b .schedule .stage) r x (rw q) (λ h. t) }) (rw q (sym n))
 
-pub postPayment-alike : (b : Book) (p : Replay) (e : Instruction) → Near (b .day) b → Alike b p → Alike (postPayment b e) (addPayment p e)
+pub postPayment-agrees : (b : Book) (p : Replay) (e : Instruction) → Near (b .day) b → Agrees b p → Agrees (postPayment b e) (addPayment p e)
 unfolding postPayment addPayment
-postPayment-alike b p e near a =
-    payment-alike b p (referring b near) a _ _ (record { kind = refl; account = refl; day = a .day; amount = refl; settled = refl; hold = refl }) refl refl refl
+postPayment-agrees b p e near a =
+    payment-agrees b p (referring b near) a _ _ (record { kind = refl; account = refl; day = a .day; amount = refl; settled = refl; hold = refl }) refl refl refl
 
-pub topUpResult-alike : (b : Book) (p : Replay) (e : Instruction) → Near (b .day) b → Alike b p → 1 ≤ e .account → 0 < account b (e .account) .topup
-    → Alike (topUpResult b e) (addTopUp p e)
-unfolding topUpResult addTopUp payTopUp declineTopUp declinedOn
-topUpResult-alike b p e near a n t = go (e .b is Yes)
+pub topupResult-agrees : (b : Book) (p : Replay) (e : Instruction) → Near (b .day) b → Agrees b p → 1 ≤ e .account → 0 < account b (e .account) .topup
+    → Agrees (topupResult b e) (addTopup p e)
+unfolding topupResult addTopup payTopup declineTopup declinedOn
+topupResult-agrees b p e near a n t = go (e .b is Yes)
   where
     x : Account
     x = account b (e .account)
@@ -129,12 +129,12 @@ topUpResult-alike b p e near a n t = go (e .b is Yes)
     q : Noted x (noteNo (p .notes) (e .account))
     q = noted-no b p a (e .account)
 
-    declined : (v : Bool) → Noted (cond v (withDeclines 0 0 (withTopUp 0 0 x)) (withDeclines (x .declines + 1) (b .day) x)) (noteNo (p .notes) (e .account))
+    declined : (v : Bool) → Noted (cond v (withDeclines 0 0 (withTopup 0 0 x)) (withDeclines (x .declines + 1) (b .day) x)) (noteNo (p .notes) (e .account))
     declined true = record { request = q .request; topup = λ h. absurd (omega arith) }
     declined false = record { request = q .request; topup = q .topup }
 
-    go : (v : Bool) → Alike (cond v (payTopUp b e) (declineTopUp b e))
-        (cond v (addEntry (newEntry Payment (e .account) (p .day) (noteNo (p .notes) (e .account) .topup)) p) p)
-    go true = payment-alike (putAccount (e .account) (topUpPaid x) b) p (referring b near) (account-alike b p a (e .account) n (topUpPaid x) (record { request = q .request; topup = q .topup })) _ _
+    go : (v : Bool) → Agrees (cond v (payTopup b e) (declineTopup b e))
+        (cond v (addEntry (newEntry KindPayment (e .account) (p .day) (noteNo (p .notes) (e .account) .topup)) p) p)
+    go true = payment-agrees (putAccount (e .account) (topupPaid x) b) p (referring b near) (account-agrees b p a (e .account) n (topupPaid x) (record { request = q .request; topup = q .topup })) _ _
         (record { kind = refl; account = refl; day = a .day; amount = q .topup t; settled = refl; hold = refl }) refl refl refl
-    go false = account-alike b p a (e .account) n _ (declined (lastDecline x))
+    go false = account-agrees b p a (e .account) n _ (declined (lastDecline x))

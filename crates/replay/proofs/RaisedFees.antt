@@ -15,18 +15,18 @@ use Rattle.lists.proofs.TestLaws.{and-left, and-right, and3}
 use Rattle.lists.proofs.ListLaws.{map-at}
 use Rattle.lists.proofs.PairLaws.{Pairs, none, more, pairs-length, pairs-each, pairs-gather, pairs-self, pairs-map-self}
 use Rattle.rules.specs.Schedule.{Schedule, stageFee}
-use Rattle.rules.specs.Rows.{Row, Fee, LastStage, blank, newRow, withReference, toll}
+use Rattle.rules.specs.Rows.{Row, KindFee, LastStage, blank, newRow, withReference, toll}
 use Rattle.rules.specs.Book.{Book, settled}
 use Rattle.rules.specs.Tick.{nextDay, endHolds, beforeRaising, rises, raise, feeRow, raiseTolls}
-use Rattle.rules.proofs.SoundnessLaws.{Sound}
+use Rattle.rules.specs.SoundFacts.{Sound}
 use Rattle.preservation.proofs.TickSteps.{rising, raise-keeps, unraised-length}
 use Rattle.replay.specs.Entries.{Entry, noEntry, newEntry, withToll}
 use Rattle.replay.specs.Replay.{Replay, gains, reaches, addFee, addFees}
 use Rattle.replay.specs.Demand3.{tollNamed}
-use Rattle.replay.proofs.Relation.{Match, Named, Rows, Alike, track-other}
+use Rattle.replay.proofs.Relation.{Match, Named, Rows, Agrees, counts-other}
 use Rattle.replay.proofs.SoundRows.{stage-length}
 use Rattle.replay.proofs.Growing.{Referring, referring, Kept, kind-kept, grow}
-use Rattle.replay.proofs.HoldsEnded.{gains-same, unraised-alike}
+use Rattle.replay.proofs.HoldsEnded.{gains-same, unraised-agrees}
 use Rattle.replay.proofs.Raising.{old, unraisedEntries, kind-same, account-same, reference-same, rises-reached, reached-rises, raise-match, mark-same}
 
 -- ---- the open days of stage k, and of the stage after m
@@ -79,7 +79,7 @@ one-fee S s f g true (suc (suc (suc (suc m)))) l q = absurd (omega (arith, l ref
 
 -- ---- all tolls
 
-module _ (b : Book) (p : Replay) (sound : Sound b) (a : Alike b p) where
+module _ (b : Book) (p : Replay) (sound : Sound b) (a : Agrees b p) where
   abbrev L : ℕ
   L = b .schedule .stage
 
@@ -121,17 +121,17 @@ module _ (b : Book) (p : Replay) (sound : Sound b) (a : Alike b p) where
                 m = old b p sound a k h
 
                 t : toll r ≡ true
-                t = and3 (toll r) _ _ (sym (gains-same r x (m .face)) ∙ g) .0
+                t = and3 (toll r) _ _ (sym (gains-same r x (m .line)) ∙ g) .0
 
                 days : x .open-days + 1 ≡ j * L
                 days = eqb-true _ _ (and-right (gains x) (x .open-days + 1 is j * L) q)
 
                 low : s .mark * L ≤ x .open-days
-                low = rw (mark-same b p sound a k h) (m .track .low t)
+                low = rw (mark-same b p sound a k h) (m .counts .low t)
 
                 last : Dec (s .mark < LastStage) → true ≡ false
                 last (yes u) =
-                    let high : x .open-days < s .mark * L + L + 0 = rw (mark-same b p sound a k h) (m .track .high t (rw (mark-same b p sound a k h) at u)) in
+                    let high : x .open-days < s .mark * L + L + 0 = rw (mark-same b p sound a k h) (m .counts .high t (rw (mark-same b p sound a k h) at u)) in
                     sym (reached-rises b p sound a k h (record { gained = g; under = u; days = last-day L (s .mark) j (x .open-days) low (omega arith) days })) ∙ e
                 last (no u) = let z : j * L ≤ s .mark * L = mul-le-mul-right L (omega arith) in absurd (omega (arith, low, days))
 
@@ -163,13 +163,13 @@ module _ (b : Book) (p : Replay) (sound : Sound b) (a : Alike b p) where
       let z : n ≡ suc k = omega arith in
       rw (z, ← (a .schedule), ← (a .day), reaches-same k l 2 (omega arith), reaches-same k l 3 (omega arith), reaches-same k l 4 (omega arith))
       (one-fee (Named (Match 0 now L) (raised ++ fees)) (b .schedule)
-      (λ j. withReference (suc k) (newRow Fee (getD unraised k blank .account) now (stageFee (b .schedule) j)))
-      (λ j. withToll (suc k) (newEntry Fee (getD (p .entries) k noEntry .account) now (stageFee (b .schedule) j)))
+      (λ j. withReference (suc k) (newRow KindFee (getD unraised k blank .account) now (stageFee (b .schedule) j)))
+      (λ j. withToll (suc k) (newEntry KindFee (getD (p .entries) k noEntry .account) now (stageFee (b .schedule) j)))
       (rises now (getD unraised k blank)) (getD unraised k blank .mark) (λ q. rising now (getD unraised k blank) q .under)
       (λ q j. record {
         is = record {
-          face = record { kind = refl; account = account-same b p sound a k l ∙ old b p sound a k l .face .account; day = refl; amount = refl; settled = refl; hold = refl };
-          track = track-other 0 now L _ _ refl (λ i. refl);
+          line = record { kind = refl; account = account-same b p sound a k l ∙ old b p sound a k l .line .account; day = refl; amount = refl; settled = refl; hold = refl };
+          counts = counts-other 0 now L _ _ refl (λ i. refl);
         };
         toll = rw (kind-kept unraised raised fees raised-kept (suc k) h, rising now (getD unraised k blank) q .toll);
       }))
@@ -177,7 +177,7 @@ module _ (b : Book) (p : Replay) (sound : Sound b) (a : Alike b p) where
   pub raise-rows : Rows (Match 0 now L) (raiseTolls (beforeRaising b) .rows) (unraisedEntries b p sound a ++ gather (addFees (p .schedule) (p .day + 1)) (p .entries))
   unfolding raiseTolls beforeRaising settled endHolds nextDay
   raise-rows =
-      let d = unraised-alike b p (sound .near) a in
+      let d = unraised-agrees b p (sound .near) a in
       let n : length raised ≡ length unraised = length-map unraised (raise (b .schedule) now) in
       grow unraised (unraisedEntries b p sound a) unraised-referring d raised (unraisedEntries b p sound a) raised-kept (pairs-self (λ y. refl) (unraisedEntries b p sound a))
       (pairs-each blank noEntry raised (unraisedEntries b p sound a) (n ∙ pairs-length d) (λ k h.

@@ -14,19 +14,19 @@ use Rattle.lists.specs.Lists.{sumBy, only, one, gather}
 use Rattle.lists.proofs.TestLaws.{and-left, and-right}
 use Rattle.lists.proofs.SumLaws.{sumBy-append, sumBy-map, sumBy-ext, sumBy-ext-at, sumBy-add, sumBy-le, sumBy-at-le, sumBy-some, sumBy-gather, sumBy-gather-none}
 use Rattle.rules.specs.Schedule.{stageFee}
-use Rattle.rules.specs.Rows.{Row, Test, Toll, Fee, Held, blank, newRow, withReference, withDue, withMark, rowNo, debit, toll, heldToll, held, unsettled, sourceOf, debitOf, payable, remaining}
+use Rattle.rules.specs.Rows.{Row, Test, KindToll, KindFee, DisputeHeld, blank, newRow, withReference, withDue, withMark, rowNo, debit, toll, heldToll, held, unsettled, sourceOf, debitOf, payable, remaining}
 use Rattle.rules.specs.Settlement.{money, debt, moved, used, paid, owed}
-use Rattle.rules.specs.Book.{Closed, Book, settled, account, sources, debits}
+use Rattle.rules.specs.Book.{StateClosed, Book, settled, account, sources, debits}
 use Rattle.rules.specs.Events.{release}
 use Rattle.rules.specs.Tick.{nextDay, holdEnds, endHold, endHolds, beforeRaising, rises, raise, feeRow, raiseTolls}
-use Rattle.rules.specs.Soundness.{even, closedClear}
+use Rattle.rules.specs.Soundness.{usedIsPaid, closedClear}
 use Rattle.rules.proofs.AllocationLaws.{bare}
-use Rattle.rules.proofs.SoundnessLaws.{Sound}
+use Rattle.rules.specs.SoundFacts.{Sound}
 use Rattle.rules.proofs.SettlementLaws.{payable-le}
-use Rattle.rules.proofs.SettlementAccountsLaws.{Remains, settleAccounts-held, settleAccounts-even, settleAccounts-spent, settleAccounts-remains}
+use Rattle.rules.proofs.SettlementAccountsLaws.{Remains, settleAccounts-held, settleAccounts-used-is-paid, settleAccounts-no-idle-money, settleAccounts-remains}
 use Rattle.preservation.proofs.TickSteps.{endHold-keeps, rising, raise-keeps, ended, ended-rows, ended-at, unraised-rows, unraised-row, unraised-length}
 use Rattle.replay.specs.Replay.{Replay}
-use Rattle.replay.proofs.Relation.{Alike}
+use Rattle.replay.proofs.Relation.{Agrees}
 use Rattle.replay.proofs.SoundRows.{Refers, sound-row}
 use Rattle.replay.proofs.Idle.{debt-least}
 use Rattle.replay.proofs.Raising.{free-toll, kind-same, account-same, reference-same}
@@ -83,7 +83,7 @@ held-of c r h = go (r .account is c) (toll r) (heldToll r) h
     go false t w q = absurd (omega arith)
 
 not-held : (c : ℕ) (r : Row) → heldOf c r ≤ 0 → r .account is c ≡ true → heldToll r ≡ false
-not-held c r h e = go (r .kind is Toll) (r .dispute is Held) (rw e at h)
+not-held c r h e = go (r .kind is KindToll) (r .dispute is DisputeHeld) (rw e at h)
   where
     go : (t w : Bool) → cond (t && (t && w)) 1 0 ≤ 0 → t && w ≡ false
     go true true q = absurd (omega arith)
@@ -93,7 +93,7 @@ not-held c r h e = go (r .kind is Toll) (r .dispute is Held) (rw e at h)
 owes : (c : ℕ) (r : Row) → r .account is c ≡ true → heldToll r ≡ true → unsettled r ≡ true → 0 < only (debitOf c) remaining r
 unfolding only debitOf
 owes c r e h u =
-    let t : r .kind ≡ Toll = eqb-true _ _ (and-left (r .kind is Toll) (r .dispute is Held) h) in
+    let t : r .kind ≡ KindToll = eqb-true _ _ (and-left (r .kind is KindToll) (r .dispute is DisputeHeld) h) in
     let l : r .settled < r .amount = ltb-true _ _ u in
     rw (e, t) (omega arith)
 
@@ -114,7 +114,7 @@ endHold-held today r = go (holdEnds today r)
     go true e = absurd (false≢true (sym (and-false (toll r)) ∙ e))
     go false e = refl
 
-module _ (b : Book) (p : Replay) (sound : Sound b) (a : Alike b p) where
+module _ (b : Book) (p : Replay) (sound : Sound b) (a : Agrees b p) where
   abbrev now : ℕ
   now = b .day + 1
 
@@ -139,7 +139,7 @@ module _ (b : Book) (p : Replay) (sound : Sound b) (a : Alike b p) where
 
   -- a sum to which the fee rows add nothing, and two to which they add the same
   abbrev feeOn : ℕ → Row → Row
-  feeOn n r = withReference n (newRow Fee (r .account) now (stageFee (b .schedule) (r .mark + 1)))
+  feeOn n r = withReference n (newRow KindFee (r .account) now (stageFee (b .schedule) (r .mark + 1)))
 
   fees-none : (f : Row → ℕ) → ((k n : ℕ) → k < length unraised → rises now (getD unraised k blank) ≡ true → f (feeOn n (getD unraised k blank)) ≡ 0) → sumBy f fees ≡ 0
   unfolding feeRow
@@ -201,12 +201,12 @@ module _ (b : Book) (p : Replay) (sound : Sound b) (a : Alike b p) where
     owed-afterRaising = afterRaising-sum (only (debitOf c) remaining) (λ r v w. refl)
 
     -- "used sources = settled debits"
-    pub afterRaising-even : used c afterRaising ≡ paid c afterRaising
-    afterRaising-even =
-        let e : used c (b .rows) ≡ paid c (b .rows) = unfold even in (eqb-true _ _ (sound .near .counted j h .even)) in
+    pub afterRaising-used-is-paid : used c afterRaising ≡ paid c afterRaising
+    afterRaising-used-is-paid =
+        let e : used c (b .rows) ≡ paid c (b .rows) = unfold usedIsPaid in (eqb-true _ _ (sound .near .counted j h .used-is-paid)) in
         let u : used c (ended b) ≡ used c (b .rows) = unfold used only sourceOf in (ended-sum (only (sourceOf c) (λ r. r .settled)) (λ r t. unfold release in refl)) in
         let v : paid c (ended b) ≡ paid c (b .rows) = unfold paid only debitOf in (ended-sum (only (debitOf c) (λ r. r .settled)) (λ r t. unfold release in refl)) in
-        used-afterRaising ∙ rw (unraised-rows b) (settleAccounts-even (length (b .accounts)) (ended b) c (u ∙ e ∙ sym v)) ∙ sym paid-afterRaising
+        used-afterRaising ∙ rw (unraised-rows b) (settleAccounts-used-is-paid (length (b .accounts)) (ended b) c (u ∙ e ∙ sym v)) ∙ sym paid-afterRaising
 
     -- the amounts of sources and debits
     pub afterRaising-sources : sources afterRaising c ≡ used c afterRaising + money c afterRaising
@@ -242,10 +242,10 @@ module _ (b : Book) (p : Replay) (sound : Sound b) (a : Alike b p) where
         go false e n f = refl
 
     -- no unused money beside it
-    afterRaising-spent : 0 < money c afterRaising → debt c unraised ≡ 0
+    afterRaising-no-idle-money : 0 < money c afterRaising → debt c unraised ≡ 0
     unfolding moved
-    afterRaising-spent m =
-        let e : moved c unraised ≡ 0 = rw (unraised-rows b) (settleAccounts-spent (length (b .accounts)) (ended b) j h) in
+    afterRaising-no-idle-money m =
+        let e : moved c unraised ≡ 0 = rw (unraised-rows b) (settleAccounts-no-idle-money (length (b .accounts)) (ended b) j h) in
         omega (arith, money-afterRaising)
 
     -- ---- the account's held tolls
@@ -268,7 +268,7 @@ module _ (b : Book) (p : Replay) (sound : Sound b) (a : Alike b p) where
       free : (k : ℕ) → k < length unraised → getD unraised k blank .account is c ≡ true → heldToll (getD unraised k blank) ≡ false
       free k l e = not-held c (getD unraised k blank) (omega (arith, sumBy-at-le (heldOf c) unraised k blank l)) e
 
-      named-free : (k : ℕ) → k < length unraised → getD unraised k blank .account is c ≡ true → getD unraised k blank .kind is Fee ≡ true
+      named-free : (k : ℕ) → k < length unraised → getD unraised k blank .account is c ≡ true → getD unraised k blank .kind is KindFee ≡ true
           → heldToll (rowNo unraised (getD unraised k blank .reference)) ≡ false
       named-free k l e f =
           let i : k < length (b .rows) = rw (unraised-length b) at l in
@@ -283,7 +283,7 @@ module _ (b : Book) (p : Replay) (sound : Sound b) (a : Alike b p) where
       owed-debt : owed c unraised ≡ debt c unraised
       unfolding owed debt held
       owed-debt = sumBy-ext-at (only (debitOf c) remaining) (only (payable unraised c) remaining) blank unraised
-          (λ k l. payable-all unraised c (getD unraised k blank) (λ e. rw (free k l e) (go (getD unraised k blank .kind is Fee) refl (named-free k l e))))
+          (λ k l. payable-all unraised c (getD unraised k blank) (λ e. rw (free k l e) (go (getD unraised k blank .kind is KindFee) refl (named-free k l e))))
         where
           go : (v : Bool) {f w : Bool} → f ≡ v → (f ≡ true → w ≡ false) → v && w ≡ false
           go true e q = q e
@@ -293,12 +293,12 @@ module _ (b : Book) (p : Replay) (sound : Sound b) (a : Alike b p) where
     none-owed z l = go (decLt 0 (money c afterRaising))
       where
         go : Dec (0 < money c afterRaising) → owed c afterRaising ≡ 0
-        go (yes m) = omega (arith, owed-afterRaising, owed-debt (sym held-afterRaising ∙ z), afterRaising-spent m, fees-owed (afterRaising-spent m))
+        go (yes m) = omega (arith, owed-afterRaising, owed-debt (sym held-afterRaising ∙ z), afterRaising-no-idle-money m, fees-owed (afterRaising-no-idle-money m))
         go (no m) = omega arith
 
     -- ---- a closed account
 
-    pub closed-none : account b c .state ≡ Closed → (money c afterRaising ≡ 0) × (owed c afterRaising ≡ 0)
+    pub closed-none : account b c .state ≡ StateClosed → (money c afterRaising ≡ 0) × (owed c afterRaising ≡ 0)
     unfolding money owed debt closedClear
     closed-none e =
         let m : money c (b .rows) is 0 && owed c (b .rows) is 0 ≡ true = rw (eq-eqb _ _ e) at (sound .near .counted j h .clear) in

@@ -12,7 +12,7 @@ use Rattle.replay.specs.Replay.{Note, Replay}
 use Rattle.replay.specs.Demand3.{tollNamed}
 
 -- what is compared of a row and its entry
-pub record Face (r : Row) (x : Entry) : Type 0 where
+pub record SameLine (r : Row) (x : Entry) : Type 0 where
   pub kind : r .kind ≡ x .kind
   pub account : r .account ≡ x .account
   pub day : r .day ≡ x .day
@@ -26,7 +26,7 @@ clockOf today r = cond (heldToll r) (r .hold) today
 
 -- what the replay counts of a toll: ticks since the hold began, and open days, of which L make a stage and the rest lies before the due
 -- day; late is 0, and 1 in the midst of a tick, when a stage's last open day is counted and the stage not yet reached
-pub record Track (late today L : ℕ) (r : Row) (x : Entry) : Type 0 where
+pub record CountsOf (late today L : ℕ) (r : Row) (x : Entry) : Type 0 where
   pub ticks : heldToll r ≡ true → x .ticks + r .hold ≡ today
   pub fresh : r .dispute ≡ 0 → x .ticks ≡ 0
   pub clock : toll r ≡ true → unsettled r ≡ true → r .mark < LastStage → x .open-days + r .due ≡ r .mark * L + L + clockOf today r
@@ -34,8 +34,8 @@ pub record Track (late today L : ℕ) (r : Row) (x : Entry) : Type 0 where
   pub high : toll r ≡ true → r .mark < LastStage → x .open-days < r .mark * L + L + late
 
 pub record Match (late today L : ℕ) (r : Row) (x : Entry) : Type 0 where
-  pub face : Face r x
-  pub track : Track late today L r x
+  pub line : SameLine r x
+  pub counts : CountsOf late today L r x
 
 -- R, and the toll that the row names is the entry's
 pub record Named (R : Row → Entry → Type 0) (rows : List Row) (r : Row) (x : Entry) : Type 0 where
@@ -50,7 +50,7 @@ pub record Noted (x : Account) (n : Note) : Type 0 where
   pub request : x .request ≡ n .request
   pub topup : 0 < x .topup → x .topup ≡ n .topup
 
-pub record Alike (b : Book) (p : Replay) : Type 0 where
+pub record Agrees (b : Book) (p : Replay) : Type 0 where
   pub day : b .day ≡ p .day
   pub schedule : b .schedule ≡ p .schedule
   pub rows : Rows (Match 0 (b .day) (b .schedule .stage)) (b .rows) (p .entries)
@@ -58,12 +58,12 @@ pub record Alike (b : Book) (p : Replay) : Type 0 where
 
 -- ---- where there is no row and no entry
 
-pub face-blank : Face blank noEntry
-face-blank = record { kind = refl; account = refl; day = refl; amount = refl; settled = refl; hold = refl }
+pub same-line-blank : SameLine blank noEntry
+same-line-blank = record { kind = refl; account = refl; day = refl; amount = refl; settled = refl; hold = refl }
 
 -- a row that is no toll
-pub track-other : (late today L : ℕ) (r : Row) (x : Entry) → toll r ≡ false → (r .dispute ≡ 0 → x .ticks ≡ 0) → Track late today L r x
-track-other late today L r x k e = record {
+pub counts-other : (late today L : ℕ) (r : Row) (x : Entry) → toll r ≡ false → (r .dispute ≡ 0 → x .ticks ≡ 0) → CountsOf late today L r x
+counts-other late today L r x k e = record {
   ticks = λ h. absurd (false≢true (rw k at h));
   fresh = e;
   clock = λ h. absurd (false≢true (rw k at h));
@@ -72,4 +72,4 @@ track-other late today L r x k e = record {
 }
 
 pub match-blank : (late today L : ℕ) → Match late today L blank noEntry
-match-blank late today L = record { face = face-blank; track = track-other late today L blank noEntry refl (λ h. refl) }
+match-blank late today L = record { line = same-line-blank; counts = counts-other late today L blank noEntry refl (λ h. refl) }

@@ -20,7 +20,7 @@ use Rattle.replay.specs.Demand3.{reportsOf, tollNamed, stageOf, stageFee
 
 -- what unfolds for the replay to compute
 unfoldable replaying : Unit {0}
-unfolding Entries.feeOf Entries.onHold Entries.sumOf Entries.balanceOf Entries.moneyIn Entries.moneyOut Entries.unusedOf Entries.wantedBy Entries.cover Entries.settleEntries Entries.settleAllEntries Replay.settledReplay Replay.noteTopUp Replay.noteRequest Replay.addToll Replay.addPayment Replay.addTopUp Replay.addReturn Replay.setHold Replay.tollAndFees Replay.addCredit Replay.freeToll Replay.gains Replay.countTick Replay.countDay Replay.reaches Replay.addFee Replay.addFees Replay.closing Replay.addRefund Replay.useMoney Replay.closeAll Replay.tickReplay Replay.stepOf Replay.replayOne Replay.replay Replay.begin Demand3.called Demand3.tablesAfter Demand3.reportsOf Demand3.reportsIf Demand3.reportsAt Demand3.reports Demand3.tollNamed Demand3.stageOf Demand3.dayReached Demand3.stageFees Demand3.feesNaming Demand3.replayStart
+unfolding Entries.feeOf Entries.onHold Entries.sumOf Entries.balanceOf Entries.moneyIn Entries.moneyOut Entries.unusedOf Entries.wantedBy Entries.cover Entries.settleEntries Entries.settleAllEntries Replay.settledReplay Replay.noteTopup Replay.noteRequest Replay.addToll Replay.addPayment Replay.addTopup Replay.addReturn Replay.setHold Replay.tollAndFees Replay.addCredit Replay.freeToll Replay.gains Replay.countTick Replay.countDay Replay.reaches Replay.addFee Replay.addFees Replay.closing Replay.addRefund Replay.useMoney Replay.closeAll Replay.tickReplay Replay.stepOf Replay.replayOne Replay.replay Replay.begin Demand3.called Demand3.tablesAfter Demand3.reportsOf Demand3.reportsIf Demand3.reportsAt Demand3.reports Demand3.tollNamed Demand3.stageOf Demand3.dayReached Demand3.stageFees Demand3.feesNaming Demand3.replayStart
 replaying = tt
 
 -- two accounts: a duplicate passage that is refused; a hold freed by its thirtieth tick, its toll paid after 29 open days; an account that closes with a refund, pends again by

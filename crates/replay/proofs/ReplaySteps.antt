@@ -7,15 +7,15 @@ use native.Mathlib.Omega.{arith}
 use mathlib.Core.List.{List, [], _∷_, _++_, append-nil}
 use lib.ListN.{getD, set}
 use borrow.Author.Tests.{ne-eqb}
-use Rattle.records.specs.Codes.{Yes}
+use Rattle.records.specs.Codes.{Yes, EventDispute, EventDecision}
 use Rattle.records.specs.declared.Instruction.{Instruction}
 use Rattle.lists.specs.Tests.{_is_}
 use Rattle.lists.specs.Lists.{one}
 use Rattle.lists.proofs.TestLaws.{cond-either}
 use Rattle.lists.proofs.PairLaws.{Pairs, none, more, pairs-at, pairs-to, pairs-map-self, pairs-set-self}
 use Rattle.lists.proofs.CollectLaws.{collect, collect-append, collect-pairs, collect-none}
-use Rattle.replay.specs.Entries.{Entry, Fee, noEntry, entryNo, coverWhole, feeOf, unusedOf, wantedBy, cover, settleEntries, settleAllEntries}
-use Rattle.replay.specs.Replay.{Replay, noteTopUp, noteRequest, addToll, addPayment, addTopUp, addReturn, setHold, addCredit, freeToll, stepOf}
+use Rattle.replay.specs.Entries.{Entry, KindFee, noEntry, entryNo, coverWhole, feeOf, unusedOf, wantedBy, cover, settleEntries, settleAllEntries}
+use Rattle.replay.specs.Replay.{Replay, noteTopup, noteRequest, addToll, addPayment, addTopup, addReturn, setHold, addCredit, freeToll, stepOf}
 use Rattle.replay.proofs.Growing.{number-at}
 
 -- the fee entries that name toll n: amounts and days
@@ -62,7 +62,7 @@ pub record New (x : Entry) : Type 0 where
 
 new-share : (n : ℕ) (x : Entry) → 1 ≤ n → x .toll ≡ 0 → feeShare n x ≡ []
 unfolding feeOf
-new-share n x h e = rw (ne-eqb (x .toll) n (λ z. omega arith), and-false (x .kind is Fee))
+new-share n x h e = rw (ne-eqb (x .toll) n (λ z. omega arith), and-false (x .kind is KindFee))
 
 pub opened-append : (xs ys : List Entry) → ((k : ℕ) → getD ys k noEntry .open-days ≡ 0) → (n : ℕ) → entryNo (xs ++ ys) n .open-days ≡ entryNo xs n .open-days
 opened-append xs ys e zero = refl
@@ -127,12 +127,12 @@ pub record Stepped (p q : Replay) : Type 0 where
 
 -- a decision and a dispute name an entry by its number, from 1
 pub record Proper (e : Instruction) : Type 0 where
-  pub dispute : e .kind ≡ 5 → 1 ≤ e .a
-  pub decision : e .kind ≡ 6 → 1 ≤ e .a
+  pub dispute : e .kind ≡ EventDispute → 1 ≤ e .a
+  pub decision : e .kind ≡ EventDecision → 1 ≤ e .a
 
 -- events 1 to 8, and kinds of no event
 pub step-steady : (k : ℕ) (p : Replay) (e : Instruction) → k ≢ 9 → (k ≡ 5 → 1 ≤ e .a) → (k ≡ 6 → 1 ≤ e .a) → Stepped p (stepOf k p e)
-unfolding stepOf noteTopUp noteRequest addToll addPayment addTopUp addReturn setHold addCredit freeToll
+unfolding stepOf noteTopup noteRequest addToll addPayment addTopup addReturn setHold addCredit freeToll
 step-steady zero p e n f g = record { schedule = refl; steady = steady-self (p .entries) }
 step-steady (suc zero) p e n f g = record { schedule = refl; steady = steady-self (p .entries) }
 step-steady (suc (suc zero)) p e n f g = record { schedule = refl; steady = steady-add (p .entries) _ (record { toll = refl; opened = refl }) }

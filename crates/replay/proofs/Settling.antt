@@ -1,4 +1,4 @@
--- Settlement is the same on rows and on entries: it keeps any relation that implies Face and that a part settled on both sides keeps.
+-- Settlement is the same on rows and on entries: it keeps any relation that implies SameLine and that a part settled on both sides keeps.
 use mathlib.Core.Path.{_≡_, refl, ap, fun-ext}
 use mathlib.Core.Bool.{Bool, true, false, cond, _&&_, _||_}
 use Prim.Native.Nat.{ℕ, zero, suc, _+_, _-_, min}
@@ -6,30 +6,30 @@ use mathlib.Core.List.{List}
 use Rattle.lists.specs.Tests.{_is_}
 use Rattle.lists.specs.Lists.{sumBy, only}
 use Rattle.lists.proofs.PairLaws.{Pairs, none, more, pairs-at, pairs-to, pairs-sum}
-use Rattle.rules.specs.Rows.{Row, Test, Toll, Fee, blank, rowNo, heldToll, held, sourceOf, payable, remaining, settleMore}
+use Rattle.rules.specs.Rows.{Row, Test, KindToll, KindFee, blank, rowNo, heldToll, held, sourceOf, payable, remaining, settleMore}
 use Rattle.rules.specs.Settlement.{allocate, money, debt, moved, pay, settle, settleAccounts}
 use Rattle.rules.proofs.SettlementLaws.{settle-row}
 use Rattle.replay.specs.Entries.{Entry, noEntry, entryNo, withCovered, onHold, unusedOf, wantedBy, cover, settleEntries, settleAllEntries}
 use Rattle.replay.specs.Demand3.{tollNamed}
-use Rattle.replay.proofs.Relation.{Face, Named, Rows, face-blank}
+use Rattle.replay.proofs.Relation.{SameLine, Named, Rows, same-line-blank}
 
 -- ---- the entry of a row's number, and what is held
 
-pub faces-no : {rows : List Row} {xs : List Entry} → Pairs Face rows xs → (n : ℕ) → Face (rowNo rows n) (entryNo xs n)
-faces-no p n = pairs-at blank noEntry face-blank (more face-blank p) n
+pub faces-no : {rows : List Row} {xs : List Entry} → Pairs SameLine rows xs → (n : ℕ) → SameLine (rowNo rows n) (entryNo xs n)
+faces-no p n = pairs-at blank noEntry same-line-blank (more same-line-blank p) n
 
-pub held-same : {rows : List Row} {xs : List Entry} → Pairs Face rows xs → (r : Row) (x : Entry) → Face r x → tollNamed rows r ≡ x .toll → held rows r ≡ onHold xs x
+pub held-same : {rows : List Row} {xs : List Entry} → Pairs SameLine rows xs → (r : Row) (x : Entry) → SameLine r x → tollNamed rows r ≡ x .toll → held rows r ≡ onHold xs x
 unfolding held onHold tollNamed
-held-same {rows} {xs} p r x f e = rw (f .hold, f .kind) (ap {B = Bool} (λ (v : Bool). x .hold || v) (go (x .kind is Fee) (rw (f .kind) at e)))
+held-same {rows} {xs} p r x f e = rw (f .hold, f .kind) (ap {B = Bool} (λ (v : Bool). x .hold || v) (go (x .kind is KindFee) (rw (f .kind) at e)))
   where
     n : ℕ
     n = r .reference
 
-    go : (v : Bool) → cond (v && rowNo rows n .kind is Toll) n 0 ≡ x .toll → v && heldToll (rowNo rows n) ≡ v && entryNo xs (x .toll) .hold
+    go : (v : Bool) → cond (v && rowNo rows n .kind is KindToll) n 0 ≡ x .toll → v && heldToll (rowNo rows n) ≡ v && entryNo xs (x .toll) .hold
     go false q = refl
-    go true q = toll (rowNo rows n .kind is Toll) refl q
+    go true q = toll (rowNo rows n .kind is KindToll) refl q
       where
-        toll : (v : Bool) → rowNo rows n .kind is Toll ≡ v → cond v n 0 ≡ x .toll → heldToll (rowNo rows n) ≡ entryNo xs (x .toll) .hold
+        toll : (v : Bool) → rowNo rows n .kind is KindToll ≡ v → cond v n 0 ≡ x .toll → heldToll (rowNo rows n) ≡ entryNo xs (x .toll) .hold
         toll true k w = rw (← w) (faces-no p n .hold)
         toll false k w = rw (← w, k)
 
@@ -54,7 +54,7 @@ named-settle a rows = fun-ext (λ r. rw (kind-settle (r .reference)))
     kind-settle zero = refl
     kind-settle (suc n) = ap (λ (r : Row). r .kind) (settle-row a rows n .kept)
 
-module _ (R : Row → Entry → Type 0) (face : (r : Row) (x : Entry) → R r x → Face r x)
+module _ (R : Row → Entry → Type 0) (line : (r : Row) (x : Entry) → R r x → SameLine r x)
     (keep : (r : Row) (x : Entry) (n : ℕ) → R r x → R (settleMore r n) (withCovered (x .covered + n) x)) where
   -- a row and an entry in the midst of a settlement of rows and xs
   record Midst (rows : List Row) (xs : List Entry) (r : Row) (x : Entry) : Type 0 where
@@ -67,17 +67,17 @@ module _ (R : Row → Entry → Type 0) (face : (r : Row) (x : Entry) → R r x 
 
   source-same : (rows : List Row) (xs : List Entry) (a : ℕ) (r : Row) (x : Entry) → Midst rows xs r x → only (sourceOf a) remaining r ≡ unusedOf a x
   unfolding only sourceOf unusedOf
-  source-same rows xs a r x m = let f : Face r x = face r x (m .named .is) in rw (f .account, f .kind, f .amount, f .settled)
+  source-same rows xs a r x m = let f : SameLine r x = line r x (m .named .is) in rw (f .account, f .kind, f .amount, f .settled)
 
   payable-same : (rows : List Row) (xs : List Entry) (a : ℕ) (r : Row) (x : Entry) → Midst rows xs r x → only (payable rows a) remaining r ≡ wantedBy xs a x
   unfolding only payable wantedBy
-  payable-same rows xs a r x m = let f : Face r x = face r x (m .named .is) in rw (m .held, f .account, f .kind, f .amount, f .settled)
+  payable-same rows xs a r x m = let f : SameLine r x = line r x (m .named .is) in rw (m .held, f .account, f .kind, f .amount, f .settled)
 
   pub settle-pairs : (a : ℕ) {rows : List Row} {xs : List Entry} → Rows R rows xs → Rows R (settle a rows) (settleEntries a xs)
   unfolding settle pay moved money debt settleEntries
   settle-pairs a {rows} {xs} p =
-      let faces : Pairs Face rows xs = pairs-to (λ r x m. face r x (m .is)) p in
-      let q : Pairs (Midst rows xs) rows xs = pairs-to (λ r x m. record { named = m; held = held-same faces r x (face r x (m .is)) (m .toll) }) p in
+      let lines : Pairs SameLine rows xs = pairs-to (λ r x m. line r x (m .is)) p in
+      let q : Pairs (Midst rows xs) rows xs = pairs-to (λ r x m. record { named = m; held = held-same lines r x (line r x (m .is)) (m .toll) }) p in
       let u : sumBy (only (sourceOf a) remaining) rows ≡ sumBy (unusedOf a) xs = pairs-sum (pairs-to (source-same rows xs a) q) in
       let w : sumBy (only (payable rows a) remaining) rows ≡ sumBy (wantedBy xs a) xs = pairs-sum (pairs-to (payable-same rows xs a) q) in
       let n : ℕ = moved a rows in

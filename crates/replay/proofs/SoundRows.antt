@@ -10,12 +10,12 @@ use lib.Dec.{leb, ltb}
 use borrow.Author.Tests.{leb-true, ltb-true, eqb-true}
 use Rattle.lists.specs.Tests.{_is_, _from_to_, _implies_}
 use Rattle.lists.proofs.TestLaws.{and-left, and-right, and3}
-use Rattle.rules.specs.Limits.{longestStage, highestFee}
+use Rattle.records.specs.Limits.{longestStage, highestFee}
 use Rattle.rules.specs.Schedule.{Schedule, scheduleFits, ratesFit}
-use Rattle.rules.specs.Rows.{Row, Toll, Fee, Payment, LastStage, Held, blank, rowNo, toll, heldToll, unsettled}
-use Rattle.rules.specs.Book.{Account, unused, Unused, Book, accountNo}
+use Rattle.rules.specs.Rows.{Row, KindToll, KindFee, KindPayment, LastStage, DisputeHeld, blank, rowNo, toll, heldToll, unsettled}
+use Rattle.rules.specs.Book.{Account, unused, StateUnused, Book, accountNo}
 use Rattle.rules.specs.Soundness.{markFits, holdFits, accountUsed, names, referenceFits}
-use Rattle.rules.proofs.SoundnessLaws.{Near}
+use Rattle.rules.specs.SoundFacts.{Near}
 use Rattle.rules.proofs.StorableLaws.{settled-le}
 use Rattle.preservation.proofs.DisputeKept.{held-is}
 
@@ -27,7 +27,7 @@ pub record Holding (today : ℕ) (r : Row) : Type 0 where
 
 holding : (today L : ℕ) (r : Row) → holdFits today L r ≡ true → heldToll r ≡ true → Holding today r
 holding today L r f h =
-    let w = held-is today L r (eqb-true _ _ (and-left (toll r) (r .dispute is Held) h)) (eqb-true _ _ (and-right (toll r) (r .dispute is Held) h)) f in
+    let w = held-is today L r (eqb-true _ _ (and-left (toll r) (r .dispute is DisputeHeld) h)) (eqb-true _ _ (and-right (toll r) (r .dispute is DisputeHeld) h)) f in
     record { past = w .begun; open-still = w .open-still }
 
 stage-by : (r : Row) → markFits r ≡ true → toll r ≡ true → r .mark ≤ LastStage
@@ -46,21 +46,21 @@ named-row rows n r kind f =
     let p = and3 (ltb (r .reference) n) (rowNo rows (r .reference) .kind is kind) (rowNo rows (r .reference) .account is r .account) f in
     record { earlier = ltb-true _ _ (p .0); same = eqb-true _ _ (p .2) }
 
-refers : (rows : List Row) (n : ℕ) (r : Row) → referenceFits rows n r ≡ true → r .kind is Fee ≡ true → Refers rows n r
+refers : (rows : List Row) (n : ℕ) (r : Row) → referenceFits rows n r ≡ true → r .kind is KindFee ≡ true → Refers rows n r
 unfolding referenceFits
 refers rows n r f k =
-    let a : Bool = names rows n r Toll || names rows n r Payment in
-    either (names rows n r Toll) refl (and3 (r .kind is Fee implies a) _ _ f .0)
+    let a : Bool = names rows n r KindToll || names rows n r KindPayment in
+    either (names rows n r KindToll) refl (and3 (r .kind is KindFee implies a) _ _ f .0)
   where
-    either : (v : Bool) → names rows n r Toll ≡ v → (r .kind is Fee implies v || names rows n r Payment) ≡ true → Refers rows n r
-    either true e g = named-row rows n r Toll e
-    either false e g = named-row rows n r Payment (rw k at g)
+    either : (v : Bool) → names rows n r KindToll ≡ v → (r .kind is KindFee implies v || names rows n r KindPayment) ≡ true → Refers rows n r
+    either true e g = named-row rows n r KindToll e
+    either false e g = named-row rows n r KindPayment (rw k at g)
 
 pub record Within (n : ℕ) (a : ℕ) : Type 0 where
   pub low : 1 ≤ a
   pub high : a ≤ n
 
-account-in : (xs : List Account) (a : ℕ) → not (accountNo xs a .state is Unused) ≡ true → Within (length xs) a
+account-in : (xs : List Account) (a : ℕ) → not (accountNo xs a .state is StateUnused) ≡ true → Within (length xs) a
 account-in xs zero e = absurd (false≢true e)
 account-in xs (suc a) e = elim (decLt a (length xs)) [
   | yes h ↦ record { low = omega arith; high = omega arith }
@@ -73,7 +73,7 @@ pub record SoundRow (today accounts : ℕ) (rows : List Row) (n : ℕ) (r : Row)
   pub fits : r .settled ≤ r .amount
   pub stage : toll r ≡ true → r .mark ≤ LastStage
   pub holding : heldToll r ≡ true → Holding today r
-  pub refers : r .kind is Fee ≡ true → Refers rows n r
+  pub refers : r .kind is KindFee ≡ true → Refers rows n r
   pub account : Within accounts (r .account)
 
 module _ (b : Book) (near : Near (b .day) b) where

@@ -15,9 +15,9 @@ use Rattle.lists.proofs.TestLaws.{cond-either}
 use Rattle.lists.proofs.ListLaws.{map-at}
 use Rattle.lists.proofs.PairLaws.{Pairs, pairs-at, pairs-map-self, pairs-gather, pairs-append, pairs-one}
 use Rattle.lists.proofs.CollectLaws.{collect, collect-append, collect-pairs, collect-only}
-use Rattle.rules.specs.Limits.{holdDays}
+use Rattle.records.specs.Limits.{holdDays}
 use Rattle.rules.specs.Schedule.{Schedule, stageFee}
-use Rattle.replay.specs.Entries.{Entry, Fee, noEntry, entryNo, newEntry, withToll, withHold, withTicks, withOpenDays, coverWhole, isMoney, feeOf, moneyIn, moneyOut, settleAllEntries}
+use Rattle.replay.specs.Entries.{Entry, KindFee, noEntry, entryNo, newEntry, withToll, withHold, withTicks, withOpenDays, coverWhole, isMoney, feeOf, moneyIn, moneyOut, settleAllEntries}
 use Rattle.replay.specs.Replay.{noNote, noteNo, Replay, gains, countTick, countDay, reaches, addFee, addFees, closing, addRefund, useMoney, closeAll, tickReplay}
 use Rattle.replay.proofs.Growing.{number-at}
 use Rattle.replay.proofs.EntryLaws.{count-open}
@@ -28,7 +28,7 @@ use Rattle.replay.proofs.ReplaySteps.{feeShare, Steady, steady-then, St
 
 module _ (s : Schedule) (today n : ℕ) (x : Entry) where
   abbrev fee : ℕ → Entry
-  fee k = withToll n (newEntry Fee (x .account) today (stageFee s k))
+  fee k = withToll n (newEntry KindFee (x .account) today (stageFee s k))
 
   -- what they add to the fees of toll m
   fee-share : (m k : ℕ) (v : Bool) → collect (feeShare m) (one v (fee k)) ≡ one {A = ℕ × ℕ} (v && eqb n m) (stageFee s k, today)

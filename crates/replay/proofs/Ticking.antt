@@ -14,17 +14,17 @@ use Rattle.lists.specs.Lists.{one, gather}
 use Rattle.lists.proofs.TestLaws.{cond-either}
 use Rattle.lists.proofs.ListLaws.{append-at}
 use Rattle.lists.proofs.PairLaws.{Pairs, none, pairs-in, pairs-length, pairs-map-in, pairs-map-self, pairs-gather, pairs-one, pairs-change-left}
-use Rattle.rules.specs.Rows.{Row, Fee, Refund, blank, newRow, source, settleWhole, remaining}
+use Rattle.rules.specs.Rows.{Row, KindFee, KindRefund, blank, newRow, source, settleWhole, remaining}
 use Rattle.rules.specs.Settlement.{money}
 use Rattle.rules.specs.Book.{Account, unused, Instruction, Book, settled, account}
 use Rattle.rules.specs.Tick.{nextDay, endHolds, beforeRaising, rises, feeRow, raiseTolls, closes, closeIf, refundRow, useUp, closeAccounts, tick}
 use Rattle.rules.specs.Schedule.{stageFee}
-use Rattle.rules.proofs.SoundnessLaws.{Sound}
+use Rattle.rules.specs.SoundFacts.{Sound}
 use Rattle.preservation.proofs.TickSteps.{raise-keeps}
 use Rattle.replay.specs.Entries.{Entry, noEntry, newEntry, withCovered, coverWhole, isMoney, moneyIn, moneyOut}
 use Rattle.replay.specs.Replay.{Note, noNote, Replay, noteNo, closing, addRefund, useMoney, closeAll, tickReplay}
 use Rattle.replay.specs.Demand3.{tollNamed}
-use Rattle.replay.proofs.Relation.{Match, Named, Noted, Rows, Alike, track-other}
+use Rattle.replay.proofs.Relation.{Match, Named, Noted, Rows, Agrees, counts-other}
 use Rattle.replay.proofs.Growing.{Referring, Kept, SameToll, grow}
 use Rattle.replay.proofs.RowEvents.{whole-match}
 use Rattle.replay.proofs.Idle.{money-least}
@@ -36,7 +36,7 @@ use Rattle.replay.proofs.Closing.{raisedEntries, closesNow, closingNow,
 
 module _ (today L : ℕ) (r : Row) (y : Entry) (m : Match 0 today L r y) (v w : Bool) where
   source-same : isMoney y ≡ source r
-  source-same = rw (m .face .kind)
+  source-same = rw (m .line .kind)
 
   use-same : v ≡ w → Match 0 today L (cond (source r && v) (settleWhole r) r) (cond (isMoney y && w) (coverWhole y) y)
   use-same e = rw (source-same, e) (go (source r && w))
@@ -52,7 +52,7 @@ module _ (today L : ℕ) (r : Row) (y : Entry) (m : Match 0 today L r y) (v w : 
       go : (s : Bool) → source r ≡ s → Match 0 today L (cond (s && false) (settleWhole r) r) (cond (s && w) (coverWhole y) y)
       go false q = m
       go true q =
-          let z : y .amount ≡ y .covered = sym (m .face .amount) ∙ sym (f q) ∙ m .face .settled in
+          let z : y .amount ≡ y .covered = sym (m .line .amount) ∙ sym (f q) ∙ m .line .settled in
           let c : y ≡ coverWhole y = ap {B = Entry} (λ (n : ℕ). withCovered n y) (sym z) in
           cond-either (λ (u : Entry). Match 0 today L r u) w (coverWhole y) y (subst (λ (u : Entry). Match 0 today L r u) c m) m
 
@@ -77,7 +77,7 @@ module _ (S : Row → Entry → Type 0) (f : ℕ → Row) (g : ℕ → Entry) wh
 
 -- ---- the tick
 
-module _ (b : Book) (p : Replay) (sound : Sound b) (a : Alike b p) where
+module _ (b : Book) (p : Replay) (sound : Sound b) (a : Agrees b p) where
   abbrev bookNow : Book
   bookNow = raiseTolls (beforeRaising b)
 
@@ -130,7 +130,7 @@ module _ (b : Book) (p : Replay) (sound : Sound b) (a : Alike b p) where
       (λ k h. let f = pairs-in blank blank fresh-fees k h in omega (arith, f .settled)))
 
   afterRaising-referring : Referring rowsNow
-  afterRaising-referring = rw afterRaising-is (append-at (λ k r. r .kind is Fee ≡ true → r .reference ≤ k) (raised b p sound a) (fees b p sound a) blank
+  afterRaising-referring = rw afterRaising-is (append-at (λ k r. r .kind is KindFee ≡ true → r .reference ≤ k) (raised b p sound a) (fees b p sound a) blank
       (λ k h. rw (raise-at b p sound a k, raise-keeps (λ q. q .kind) (λ q v w. refl) (b .schedule) today (getD unraisedRows k blank), raise-keeps (λ q. q .reference) (λ q v w. refl) (b .schedule) today (getD unraisedRows k blank))
       (unraised-referring b p sound a k (rw length-raised at h)))
       (λ k h e. let f = pairs-in blank blank fresh-fees k h in omega (arith, f .reference, length-raised)))
@@ -155,13 +155,13 @@ module _ (b : Book) (p : Replay) (sound : Sound b) (a : Alike b p) where
       v = closes bookNow (r .account) (account bookNow (r .account))
 
       at-entry : v ≡ closesNow b p sound a y-account
-      at-entry = closes-at (m .face .account)
+      at-entry = closes-at (m .line .account)
 
       by : Judged b p sound a y-account → Match 0 today stage (cond (source r && v) (settleWhole r) r) (cond (isMoney y && closingNow b p sound a y-account) (coverWhole y) y)
       by (same t f) = use-same today stage r y m v (closingNow b p sound a y-account) (at-entry ∙ t)
       by (idle t z i) =
           use-idle today stage r y m v (closingNow b p sound a y-account) (at-entry ∙ t)
-          (λ e. let l : remaining r ≤ 0 = omega (arith, money-least rowsNow y-account k h (m .face .account) e) in omega (arith, afterRaising-fits k h))
+          (λ e. let l : remaining r ≤ 0 = omega (arith, money-least rowsNow y-account k h (m .line .account) e) in omega (arith, afterRaising-fits k h))
 
   -- ---- refunds
 
@@ -177,14 +177,14 @@ module _ (b : Book) (p : Replay) (sound : Sound b) (a : Alike b p) where
       S r y = Named (Match 0 today stage) rows r y
 
       f : ℕ → Row
-      f m = settleWhole (newRow Refund c (bookNow .day) m)
+      f m = settleWhole (newRow KindRefund c (bookNow .day) m)
 
       g : ℕ → Entry
-      g m = coverWhole (newEntry Refund c today m)
+      g m = coverWhole (newEntry KindRefund c today m)
 
       pair : (m : ℕ) → S (f m) (g m)
       pair m = record {
-        is = record { face = record { kind = refl; account = refl; day = afterRaising-day; amount = refl; settled = refl; hold = refl }; track = track-other 0 today stage _ _ refl (λ q. refl) };
+        is = record { line = record { kind = refl; account = refl; day = afterRaising-day; amount = refl; settled = refl; hold = refl }; counts = counts-other 0 today stage _ _ refl (λ q. refl) };
         toll = refl;
       }
 
@@ -216,9 +216,9 @@ module _ (b : Book) (p : Replay) (sound : Sound b) (a : Alike b p) where
       (pairs-map-in (useUp bookNow) (useMoney today (p .notes) entriesNow) blank noEntry (rows b p sound a) (λ k h m. use-match k h (m .is)))
       _ _ (pairs-gather (refundRow bookNow) (addRefund today entriesNow) unused noNote 1 (b .accounts) (p .notes) (pairs-length (a .notes)) (refund-pairs _))
 
-  pub tick-alike : (e : Instruction) → Alike (tick b e) (tickReplay p e)
+  pub tick-agrees : (e : Instruction) → Agrees (tick b e) (tickReplay p e)
   unfolding tick closeAccounts raiseTolls beforeRaising settled endHolds nextDay tickReplay closeAll
-  tick-alike e = record {
+  tick-agrees e = record {
     day = ap (λ (n : ℕ). n + 1) (a .day);
     schedule = a .schedule;
     rows = rw (← (a .day)) (rw (← (a .day)) at close-rows);

@@ -5,12 +5,13 @@ use Prim.Native.Nat.{ℕ, _*_, _/_, min}
 use mathlib.Core.List.{List, [], _∷_, _++_, map}
 use lib.Dec.{leb, ltb}
 use lib.IntN.{ℤ}
+use Rattle.records.specs.Codes.{LastStage}
 use Rattle.records.specs.Layout.{firstDayPlace, openingSchedule}
 use Rattle.records.specs.Encoding.{word, instructionOf, instructionFrom}
 use Rattle.lists.specs.Tests.{_is_, first}
 use Rattle.lists.specs.Lists.{one, gather, gatherFrom}
 use Rattle.rules.specs.Schedule.{Schedule}
-use Rattle.rules.specs.Rows.{Row, Toll, Fee, rowNo, heldToll, feeNaming}
+use Rattle.rules.specs.Rows.{Row, KindToll, KindFee, rowNo, heldToll, feeNaming}
 use Rattle.rules.specs.Book.{Instruction, Book, row, balance}
 use Rattle.rules.specs.Refusals.{answerNumber}
 use Rattle.rules.specs.Posting.{post}
@@ -77,11 +78,11 @@ lineOfEntry x = record { kind = x .kind; account = x .account; day = x .day; amo
 
 -- the toll that a fee row names, 0 for any other row
 unfoldable pub tollNamed : List Row → Row → ℕ
-tollNamed rows r = cond (r .kind is Fee && rowNo rows (r .reference) .kind is Toll) (r .reference) 0
+tollNamed rows r = cond (r .kind is KindFee && rowNo rows (r .reference) .kind is KindToll) (r .reference) 0
 
 -- "Stage = the lesser of 4 and the whole part of open days ÷ L"
 unfoldable pub stageOf : ℕ → Entry → ℕ
-stageOf L x = min 4 (x .open-days / L)
+stageOf L x = min LastStage (x .open-days / L)
 
 -- the day of the first tick, after the beginning, at which entry n had k × L open days
 unfoldable pub dayReached : ℕ → ℕ → Replay → List Report → ℕ
@@ -109,8 +110,8 @@ pub record Demand3 (b : Book) (start : Replay) (hs : List Report) (xs : List Ent
       → isDebt (entryNo xs j) && not (coveredWhole (entryNo xs j)) && not (onHold xs (entryNo xs j)) ≡ true
       → entryNo xs i .account ≡ entryNo xs j .account → ⊥
   -- each toll's stage and fees follow from its open days
-  pub stages : (n : ℕ) → row b n .kind ≡ Toll → row b n .mark ≡ stageOf (start .schedule .stage) (entryNo xs n)
-  pub fees : (n : ℕ) → row b n .kind ≡ Toll
+  pub stages : (n : ℕ) → row b n .kind ≡ KindToll → row b n .mark ≡ stageOf (start .schedule .stage) (entryNo xs n)
+  pub fees : (n : ℕ) → row b n .kind ≡ KindToll
       → feesNaming n (b .rows) ≡ stageFees (start .schedule) (row b n .mark) (λ k. dayReached n k start hs)
   -- the rows are the entries, the same tolls are held, and each fee names the toll of its entry
   pub lines : map lineOfRow (b .rows) ≡ map lineOfEntry xs

@@ -5,7 +5,7 @@ use mathlib.Core.List.{List, [], _∷_}
 use lib.ListN.{getD}
 use lib.Dec.{ltb}
 use lib.IntN.{ℤ, pos, _+ℤ_, _-ℤ_}
-pub use Rattle.records.specs.Codes.{Toll, Fee, Reversal, Payment, Credit, Refund}
+pub use Rattle.records.specs.Codes.{KindToll, KindFee, KindReversal, KindPayment, KindCredit, KindRefund}
 use Rattle.lists.specs.Tests.{_is_}
 use Rattle.lists.specs.Lists.{sumBy}
 
@@ -56,15 +56,15 @@ EntryTest = Entry → Bool
 
 -- payments and credits
 abbrev pub isMoney : EntryTest
-isMoney x = x .kind is Payment || x .kind is Credit
+isMoney x = x .kind is KindPayment || x .kind is KindCredit
 
 -- tolls, fees, reversals and refunds
 abbrev pub isDebt : EntryTest
-isDebt x = x .kind is Toll || x .kind is Fee || x .kind is Reversal || x .kind is Refund
+isDebt x = x .kind is KindToll || x .kind is KindFee || x .kind is KindReversal || x .kind is KindRefund
 
 -- a toll
 abbrev pub isToll : EntryTest
-isToll x = x .kind is Toll
+isToll x = x .kind is KindToll
 
 -- what is not yet covered; of money, what is unused
 abbrev pub uncovered : Entry → ℕ
@@ -80,11 +80,11 @@ coverWhole x = withCovered (x .amount) x
 
 -- a fee of toll n
 unfoldable pub feeOf : ℕ → EntryTest
-feeOf n x = x .kind is Fee && x .toll is n
+feeOf n x = x .kind is KindFee && x .toll is n
 
 -- "5 holds the toll and its fees": a fee is held while its toll is
 unfoldable pub onHold : List Entry → EntryTest
-onHold xs x = x .hold || x .kind is Fee && entryNo xs (x .toll) .hold
+onHold xs x = x .hold || x .kind is KindFee && entryNo xs (x .toll) .hold
 
 -- ---- "Each sum adds the amounts of the account's entries of its kind"
 
@@ -92,22 +92,22 @@ unfoldable pub sumOf : ℕ → ℕ → List Entry → ℕ
 sumOf kind a xs = sumBy (λ x. cond (x .kind is kind && x .account is a) (x .amount) 0) xs
 
 abbrev pub payments : ℕ → List Entry → ℕ
-payments a xs = sumOf Payment a xs
+payments a xs = sumOf KindPayment a xs
 
 abbrev pub credits : ℕ → List Entry → ℕ
-credits a xs = sumOf Credit a xs
+credits a xs = sumOf KindCredit a xs
 
 abbrev pub tolls : ℕ → List Entry → ℕ
-tolls a xs = sumOf Toll a xs
+tolls a xs = sumOf KindToll a xs
 
 abbrev pub fees : ℕ → List Entry → ℕ
-fees a xs = sumOf Fee a xs
+fees a xs = sumOf KindFee a xs
 
 abbrev pub reversals : ℕ → List Entry → ℕ
-reversals a xs = sumOf Reversal a xs
+reversals a xs = sumOf KindReversal a xs
 
 abbrev pub refunds : ℕ → List Entry → ℕ
-refunds a xs = sumOf Refund a xs
+refunds a xs = sumOf KindRefund a xs
 
 -- demand 3's formula: payments + credits - tolls - fees - reversals - refunds
 unfoldable pub balanceOf : ℕ → List Entry → ℤ

@@ -8,9 +8,9 @@ use Rattle.records.specs.Codes.{Yes}
 use Rattle.records.specs.declared.Instruction.{Instruction}
 use Rattle.lists.specs.Tests.{_is_}
 use Rattle.lists.specs.Lists.{sumBy, only, exists, one, gather}
-use Rattle.rules.specs.Limits.{returnFee, holdDays, closingDays}
+use Rattle.records.specs.Limits.{returnFee, holdDays, closingDays}
 use Rattle.rules.specs.Schedule.{Schedule, class, rate, stageFee}
-use Rattle.replay.specs.Entries.{Entry, EntryTest, Toll, Fee, Reversal, Payment, Credit, Refund, newEntry, withCovered, withHold, withTicks, withOpenDays, withToll, entryNo, isMoney, isToll, uncovered, coveredWhole, coverWhole, feeOf, moneyIn, moneyOut, settleAllEntries}
+use Rattle.replay.specs.Entries.{Entry, EntryTest, KindToll, KindFee, KindReversal, KindPayment, KindCredit, KindRefund, newEntry, withCovered, withHold, withTicks, withOpenDays, withToll, entryNo, isMoney, isToll, uncovered, coveredWhole, coverWhole, feeOf, moneyIn, moneyOut, settleAllEntries}
 
 -- "per account the top-up amount and request day"
 pub record Note : Type 0 where
@@ -59,8 +59,8 @@ Step = Replay → Instruction → Replay
 -- ---- "1 notes b, 8 the request day"
 
 -- "1 notes b"
-unfoldable pub noteTopUp : Step
-noteTopUp p e = putNote (e .account) (record { topup = e .b; request = noteNo (p .notes) (e .account) .request }) p
+unfoldable pub noteTopup : Step
+noteTopup p e = putNote (e .account) (record { topup = e .b; request = noteNo (p .notes) (e .account) .request }) p
 
 -- "8 the request day"
 unfoldable pub noteRequest : Step
@@ -70,23 +70,23 @@ noteRequest p e = putNote (e .account) (record { topup = noteNo (p .notes) (e .a
 
 -- "2 adds a toll at its rate"
 unfoldable pub addToll : Step
-addToll p e = addEntry (newEntry Toll (e .account) (p .day) (rate (p .schedule .rates) (class (e .c) (e .d)) (e .e))) p
+addToll p e = addEntry (newEntry KindToll (e .account) (p .day) (rate (p .schedule .rates) (class (e .c) (e .d)) (e .e))) p
 
 -- "3 a payment of a"
 unfoldable pub addPayment : Step
-addPayment p e = addEntry (newEntry Payment (e .account) (p .day) (e .a)) p
+addPayment p e = addEntry (newEntry KindPayment (e .account) (p .day) (e .a)) p
 
 -- "7 if paid one of the noted b"
-unfoldable pub addTopUp : Step
-addTopUp p e = cond (e .b is Yes) (addEntry (newEntry Payment (e .account) (p .day) (noteNo (p .notes) (e .account) .topup)) p) p
+unfoldable pub addTopup : Step
+addTopup p e = cond (e .b is Yes) (addEntry (newEntry KindPayment (e .account) (p .day) (noteNo (p .notes) (e .account) .topup)) p) p
 
 -- ---- "4 adds a reversal of the payment's amount, then a fee of charge + 500"
 
 -- "a reversal of the payment's amount, then a fee of charge + 500"
 unfoldable pub addReturn : Step
 addReturn p e =
-    addEntry (newEntry Fee (e .account) (p .day) (e .b + returnFee))
-    (addEntry (newEntry Reversal (e .account) (p .day) (entryNo (p .entries) (e .a) .amount)) p)
+    addEntry (newEntry KindFee (e .account) (p .day) (e .b + returnFee))
+    (addEntry (newEntry KindReversal (e .account) (p .day) (entryNo (p .entries) (e .a) .amount)) p)
 
 -- ---- "5 holds the toll and its fees, 6 frees them"
 
@@ -101,7 +101,7 @@ tollAndFees n f xs = f (entryNo xs n) + sumBy (only (feeOf n) f) xs
 -- "Verdict 1 adds a credit of their amounts, which first covers what is uncovered of exactly these"
 unfoldable pub addCredit : Step
 addCredit p e =
-    addEntry (withCovered (tollAndFees (e .a) uncovered (p .entries)) (newEntry Credit (e .account) (p .day) (tollAndFees (e .a) (λ x. x .amount) (p .entries))))
+    addEntry (withCovered (tollAndFees (e .a) uncovered (p .entries)) (newEntry KindCredit (e .account) (p .day) (tollAndFees (e .a) (λ x. x .amount) (p .entries))))
     (withEntries (map (λ x. cond (feeOf (e .a) x) (coverWhole x) x) (set (p .entries) (e .a - 1) (coverWhole (entryNo (p .entries) (e .a))))) p)
 
 -- event 6: frees the toll; an upheld one is credited
@@ -128,7 +128,7 @@ reaches L k x = gains x && x .open-days + 1 is k * L
 
 -- "adds fee k if not 0": n is the toll's number
 unfoldable pub addFee : Schedule → ℕ → ℕ → Entry → ℕ → List Entry
-addFee s today n x k = one (reaches (s .stage) k x && ltb 0 (stageFee s k)) (withToll n (newEntry Fee (x .account) today (stageFee s k)))
+addFee s today n x k = one (reaches (s .stage) k x && ltb 0 (stageFee s k)) (withToll n (newEntry KindFee (x .account) today (stageFee s k)))
 
 -- "k 2 to 4"
 unfoldable pub addFees : Schedule → ℕ → ℕ → Entry → List Entry
@@ -144,7 +144,7 @@ closing today xs a x =
 -- "that balance, if not 0, is added as a refund covered whole"
 unfoldable pub addRefund : ℕ → List Entry → ℕ → Note → List Entry
 addRefund today xs a x =
-    one (closing today xs a x && ltb (moneyOut a xs) (moneyIn a xs)) (coverWhole (newEntry Refund a today (moneyIn a xs - moneyOut a xs)))
+    one (closing today xs a x && ltb (moneyOut a xs) (moneyIn a xs)) (coverWhole (newEntry KindRefund a today (moneyIn a xs - moneyOut a xs)))
 
 -- "all its money used"
 unfoldable pub useMoney : ℕ → List Note → List Entry → Entry → Entry
@@ -170,7 +170,7 @@ noStep p e = p
 -- the nine events by their kind
 unfoldable pub stepOf : ℕ → Step
 stepOf k =
-    getD (noStep ∷ noteTopUp ∷ addToll ∷ addPayment ∷ addReturn ∷ setHold true ∷ freeToll ∷ addTopUp ∷ noteRequest ∷ tickReplay ∷ []) k noStep
+    getD (noStep ∷ noteTopup ∷ addToll ∷ addPayment ∷ addReturn ∷ setHold true ∷ freeToll ∷ addTopup ∷ noteRequest ∷ tickReplay ∷ []) k noStep
 
 -- what a replay is fed: an event, and whether it is accepted
 pub record Report : Type 0 where

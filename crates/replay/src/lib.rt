@@ -1,2 +1,2 @@
-// The replay of document 01, "What demand 3 counts", and demand 3 as one statement over any list of calls. No code: definitions in specs/,
-// laws and a worked example in proofs/. Uses lists, records, rules and preservation.
+// The replay of document 01, "What demand 3 counts", and demand 3 as one statement over any list of calls. No code: definitions in
+// specs/, laws and a worked example in proofs/.

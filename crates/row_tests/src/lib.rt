@@ -1,13 +1,13 @@
-// Tests on a row as a value: what remains of it, whether it is a source, a debit, held. Uses records, rules, tables and table_rows.
+// Tests on a row as a value: what remains of it, whether it is a source, a debit, held.
 use records::Row;
+use records::codes::DISPUTE_HELD;
+use records::codes::KIND_CREDIT;
+use records::codes::KIND_FEE;
+use records::codes::KIND_PAYMENT;
+use records::codes::KIND_REFUND;
+use records::codes::KIND_REVERSAL;
+use records::codes::KIND_TOLL;
 use table_rows::row_numbered;
-use tables::codes::CREDIT;
-use tables::codes::FEE;
-use tables::codes::HELD;
-use tables::codes::PAYMENT;
-use tables::codes::REFUND;
-use tables::codes::REVERSAL;
-use tables::codes::TOLL;
 ghost use mathlib.Core.Path.{_≡_};
 ghost use Prim.Native.Nat.{_*_, _≤_};
 ghost use lib.ListN.{length};
@@ -30,21 +30,24 @@ pub fn remaining_of(r: Row) -> u64
 pub fn is_source(r: Row) -> bool
     ensures { λ b. ⌜ b ≡ source r ⌝ }
 {
-    (r.kind == PAYMENT) | (r.kind == CREDIT)
+    (r.kind == KIND_PAYMENT) | (r.kind == KIND_CREDIT)
 }
 
 // A toll, a fee, a reversal or a refund.
 pub fn is_debit(r: Row) -> bool
     ensures { λ b. ⌜ b ≡ debit r ⌝ }
 {
-    (r.kind == TOLL) | (r.kind == FEE) | (r.kind == REVERSAL) | (r.kind == REFUND)
+    (r.kind == KIND_TOLL)
+        | (r.kind == KIND_FEE)
+        | (r.kind == KIND_REVERSAL)
+        | (r.kind == KIND_REFUND)
 }
 
 // A toll in dispute.
 pub fn held_toll(r: Row) -> bool
     ensures { λ b. ⌜ b ≡ heldToll r ⌝ }
 {
-    (r.kind == TOLL) & (r.dispute == HELD)
+    (r.kind == KIND_TOLL) & (r.dispute == DISPUTE_HELD)
 }
 
 // A toll in dispute, or a fee whose toll is: a fee is held while its toll is held.
@@ -52,7 +55,7 @@ pub fn is_held(journal: &[i64], used: usize, r: Row) -> bool
     requires { ⌜ used * rowWidth ≤ length (now journal) ⌝ }
     ensures { λ b. ⌜ b ≡ held (rowsOf (now (journal .entry)) used) r ⌝ }
 {
-    if r.kind == FEE {
+    if r.kind == KIND_FEE {
         return held_toll(row_numbered(journal, used, r.reference));
     }
     held_toll(r)

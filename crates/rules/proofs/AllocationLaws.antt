@@ -143,7 +143,7 @@ unfolding allocate
 length-allocate t p [] = refl
 length-allocate t p (r ∷ rs) = ap suc (length-allocate t (p - only t remaining r) rs)
 
--- what row i takes: the less of what remains of it and what the rows before it leave
+-- what row i takes: the minus of what remains of it and what the rows before it leave
 unfoldable pub share : Test → ℕ → List Row → ℕ → ℕ
 share t p rows i = min (only t remaining (getD rows i blank)) (p - sumBy (only t remaining) (take i rows))
 

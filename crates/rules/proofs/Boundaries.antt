@@ -55,15 +55,15 @@ threeReturns =
     openOne ∷ pay 100 3 ∷ bouncing 1 ∷ pay 100 3 ∷ bouncing 4 ∷ pay 100 3 ∷ bouncing 7 ∷ pay 100 3 ∷ pay 100 2 ∷ bouncing 1 ∷ []
 
 -- a top-up of 2,000 at 100 or less
-abbrev openTopUp : Instruction
-openTopUp = event 1 1 100 2000 0 0 0
+abbrev openTopup : Instruction
+openTopup = event 1 1 100 2000 0 0 0
 
 abbrev result : ℕ → Instruction
 result paid = event 7 1 0 paid 0 0 0
 
 -- declined on three days
 abbrev threeDeclines : List Instruction
-threeDeclines = openTopUp ∷ result 0 ∷ result 0 ∷ ticks 1 ++ result 0 ∷ ticks 1 ++ result 0 ∷ []
+threeDeclines = openTopup ∷ result 0 ∷ result 0 ∷ ticks 1 ++ result 0 ∷ ticks 1 ++ result 0 ∷ []
 
 abbrev closing : List Instruction → Book
 closing es = from 1 (openOne ∷ pay 700 1 ∷ es ++ event 8 1 0 0 0 0 0 ∷ ticks 15)
@@ -79,8 +79,8 @@ cases =
     -- a returned check owes the amount and 500 more: 300 paid, 300 reversed, 1,500 in fees, 100 in cash
     ∷ (balance (from 1 threeReturns) 1 amounts-to negsuc 1399)
     -- due at the threshold, not above it
-    ∷ (numbers (small 1) (openTopUp ∷ pay 101 2 ∷ result 1 ∷ []) gives 0 ∷ 0 ∷ 11 ∷ [])
-    ∷ (numbers (small 1) (openTopUp ∷ pay 100 2 ∷ result 1 ∷ result 1 ∷ []) gives 0 ∷ 0 ∷ 0 ∷ 11 ∷ [])
+    ∷ (numbers (small 1) (openTopup ∷ pay 101 2 ∷ result 1 ∷ []) gives 0 ∷ 0 ∷ 11 ∷ [])
+    ∷ (numbers (small 1) (openTopup ∷ pay 100 2 ∷ result 1 ∷ result 1 ∷ []) gives 0 ∷ 0 ∷ 0 ∷ 11 ∷ [])
     -- one result a day after a decline; the third removes the top-up
     ∷ (numbers (small 1) threeDeclines gives 0 ∷ 0 ∷ 11 ∷ 0 ∷ 0 ∷ 0 ∷ 0 ∷ [])
     ∷ (map (λ a. a .removed) (answersTo (small 1) threeDeclines) gives 0 ∷ 0 ∷ 0 ∷ 0 ∷ 0 ∷ 0 ∷ 1 ∷ [])

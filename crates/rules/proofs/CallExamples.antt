@@ -5,7 +5,7 @@ use mathlib.Core.List.{List, [], _∷_, map}
 use lib.ListN.{length, replicate, set}
 use lib.IntN.{ℤ, pos, negsuc}
 use Rattle.rules.specs.Tables.{Tables}
-use Rattle.rules.specs.Calls.{Event, openCall, eventCall, batchCall, balanceCall, topUpDueCall, rowCall}
+use Rattle.rules.specs.Calls.{Event, openCall, eventCall, batchCall, balanceCall, topupDueCall, rowCall}
 use Rattle.rules.proofs.Computing.{computing}
 use Rattle.rules.proofs.Examples.{Case, _gives_, _amounts-to_}
 
@@ -69,7 +69,7 @@ cases =
     ∷ batchCall lent [] [] .number ∷ [] gives 0 ∷ 2 ∷ 0 ∷ 1 ∷ [])
     -- questions: 1, 3 for an unused account and for a number outside the table, 0
     ∷ (balanceCall lent (pos 1) .number ∷ balanceCall posted (pos 2) .number ∷ balanceCall posted (pos 3) .number
-    ∷ balanceCall posted (negsuc 0) .number ∷ balanceCall posted (pos 1) .number ∷ topUpDueCall posted (pos 1) .number ∷ []
+    ∷ balanceCall posted (negsuc 0) .number ∷ balanceCall posted (pos 1) .number ∷ topupDueCall posted (pos 1) .number ∷ []
     gives 1 ∷ 3 ∷ 3 ∷ 3 ∷ 0 ∷ 0 ∷ [])
     ∷ (balanceCall posted (pos 1) .value amounts-to pos 700)
     ∷ (balanceCall damaged (pos 1) .value amounts-to pos 0)

@@ -17,13 +17,13 @@ use Rattle.rules.specs.Schedule.{Schedule, scheduleFits}
 use Rattle.rules.specs.Settlement.{money, debt, used, paid, owed}
 use Rattle.rules.specs.Book.{unused}
 use Rattle.rules.specs.Opening.{opening, dayFits, sizesFit}
-use Rattle.rules.specs.Soundness.{sound, accountSound, stateFits, unusedZero, requestFits, topUpFits, declineFits, returnedFits, returnedOf, even, spent, closedClear}
+use Rattle.rules.specs.Soundness.{sound, accountSound, stateFits, unusedZero, requestFits, topupFits, declineFits, returnedFits, returnedOf, usedIsPaid, noIdleMoney, closedClear}
 use Rattle.rules.specs.Tables.{Tables, accountsIn, roomIn, scheduleFrom, bookOf, tablesOf, wholeRecords, lengthsFit, soundTables}
-use Rattle.rules.specs.Calls.{openRefusals, openedBook, openCall}
+use Rattle.rules.specs.Calls.{openingRefusals, openedBook, openCall}
 use Rattle.rules.proofs.TableLaws.{bookOf-tablesOf, soundTables-tablesOf}
 
 unused-sound : (day : ℕ) (s : Schedule) (accounts room n : ℕ) → accountSound (opening day s accounts room) n unused ≡ true
-unfolding opening accountSound allOf stateFits unusedZero requestFits topUpFits declineFits returnedFits returnedOf even spent owed closedClear count sumBy money debt used paid
+unfolding opening accountSound allOf stateFits unusedZero requestFits topupFits declineFits returnedFits returnedOf usedIsPaid noIdleMoney owed closedClear count sumBy money debt used paid
 unused-sound day s accounts room n = rw (le-leb 0 day (omega arith))
 
 pub opening-sound : (day : ℕ) (s : Schedule) (accounts room : ℕ) → dayFits day ≡ true → scheduleFits s ≡ true → sizesFit accounts room ≡ true
@@ -42,11 +42,11 @@ opening-sound day s accounts room d f n =
 -- ---- the call: where it gives 0, its tables are those of the opened book, and sound
 
 module _ (t : Tables) (w : List ℤ) (e : openCall t w .number ≡ 0) where
-  refusals-fail : (k : ℕ) → getD (openRefusals t w) k (1, false) .1 ≡ false
-  unfolding openCall openRefusals
-  refusals-fail = first-fails (openRefusals t w) (λ k h. positive k) e
+  refusals-fail : (k : ℕ) → getD (openingRefusals t w) k (1, false) .1 ≡ false
+  unfolding openCall openingRefusals
+  refusals-fail = first-fails (openingRefusals t w) (λ k h. positive k) e
     where
-      positive : (k : ℕ) → 0 < getD (openRefusals t w) k (1, false) .0
+      positive : (k : ℕ) → 0 < getD (openingRefusals t w) k (1, false) .0
       positive zero = omega arith
       positive (suc zero) = omega arith
       positive (suc (suc k)) = omega arith
@@ -61,11 +61,11 @@ module _ (t : Tables) (w : List ℤ) (e : openCall t w .number ≡ 0) where
   schedule-part = scheduleFits (scheduleFrom w openingSchedule)
 
   lengths-fit : lengthsFit t ≡ true
-  unfolding openRefusals
+  unfolding openingRefusals
   lengths-fit = not-false (lengthsFit t) (refusals-fail 0)
 
   words-fit : width-part && day-part && schedule-part ≡ true
-  unfolding openRefusals
+  unfolding openingRefusals
   words-fit = not-false (width-part && day-part && schedule-part) (refusals-fail 1)
 
   pub openedBook-sound : sound (openedBook t w) ≡ true
@@ -78,7 +78,7 @@ module _ (t : Tables) (w : List ℤ) (e : openCall t w .number ≡ 0) where
 
   pub openCall-tables : openCall t w .tables ≡ tablesOf (openedBook t w)
   unfolding openCall
-  openCall-tables = rw (eq-eqb (first (openRefusals t w)) 0 e)
+  openCall-tables = rw (eq-eqb (first (openingRefusals t w)) 0 e)
 
   pub openCall-sound : soundTables (openCall t w .tables) ≡ true
   openCall-sound = rw openCall-tables (soundTables-tablesOf (openedBook t w) openedBook-sound)

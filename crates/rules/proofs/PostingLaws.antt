@@ -12,8 +12,8 @@ use Rattle.rules.specs.Book.{Instruction, Answer, Book}
 use Rattle.rules.specs.Refusals.{answerNumber, after}
 use Rattle.rules.specs.Posting.{acceptance, refusalBy, Posted, post, bookAfter, answersTo}
 use Rattle.rules.specs.Tables.{Tables, bookOf, soundTables}
-use Rattle.rules.specs.Calls.{Event, openRefusals, openCall, eventRefusals, eventCall, answered, batchRefusals, batchCall}
-use Rattle.rules.specs.Limits.{mostEvents}
+use Rattle.rules.specs.Calls.{Event, openingRefusals, openCall, eventRefusals, eventCall, answered, batchRefusals, batchCall}
+use Rattle.records.specs.Limits.{mostEvents}
 use Rattle.records.specs.Encoding.{instructionFrom}
 use Rattle.records.specs.Layout.{answerWidth}
 
@@ -90,7 +90,7 @@ pub batchCall-runs : (t : Tables) (es : List Event) (answers : List ℤ) → sou
 unfolding batchRefusals first
 batchCall-runs t es answers s m a = rw (s, le-ltb mostEvents (length es) m, le-ltb (length answers) (length es * answerWidth) a)
 
-pub openCall-refused : (t : Tables) (w : List ℤ) → eqb (first (openRefusals t w)) 0 ≡ false
-    → openCall t w ≡ record { number = first (openRefusals t w); tables = t; answers = [] }
+pub openCall-refused : (t : Tables) (w : List ℤ) → eqb (first (openingRefusals t w)) 0 ≡ false
+    → openCall t w ≡ record { number = first (openingRefusals t w); tables = t; answers = [] }
 unfolding openCall
 openCall-refused t w q = rw q

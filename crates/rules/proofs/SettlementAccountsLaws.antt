@@ -14,7 +14,7 @@ use Rattle.lists.proofs.SumLaws.{sumBy-ext, sumBy-map}
 use Rattle.rules.specs.Rows.{Row, Test, blank, source, debit, held, heldToll, rowNo, remaining, sourceOf, debitOf, payable}
 use Rattle.rules.specs.Settlement.{allocate, money, debt, moved, pay, settle, settleAccounts, used, paid, owed}
 use Rattle.rules.proofs.AllocationLaws.{bare, Steady, Apart, other-allocate}
-use Rattle.rules.proofs.SettlementLaws.{payable-pay, money-settle, owed-settle, settle-spent, settle-same, settle-fair, settle-bare, settle-row, settle-held, length-settle}
+use Rattle.rules.proofs.SettlementLaws.{payable-pay, money-settle, owed-settle, settle-no-idle-money, settle-same, settle-fair, settle-bare, settle-row, settle-held, length-settle}
 
 -- ---- another account's sums stay
 
@@ -127,23 +127,23 @@ settleAccounts-held zero rows i h = refl
 settleAccounts-held (suc n) rows i h = let e = settleAccounts-held n rows i h in settle-held (suc n) (settleAccounts n rows) i (rw e h) ∙ e
 
 -- "used sources = settled debits"
-pub settleAccounts-even : (n : ℕ) (rows : List Row) (a : ℕ) → used a rows ≡ paid a rows → used a (settleAccounts n rows) ≡ paid a (settleAccounts n rows)
+pub settleAccounts-used-is-paid : (n : ℕ) (rows : List Row) (a : ℕ) → used a rows ≡ paid a rows → used a (settleAccounts n rows) ≡ paid a (settleAccounts n rows)
 unfolding settleAccounts
-settleAccounts-even zero rows a e = e
-settleAccounts-even (suc n) rows a e = go (ℕ-discrete (suc n) a) (settleAccounts-even n rows a e)
+settleAccounts-used-is-paid zero rows a e = e
+settleAccounts-used-is-paid (suc n) rows a e = go (ℕ-discrete (suc n) a) (settleAccounts-used-is-paid n rows a e)
   where
     go : Dec (suc n ≡ a) → used a (settleAccounts n rows) ≡ paid a (settleAccounts n rows) → used a (settle (suc n) (settleAccounts n rows)) ≡ paid a (settle (suc n) (settleAccounts n rows))
     go (yes q) ih = rw q (settle-fair a (settleAccounts n rows) ih)
     go (no q) ih = used-other (suc n) a q (settleAccounts n rows) ∙ ih ∙ sym (paid-other (suc n) a q (settleAccounts n rows))
 
 -- of each account one side is spent
-pub settleAccounts-spent : (n : ℕ) (rows : List Row) (k : ℕ) → k < n → moved (suc k) (settleAccounts n rows) ≡ 0
+pub settleAccounts-no-idle-money : (n : ℕ) (rows : List Row) (k : ℕ) → k < n → moved (suc k) (settleAccounts n rows) ≡ 0
 unfolding settleAccounts
-settleAccounts-spent zero rows k h = absurd (omega arith)
-settleAccounts-spent (suc n) rows k h = go (ℕ-discrete k n) (settleAccounts-spent n rows k)
+settleAccounts-no-idle-money zero rows k h = absurd (omega arith)
+settleAccounts-no-idle-money (suc n) rows k h = go (ℕ-discrete k n) (settleAccounts-no-idle-money n rows k)
   where
     go : Dec (k ≡ n) → (k < n → moved (suc k) (settleAccounts n rows) ≡ 0) → moved (suc k) (settle (suc n) (settleAccounts n rows)) ≡ 0
-    go (yes q) ih = rw q (settle-spent (suc n) (settleAccounts n rows))
+    go (yes q) ih = rw q (settle-no-idle-money (suc n) (settleAccounts n rows))
     go (no q) ih = moved-other (suc n) (suc k) (λ e. q (omega arith)) (settleAccounts n rows) ∙ ih (omega arith)
 
 -- where nothing can move in an account, settlement moves nothing in it and leaves its rows
@@ -153,7 +153,7 @@ settleAccounts-none a zero rows z = z
 settleAccounts-none a (suc n) rows z = go (ℕ-discrete a (suc n)) (settleAccounts-none a n rows z)
   where
     go : Dec (a ≡ suc n) → moved a (settleAccounts n rows) ≡ 0 → moved a (settle (suc n) (settleAccounts n rows)) ≡ 0
-    go (yes q) ih = rw q (settle-spent (suc n) (settleAccounts n rows))
+    go (yes q) ih = rw q (settle-no-idle-money (suc n) (settleAccounts n rows))
     go (no q) ih = moved-other (suc n) a (λ e. q (sym e)) (settleAccounts n rows) ∙ ih
 
 pub settleAccounts-still : (a n : ℕ) (rows : List Row) (i : ℕ) → getD rows i blank .account ≡ a → moved a rows ≡ 0

@@ -11,7 +11,7 @@ use borrow.Author.Tests.{eqb-true}
 use Rattle.lists.specs.Lists.{only}
 use Rattle.lists.proofs.SumLaws.{sumBy-at-le}
 use Rattle.lists.proofs.TestLaws.{and-left}
-use Rattle.rules.specs.Rows.{Row, Test, blank, source, debit, heldToll, rowNo, held, sourceOf, debitOf, payable, remaining, settleMore, Toll}
+use Rattle.rules.specs.Rows.{Row, Test, blank, source, debit, heldToll, rowNo, held, sourceOf, debitOf, payable, remaining, settleMore, KindToll}
 use Rattle.rules.specs.Settlement.{allocate, money, debt, moved, pay, settle, used, paid, owed}
 use Rattle.rules.proofs.AllocationLaws.{bare, Steady, Apart, Within, within-self, settleMore-zero, settleMore-settleMore, share, allocate-zero, allocate-allocate, allocate-comm, remaining-allocate, settled-allocate, other-allocate, map-allocate, length-allocate, allocate-at, apart-remaining, share-le, share-other}
 
@@ -133,9 +133,9 @@ unfolding settle
 payable-settle a b rows = payable-pay a b (moved a rows) rows
 
 -- "until either side is spent"
-pub settle-spent : (a : ℕ) (rows : List Row) → moved a (settle a rows) ≡ 0
+pub settle-no-idle-money : (a : ℕ) (rows : List Row) → moved a (settle a rows) ≡ 0
 unfolding settle
-settle-spent a rows = omega (arith, moved-pay a (moved a rows) rows)
+settle-no-idle-money a rows = omega (arith, moved-pay a (moved a rows) rows)
 
 -- the identity where there is nothing to move or to pay
 pub settle-same : (a : ℕ) (rows : List Row) → moved a rows ≡ 0 → settle a rows ≡ rows
@@ -143,7 +143,7 @@ unfolding settle
 settle-same a rows e = rw e (pay-zero a rows)
 
 pub settle-settle : (a : ℕ) (rows : List Row) → settle a (settle a rows) ≡ settle a rows
-settle-settle a rows = settle-same a (settle a rows) (settle-spent a rows)
+settle-settle a rows = settle-same a (settle a rows) (settle-no-idle-money a rows)
 
 -- row by row: if row i is a source of the account with money unused, no row j is a debit of it that is not held and is unsettled
 pub settle-not-both : (a : ℕ) (rows : List Row) (i j : ℕ)
@@ -153,7 +153,7 @@ unfolding moved money debt
 settle-not-both a rows i j hi p hj q =
     omega (
       arith,
-      settle-spent a rows,
+      settle-no-idle-money a rows,
       sumBy-at-le (only (sourceOf a) remaining) (settle a rows) i blank hi,
       sumBy-at-le (only (payable (settle a rows) a) remaining) (settle a rows) j blank hj,
     )
@@ -218,7 +218,7 @@ settle-row a rows i =
 pub held-source : (a : ℕ) (r : Row) → heldToll r ≡ true → only (sourceOf a) remaining r ≡ 0
 unfolding only sourceOf
 held-source a r e =
-    let k : r .kind ≡ Toll = eqb-true (r .kind) Toll (and-left (eqb (r .kind) Toll) _ e) in
+    let k : r .kind ≡ KindToll = eqb-true (r .kind) KindToll (and-left (eqb (r .kind) KindToll) _ e) in
     rw (k, and-false (eqb (r .account) a))
 
 pub held-payable : (rows : List Row) (a : ℕ) (r : Row) → heldToll r ≡ true → only (payable rows a) remaining r ≡ 0

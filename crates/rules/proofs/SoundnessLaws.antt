@@ -15,55 +15,8 @@ use Rattle.rules.specs.Schedule.{scheduleFits}
 use Rattle.rules.specs.Rows.{Row, blank}
 use Rattle.rules.specs.Book.{Account, unused, Book}
 use Rattle.rules.specs.Opening.{dayFits, sizesFit}
-use Rattle.rules.specs.Soundness.{kindFits, amountFits, settledFits, markFits, tollWordsFit, noReference, rowDayFits, dueWithin, holdFits, accountUsed, referenceFits, passageOnce, feesFit, rowSound, stateFits, unusedZero, requestFits, topUpFits, declineFits, returnedFits, even, spent, closedClear, accountSound, sound}
-
--- what does not look at the part settled
-pub record Shape (today : ℕ) (xs : List Account) (rows : List Row) (n : ℕ) (r : Row) : Type 0 where
-  pub kind : kindFits r ≡ true
-  pub amount : amountFits r ≡ true
-  pub mark : markFits r ≡ true
-  pub words : tollWordsFit r ≡ true
-  pub none : noReference r ≡ true
-  pub day : rowDayFits today r ≡ true
-  pub account : accountUsed xs r ≡ true
-  pub reference : referenceFits rows n r ≡ true
-  pub passage : passageOnce rows r ≡ true
-  pub fees : feesFit rows n r ≡ true
-
--- what does, of the row alone; open tolls are due after `past`: today in a sound book, yesterday in the middle of a tick
-pub record Live (past today L : ℕ) (r : Row) : Type 0 where
-  pub settled : settledFits r ≡ true
-  pub due : dueWithin past (today + L) r ≡ true
-  pub hold : holdFits today L r ≡ true
-
--- an account by itself
-pub record Standing (today : ℕ) (x : Account) : Type 0 where
-  pub state : stateFits x ≡ true
-  pub zero : unusedZero x ≡ true
-  pub request : requestFits today x ≡ true
-  pub topup : topUpFits x ≡ true
-  pub decline : declineFits today x ≡ true
-
--- an account and its rows: all but "no unused source beside an unsettled unheld debit", which settlement makes
-pub record Counted (rows : List Row) (n : ℕ) (x : Account) : Type 0 where
-  pub returned : returnedFits rows n x ≡ true
-  pub even : even rows n ≡ true
-  pub clear : closedClear rows n x ≡ true
-
--- a sound book but for what settlement makes
-pub record Near (past : ℕ) (b : Book) : Type 0 where
-  pub day : dayFits (b .day) ≡ true
-  pub schedule : scheduleFits (b .schedule) ≡ true
-  pub sizes : sizesFit (length (b .accounts)) (b .room) ≡ true
-  pub fits : leb (length (b .rows)) (b .room) ≡ true
-  pub shape : (k : ℕ) → k < length (b .rows) → Shape (b .day) (b .accounts) (b .rows) (suc k) (getD (b .rows) k blank)
-  pub live : (k : ℕ) → k < length (b .rows) → Live past (b .day) (b .schedule .stage) (getD (b .rows) k blank)
-  pub standing : (k : ℕ) → k < length (b .accounts) → Standing (b .day) (getD (b .accounts) k unused)
-  pub counted : (k : ℕ) → k < length (b .accounts) → Counted (b .rows) (suc k) (getD (b .accounts) k unused)
-
-pub record Sound (b : Book) : Type 0 where
-  pub near : Near (b .day) b
-  pub spent : (k : ℕ) → k < length (b .accounts) → spent (b .rows) (suc k) ≡ true
+use Rattle.rules.specs.Soundness.{kindFits, amountFits, settledFits, markFits, tollWordsFit, noReference, rowDayFits, dueWithin, holdFits, accountUsed, referenceFits, passageOnce, feesFit, rowSound, stateFits, unusedZero, requestFits, topupFits, declineFits, returnedFits, usedIsPaid, noIdleMoney, closedClear, accountSound, sound}
+use Rattle.rules.specs.SoundFacts.{Shape, Live, Standing, SumsFit, Near, Sound}
 
 -- ---- the test gives the facts
 
@@ -101,9 +54,9 @@ module _ (b : Book) (e : sound b ≡ true) where
       };
       live = λ k h. let p = allOf-at _ (row-sound k h) in record { settled = p 2; due = p 7; hold = p 8 };
       standing = λ k h. let p = allOf-at _ (account-sound k h) in record { state = p 0; zero = p 1; request = p 2; topup = p 3; decline = p 4 };
-      counted = λ k h. let p = allOf-at _ (account-sound k h) in record { returned = p 5; even = p 6; clear = p 8 };
+      counted = λ k h. let p = allOf-at _ (account-sound k h) in record { returned = p 5; used-is-paid = p 6; clear = p 8 };
     };
-    spent = λ k h. allOf-at _ (account-sound k h) 7;
+    no-idle-money = λ k h. allOf-at _ (account-sound k h) 7;
   }
 
 -- ---- and the facts the test
@@ -120,5 +73,5 @@ facts-sound b s =
     let z : n ≡ suc k = omega arith in
     let v = s .near .standing k h in
     let w = s .near .counted k h in
-    rw (z, v .state, v .zero, v .request, v .topup, v .decline, w .returned, w .even, s .spent k h, w .clear)) in
+    rw (z, v .state, v .zero, v .request, v .topup, v .decline, w .returned, w .used-is-paid, s .no-idle-money k h, w .clear)) in
     rw (s .near .day, s .near .schedule, s .near .sizes, s .near .fits, p, q)

@@ -13,13 +13,13 @@ use Rattle.lists.specs.Tests.{_is_, _from_to_, _implies_}
 use Rattle.lists.specs.Lists.{count}
 use Rattle.lists.proofs.TestLaws.{and-left, and-right}
 use Rattle.lists.proofs.SumLaws.{count-le}
-use Rattle.rules.specs.Limits.{finalDay, mostAccounts, mostRows, longestStage, highestFee, highestRate, highestRefund, highestPassage, highestTopUp, mostDeclines}
+use Rattle.records.specs.Limits.{finalDay, mostAccounts, mostRows, longestStage, highestFee, highestRate, highestRefund, highestPassage, highestTopup, mostDeclines}
 use Rattle.rules.specs.Schedule.{Schedule, scheduleFits, ratesFit}
-use Rattle.rules.specs.Rows.{Row, blank, Toll, Fee, Reversal, Payment, Credit, rowNo, toll, unsettled}
+use Rattle.rules.specs.Rows.{Row, blank, KindToll, KindFee, KindReversal, KindPayment, KindCredit, rowNo, toll, unsettled}
 use Rattle.rules.specs.Book.{Account, unused, accountNo, Book}
 use Rattle.rules.specs.Opening.{dayFits, sizesFit}
-use Rattle.rules.specs.Soundness.{kindFits, mostOf, amountFits, settledFits, markFits, tollWordsFit, noReference, rowDayFits, dueWithin, holdFits, accountUsed, names, referenceFits, stateFits, unusedZero, requestFits, topUpFits, declineFits, returnedOf, returnedFits}
-use Rattle.rules.proofs.SoundnessLaws.{Near}
+use Rattle.rules.specs.Soundness.{kindFits, mostOf, amountFits, settledFits, markFits, tollWordsFit, noReference, rowDayFits, dueWithin, holdFits, accountUsed, names, referenceFits, stateFits, unusedZero, requestFits, topupFits, declineFits, returnedOf, returnedFits}
+use Rattle.rules.specs.SoundFacts.{Near}
 
 -- ---- what the tests bound
 
@@ -55,7 +55,7 @@ settled-le r e = leb-true (r .settled) (r .amount) (and-left (leb (r .settled) (
 
 pub mark-le : (r : Row) → markFits r ≡ true → r .mark ≤ 4
 unfolding markFits
-mark-le r = go (toll r) (r .kind is Payment)
+mark-le r = go (toll r) (r .kind is KindPayment)
   where
     go : (p q : Bool) → cond p (leb (r .mark) 4) (cond q (r .mark from 1 to 4) (r .mark is 0)) ≡ true → r .mark ≤ 4
     go true q e = leb-true (r .mark) 4 e
@@ -129,13 +129,13 @@ or-lt rows n r k m = go (names rows n r k) refl
 
 module _ (rows : List Row) (n : ℕ) (r : Row) (k : kindFits r ≡ true) (w : tollWordsFit r ≡ true) (z : noReference r ≡ true) (f : referenceFits rows n r ≡ true) where
   abbrev fee-part : Bool
-  fee-part = r .kind is Fee implies names rows n r Toll || names rows n r Payment
+  fee-part = r .kind is KindFee implies names rows n r KindToll || names rows n r KindPayment
 
   abbrev reversal-part : Bool
-  reversal-part = r .kind is Reversal implies names rows n r Payment
+  reversal-part = r .kind is KindReversal implies names rows n r KindPayment
 
   abbrev credit-part : Bool
-  credit-part = r .kind is Credit implies names rows n r Toll
+  credit-part = r .kind is KindCredit implies names rows n r KindToll
 
   pub reference-le : r .reference ≤ highestPassage + n
   unfolding kindFits tollWordsFit noReference referenceFits
@@ -182,16 +182,16 @@ request-le today x s z f = go (eqb (x .state) 0) (eqb (x .state) 1) (leb 2 (x .s
     go false false true a c d = between-le 1 today (x .request) (rw d at (and-right one-part two-part f))
     go false false false a c d = absurd (omega (arith, eqb-false (x .state) 0 a, eqb-false (x .state) 1 c, leb-false 2 (x .state) d))
 
-record TopUpSmall (x : Account) : Type 0 where
-  pub threshold : x .threshold ≤ highestTopUp
-  pub topup : x .topup ≤ highestTopUp
+record TopupSmall (x : Account) : Type 0 where
+  pub threshold : x .threshold ≤ highestTopup
+  pub topup : x .topup ≤ highestTopup
   pub declines : x .declines ≤ mostDeclines
 
-top-up-le : (x : Account) → topUpFits x ≡ true → TopUpSmall x
-unfolding topUpFits
-top-up-le x e =
-    let p : Bool = leb (x .threshold) highestTopUp in
-    let q : Bool = leb (x .topup) highestTopUp in
+topup-le : (x : Account) → topupFits x ≡ true → TopupSmall x
+unfolding topupFits
+topup-le x e =
+    let p : Bool = leb (x .threshold) highestTopup in
+    let q : Bool = leb (x .topup) highestTopup in
     let d : Bool = leb (x .declines) mostDeclines in
     let f : Bool = x .declines is 0 implies x .declined is 0 in
     let g : Bool = x .declined is 0 implies x .declines is 0 in
@@ -199,8 +199,8 @@ top-up-le x e =
     let c = and-left (p && q && d) f (and-left (p && q && d && f) g (and-left (p && q && d && f && g) h e)) in
     let c2 = and-left (p && q) d c in
     record {
-      threshold = leb-true (x .threshold) highestTopUp (and-left p q c2);
-      topup = leb-true (x .topup) highestTopUp (and-right p q c2);
+      threshold = leb-true (x .threshold) highestTopup (and-left p q c2);
+      topup = leb-true (x .topup) highestTopup (and-right p q c2);
       declines = leb-true (x .declines) mostDeclines (and-right (p && q) d c);
     }
 
@@ -304,11 +304,11 @@ module _ (past : ℕ) (b : Book) (n : Near past b) where
   -- ---- accounts
 
   pub account-storable : (k : ℕ) → k < length (b .accounts) → StorableAccount (getD (b .accounts) k unused)
-  unfolding stateFits declineFits returnedFits topUpFits
+  unfolding stateFits declineFits returnedFits topupFits
   account-storable k h =
       let x : Account = getD (b .accounts) k unused in
       let s = n .standing k h in
-      let t = top-up-le x (s .topup) in
+      let t = topup-le x (s .topup) in
       let d = day-le in
       let q = room-le in
       let w = rows-le in

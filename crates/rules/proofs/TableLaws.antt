@@ -20,7 +20,8 @@ use Rattle.rules.specs.Book.{unused, Book}
 use Rattle.rules.specs.Opening.{sizesFit}
 use Rattle.rules.specs.Soundness.{sound}
 use Rattle.rules.specs.Tables.{Tables, accountsIn, roomIn, rowsUsed, scheduleFrom, bookOf, scheduleWords, headerWords, tablesOf, wholeRecords, lengthsFit, usedFits, zeroWord, laterRowsZero, soundTables}
-use Rattle.rules.proofs.SoundnessLaws.{Near, Sound, sound-facts}
+use Rattle.rules.specs.SoundFacts.{Near, Sound}
+use Rattle.rules.proofs.SoundnessLaws.{sound-facts}
 use Rattle.rules.proofs.StorableLaws.{day-le, room-le, rows-le, row-storable, account-storable, schedule-storable}
 
 -- ---- a book's tables, read back

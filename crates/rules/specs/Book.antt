@@ -8,7 +8,7 @@ use lib.Dec.{leb, ltb}
 pub use Rattle.records.specs.declared.Account.{Account}
 pub use Rattle.records.specs.declared.Instruction.{Instruction}
 pub use Rattle.records.specs.declared.Answer.{Answer}
-pub use Rattle.records.specs.Codes.{Unused, Open, Pending, Closed}
+pub use Rattle.records.specs.Codes.{StateUnused, StateOpen, StatePending, StateClosed}
 pub use Rattle.records.specs.Updates.{unused}
 use Rattle.lists.specs.Tests.{_is_}
 use Rattle.lists.specs.Lists.{sumBy, only}
@@ -72,12 +72,12 @@ unfoldable pub debits : List Row → ℕ → ℕ
 debits rows a = sumBy (only (debitOf a) (λ r. r .amount)) rows
 
 -- m - n as an integer
-unfoldable pub less : ℕ → ℕ → ℤ
-less m n = pos m -ℤ pos n
+unfoldable pub minus : ℕ → ℕ → ℤ
+minus m n = pos m -ℤ pos n
 
 -- "Balance = sum of sources - sum of debits, held ones included"
 unfoldable pub balance : Book → ℕ → ℤ
-balance b a = less (sources (b .rows) a) (debits (b .rows) a)
+balance b a = minus (sources (b .rows) a) (debits (b .rows) a)
 
 -- ---- top-up due
 
@@ -86,8 +86,8 @@ unfoldable pub lowBalance : Book → ℕ → Bool
 lowBalance b a = leb (sources (b .rows) a) (debits (b .rows) a + account b a .threshold)
 
 -- "Due when open, amount above 0, last decline not today, balance at most the threshold"
-unfoldable pub topUpDue : Book → ℕ → Bool
-topUpDue b a = account b a .state is Open && ltb 0 (account b a .topup) && not (account b a .declined is b .day) && lowBalance b a
+unfoldable pub topupDue : Book → ℕ → Bool
+topupDue b a = account b a .state is StateOpen && ltb 0 (account b a .topup) && not (account b a .declined is b .day) && lowBalance b a
 
 -- ---- "Settlement ends every accepted event: per account"
 

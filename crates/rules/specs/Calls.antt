@@ -6,13 +6,14 @@ use mathlib.Core.List.{List, [], _∷_, _++_, map}
 use lib.ListN.{length, drop, take}
 use lib.Dec.{leb, ltb}
 use lib.IntN.{ℤ, pos}
+use Rattle.records.specs.Numbers.{Unsound, Malformed, Unknown}
 pub use Rattle.records.specs.declared.Event.{Event}
 use Rattle.records.specs.Layout
 use Rattle.records.specs.Encoding.{natOf, word, instructionOf, instructionFrom, answerWords, writeAll}
 use Rattle.lists.specs.Tests.{_is_, _from_to_, Cases, first}
-use Rattle.rules.specs.Limits.{mostEvents}
+use Rattle.records.specs.Limits.{mostEvents}
 use Rattle.rules.specs.Schedule.{scheduleFits}
-use Rattle.rules.specs.Book.{Instruction, Answer, Unused, Book, account, balance, topUpDue}
+use Rattle.rules.specs.Book.{Instruction, Answer, StateUnused, Book, account, balance, topupDue}
 use Rattle.rules.specs.Posting.{post, Posted, refusalBy, bookAfter, answersTo}
 use Rattle.rules.specs.Opening.{opening, dayFits}
 use Rattle.rules.specs.Tables.{Tables, accountsIn, roomIn, rowsUsed, scheduleFrom, bookOf, tablesOf, lengthsFit, soundTables}
@@ -30,10 +31,10 @@ written xs t = writeAll answerWords xs ++ drop (length xs * Layout.answerWidth) 
 -- ---- opening: the first day and the schedule, eleven words
 
 -- "1: opening: lengths unfit", "2: opening: first day or schedule out of range"
-unfoldable pub openRefusals : Tables → List ℤ → Cases
-openRefusals t w =
-    (1, not (lengthsFit t))
-    ∷ (2, not (length w is Layout.openingWidth && dayFits (word w Layout.firstDayPlace) && scheduleFits (scheduleFrom w Layout.openingSchedule)))
+unfoldable pub openingRefusals : Tables → List ℤ → Cases
+openingRefusals t w =
+    (Unsound, not (lengthsFit t))
+    ∷ (Malformed, not (length w is Layout.openingWidth && dayFits (word w Layout.firstDayPlace) && scheduleFits (scheduleFrom w Layout.openingSchedule)))
     ∷ []
 
 -- the book that opening makes: first day and schedule from its words, sizes from the tables
@@ -43,14 +44,14 @@ openedBook t w = opening (word w Layout.firstDayPlace) (scheduleFrom w Layout.op
 -- "a refused batch or opening writes nothing"
 unfoldable pub openCall : Tables → List ℤ → Called
 openCall t w =
-    let n : ℕ = first (openRefusals t w) in
+    let n : ℕ = first (openingRefusals t w) in
     record { number = n; tables = cond (n is 0) (tablesOf (openedBook t w)) t; answers = [] }
 
 -- ---- a single event: seven words, and an answer table with room for five
 
 -- "1: book not sound"; "2: kind, range, length, batch or answer table wrong"
 unfoldable pub eventRefusals : Tables → List ℤ → List ℤ → Cases
-eventRefusals t e answers = (1, not (soundTables t)) ∷ (2, not (length e is Layout.eventWidth) || ltb (length answers) Layout.answerWidth) ∷ []
+eventRefusals t e answers = (Unsound, not (soundTables t)) ∷ (Malformed, not (length e is Layout.eventWidth) || ltb (length answers) Layout.answerWidth) ∷ []
 
 -- a refusal is an answer too, and is written where there is room for one
 unfoldable pub answered : Answer → List ℤ → List ℤ
@@ -67,7 +68,7 @@ eventCall t e answers =
 -- ---- a batch: "at most 4,096", "at least five words per event"
 
 unfoldable pub batchRefusals : Tables → List Event → List ℤ → Cases
-batchRefusals t es answers = (1, not (soundTables t)) ∷ (2, ltb mostEvents (length es) || ltb (length answers) (length es * Layout.answerWidth)) ∷ []
+batchRefusals t es answers = (Unsound, not (soundTables t)) ∷ (Malformed, ltb mostEvents (length es) || ltb (length answers) (length es * Layout.answerWidth)) ∷ []
 
 -- "it goes on after a refusal"; "a refused batch .. writes nothing"
 unfoldable pub batchCall : Tables → List Event → List ℤ → Called
@@ -86,7 +87,7 @@ pub record Reply : Type 0 where
 
 -- "refuse by 1 and 3": 3 for an account that is unused or outside the table
 unfoldable pub questionRefusals : Tables → ℕ → Cases
-questionRefusals t n = (1, not (soundTables t)) ∷ (3, account (bookOf t) n .state is Unused) ∷ []
+questionRefusals t n = (Unsound, not (soundTables t)) ∷ (Unknown, account (bookOf t) n .state is StateUnused) ∷ []
 
 -- a refused question has value 0
 unfoldable pub question : (Book → ℕ → ℤ) → Tables → ℤ → Reply
@@ -99,8 +100,8 @@ unfoldable pub balanceCall : Tables → ℤ → Reply
 balanceCall t a = question balance t a
 
 -- "top-up due (1 yes, 0 no)"
-unfoldable pub topUpDueCall : Tables → ℤ → Reply
-topUpDueCall t a = question (λ b n. pos (cond (topUpDue b n) 1 0)) t a
+unfoldable pub topupDueCall : Tables → ℤ → Reply
+topupDueCall t a = question (λ b n. pos (cond (topupDue b n) 1 0)) t a
 
 -- "the ten words as the very part of the lent journal, an empty part where the book is unsound or the row isn't used"
 unfoldable pub rowCall : Tables → ℤ → List ℤ

@@ -3,13 +3,13 @@ use mathlib.Core.Bool.{cond}
 use Prim.Native.Nat.{ℕ, _+_, _-_}
 use mathlib.Core.List.{map}
 use lib.ListN.{set}
-use Rattle.records.specs.Codes.{Card, CheckReturned, Ended, Upheld, Yes}
-use Rattle.records.specs.AccountOperations.{opened, checkReturned, declinedOn, topUpPaid, closeRequestedOn}
+use Rattle.records.specs.Codes.{MethodCard, MethodCheckReturned, DisputeEnded, DisputeUpheld, Yes}
+use Rattle.records.specs.AccountOperations.{opened, checkReturned, declinedOn, topupPaid, closeRequestedOn}
 use Rattle.lists.specs.Tests.{_is_}
 use Rattle.lists.specs.Lists.{sumBy, only}
-use Rattle.rules.specs.Limits.{returnFee}
+use Rattle.records.specs.Limits.{returnFee}
 use Rattle.rules.specs.Schedule.{Schedule, class, rate}
-use Rattle.rules.specs.Rows.{Row, Toll, Fee, Reversal, Payment, Credit, Held, newRow, withSettled, withMark, withDue, withDispute, withHold, withReference, remaining, settleWhole, feeNaming}
+use Rattle.rules.specs.Rows.{Row, KindToll, KindFee, KindReversal, KindPayment, KindCredit, DisputeHeld, newRow, withSettled, withMark, withDue, withDispute, withHoldStart, withReference, remaining, settleWhole, feeNaming}
 use Rattle.rules.specs.Book.{Book, Instruction, withRows, account, row, putAccount, putRow, addRow}
 
 -- what an accepted event makes of the book, settlement apart
@@ -31,13 +31,13 @@ tollRate s e = rate (s .rates) (class (e .c) (e .d)) (e .e)
 -- "Row: rate, stage 0, due today + L", its reference the passage number
 unfoldable pub postToll : Change
 postToll b e =
-    addRow (withReference (e .a) (withDue (b .day + b .schedule .stage) (newRow Toll (e .account) (b .day) (tollRate (b .schedule) e)))) b
+    addRow (withReference (e .a) (withDue (b .day + b .schedule .stage) (newRow KindToll (e .account) (b .day) (tollRate (b .schedule) e)))) b
 
 -- ---- 3. "Payment: a amount, b method"
 
 -- the mark is the method
 unfoldable pub postPayment : Change
-postPayment b e = addRow (withMark (e .b) (newRow Payment (e .account) (b .day) (e .a))) b
+postPayment b e = addRow (withMark (e .b) (newRow KindPayment (e .account) (b .day) (e .a))) b
 
 -- ---- 4. "Returned check: a payment row, b bank charge. Adds a reversal of the amount, then a fee of charge + 500; mark becomes 4,
 -- the count rises; a closed account becomes pending with its old request day"
@@ -45,16 +45,16 @@ postPayment b e = addRow (withMark (e .b) (newRow Payment (e .account) (b .day) 
 -- the reversal and the fee name the payment row
 unfoldable pub returnCheck : Change
 returnCheck b e =
-    addRow (withReference (e .a) (newRow Fee (e .account) (b .day) (e .b + returnFee)))
-    (addRow (withReference (e .a) (newRow Reversal (e .account) (b .day) (row b (e .a) .amount)))
-    (putRow (e .a) (withMark CheckReturned (row b (e .a)))
+    addRow (withReference (e .a) (newRow KindFee (e .account) (b .day) (e .b + returnFee)))
+    (addRow (withReference (e .a) (newRow KindReversal (e .account) (b .day) (row b (e .a) .amount)))
+    (putRow (e .a) (withMark MethodCheckReturned (row b (e .a)))
     (putAccount (e .account) (checkReturned (account b (e .account))) b)))
 
 -- ---- 5. "Dispute: a toll row. Hold starts today"
 
 -- dispute 1, hold start today
 unfoldable pub holdFrom : ℕ → Row → Row
-holdFrom today r = withHold today (withDispute Held r)
+holdFrom today r = withHoldStart today (withDispute DisputeHeld r)
 
 -- the toll row is written held
 unfoldable pub holdToll : Change
@@ -64,7 +64,7 @@ holdToll b e = putRow (e .a) (holdFrom (b .day) (row b (e .a))) b
 
 -- "0: dispute 2, due moves by today - hold start. .. Hold start becomes 0"
 unfoldable pub release : ℕ → Row → Row
-release today r = withHold 0 (withDispute Ended (withDue (r .due + (today - r .hold)) r))
+release today r = withHoldStart 0 (withDispute DisputeEnded (withDue (r .due + (today - r .hold)) r))
 
 -- verdict 0
 unfoldable pub reject : Change
@@ -77,9 +77,9 @@ withFees b n f = f (row b n) + sumBy (only (feeNaming n) f) (b .rows)
 -- "1: dispute 3, and a credit of the toll plus all its fees settles what is unsettled of exactly these; the rest of the credit is unused"
 unfoldable pub uphold : Change
 uphold b e =
-    addRow (withReference (e .a) (withSettled (withFees b (e .a) remaining) (newRow Credit (e .account) (b .day) (withFees b (e .a) (λ r. r .amount)))))
+    addRow (withReference (e .a) (withSettled (withFees b (e .a) remaining) (newRow KindCredit (e .account) (b .day) (withFees b (e .a) (λ r. r .amount)))))
     (withRows (map (λ r. cond (feeNaming (e .a) r) (settleWhole r) r)
-    (set (b .rows) (e .a - 1) (settleWhole (withHold 0 (withDispute Upheld (row b (e .a))))))) b)
+    (set (b .rows) (e .a - 1) (settleWhole (withHoldStart 0 (withDispute DisputeUpheld (row b (e .a))))))) b)
 
 -- "b verdict": 1 upholds, 0 rejects
 unfoldable pub decide : Change
@@ -88,18 +88,18 @@ decide b e = cond (e .b is Yes) (uphold b e) (reject b e)
 -- ---- 7. "Top-up result: b 1 paid, 0 declined"
 
 -- "Paid: a card payment, declines and last decline 0"
-unfoldable pub payTopUp : Change
-payTopUp b e =
-    addRow (withMark Card (newRow Payment (e .account) (b .day) (account b (e .account) .topup)))
-    (putAccount (e .account) (topUpPaid (account b (e .account))) b)
+unfoldable pub payTopup : Change
+payTopup b e =
+    addRow (withMark MethodCard (newRow KindPayment (e .account) (b .day) (account b (e .account) .topup)))
+    (putAccount (e .account) (topupPaid (account b (e .account))) b)
 
 -- "Declined: count up, last decline today; the third clears all four words"
-unfoldable pub declineTopUp : Change
-declineTopUp b e = putAccount (e .account) (declinedOn (b .day) (account b (e .account))) b
+unfoldable pub declineTopup : Change
+declineTopup b e = putAccount (e .account) (declinedOn (b .day) (account b (e .account))) b
 
 -- "b 1 paid, 0 declined"
-unfoldable pub topUpResult : Change
-topUpResult b e = cond (e .b is Yes) (payTopUp b e) (declineTopUp b e)
+unfoldable pub topupResult : Change
+topupResult b e = cond (e .b is Yes) (payTopup b e) (declineTopup b e)
 
 -- ---- 8. "Close request: pending from today"
 

@@ -1,4 +1,3 @@
-pub mod Limits
 pub mod Schedule
 pub mod Rows
 pub mod Settlement
@@ -11,4 +10,6 @@ pub mod Posting
 pub mod Opening
 pub mod Soundness
 pub mod Tables
+pub mod Lent
 pub mod Calls
+pub mod SoundFacts

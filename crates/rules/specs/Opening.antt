@@ -4,7 +4,7 @@ use Prim.Native.Nat.{ℕ}
 use mathlib.Core.List.{[]}
 use lib.ListN.{replicate}
 use Rattle.lists.specs.Tests.{_from_to_}
-use Rattle.rules.specs.Limits.{finalDay, mostAccounts, mostRows}
+use Rattle.records.specs.Limits.{finalDay, mostAccounts, mostRows}
 use Rattle.rules.specs.Schedule.{Schedule}
 use Rattle.rules.specs.Book.{Book, unused}
 

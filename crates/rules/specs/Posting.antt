@@ -3,6 +3,7 @@ use mathlib.Core.Bool.{cond, _&&_}
 use Prim.Native.Nat.{ℕ, _+_, _-_}
 use mathlib.Core.List.{List, [], _∷_}
 use lib.ListN.{length}
+use Rattle.records.specs.Codes.{EventTopupResult, EventTick}
 use Rattle.records.specs.AccountOperations.{lastDecline}
 use Rattle.lists.specs.Tests.{_is_}
 use Rattle.rules.specs.Book.{Instruction, Answer, Book, account}
@@ -12,8 +13,8 @@ use Rattle.rules.specs.Refusals.{Refusal, answerNumber, after}
 -- ---- "Answer, five words: number, first new row (0 if none), new rows, tolls raised, 1 if the top-up was removed"
 
 -- event 7: "the third clears all four words"
-unfoldable pub removesTopUp : Refusal
-removesTopUp b e = e .kind is 7 && e .b is 0 && lastDecline (account b (e .account))
+unfoldable pub removesTopup : Refusal
+removesTopup b e = e .kind is EventTopupResult && e .b is 0 && lastDecline (account b (e .account))
 
 -- "new rows": how many rows the event adds
 unfoldable pub newRows : Book → Instruction → ℕ
@@ -25,8 +26,8 @@ acceptance b e = record {
   number = 0;
   first = cond (newRows b e is 0) 0 (length (b .rows) + 1);
   added = newRows b e;
-  raised = cond (e .kind is 9) (raisedBy b) 0;
-  removed = cond (removesTopUp b e) 1 0;
+  raised = cond (e .kind is EventTick) (raisedBy b) 0;
+  removed = cond (removesTopup b e) 1 0;
 }
 
 -- "The book's tables stay unchanged and other words are 0"

@@ -4,14 +4,15 @@ use Prim.Native.Nat.{ℕ, _+_}
 use mathlib.Core.List.{[], _∷_}
 use lib.ListN.{length, getD, drop}
 use lib.Dec.{leb, ltb}
-use Rattle.records.specs.Codes.{Check}
+use Rattle.records.specs.Numbers.{Malformed, Unknown, Taken, Closed, Unclassed, Misdated, Duplicate, Barred, NoRow, Untimely, LastDay, Full, Ceiling}
+use Rattle.records.specs.Codes.{MethodCheck, EventOpen, EventToll, EventPayment, EventReturnedCheck, EventDispute, EventDecision, EventTopupResult, EventCloseRequest, EventTick, MethodCard, Yes, ModeTag, ModePlate}
 use Rattle.lists.specs.Tests.{_is_, _from_to_, _implies_, Cases, first}
 use Rattle.lists.specs.Lists.{exists}
-use Rattle.rules.specs.Limits
+use Rattle.records.specs.Limits
 use Rattle.rules.specs.Schedule.{class}
-use Rattle.rules.specs.Rows.{Toll, Payment, Refund, toll, heldToll, unsettled}
-use Rattle.rules.specs.Book.{Unused, Pending, Closed, Instruction, Book, account, row, settled, topUpDue}
-use Rattle.rules.specs.Events.{Change, openAccount, postToll, postPayment, returnCheck, holdToll, decide, topUpResult, requestClose}
+use Rattle.rules.specs.Rows.{KindToll, KindPayment, KindRefund, toll, heldToll, unsettled}
+use Rattle.rules.specs.Book.{StateUnused, StatePending, StateClosed, Instruction, Book, account, row, settled, topupDue}
+use Rattle.rules.specs.Events.{Change, openAccount, postToll, postPayment, returnCheck, holdToll, decide, topupResult, requestClose}
 use Rattle.rules.specs.Tick.{tick}
 
 -- ---- the nine events by their kind, each ended by settlement
@@ -23,7 +24,7 @@ noChange b e = b
 -- events 1 to 9; no other kind changes anything
 unfoldable pub changeOf : ℕ → Change
 changeOf k =
-    getD (noChange ∷ openAccount ∷ postToll ∷ postPayment ∷ returnCheck ∷ holdToll ∷ decide ∷ topUpResult ∷ requestClose ∷ tick ∷ []) k noChange
+    getD (noChange ∷ openAccount ∷ postToll ∷ postPayment ∷ returnCheck ∷ holdToll ∷ decide ∷ topupResult ∷ requestClose ∷ tick ∷ []) k noChange
 
 -- the book after the event, were it accepted
 unfoldable pub after : Change
@@ -53,17 +54,17 @@ noForm e = false
 
 -- "1. Open: a threshold, b top-up amount, both 0 to 1,000,000 (a is 0 if b is)"
 unfoldable pub openForm : Form
-openForm e = leb (e .a) Limits.highestTopUp && leb (e .b) Limits.highestTopUp && (e .b is 0 implies e .a is 0) && zeroFrom-c e
+openForm e = leb (e .a) Limits.highestTopup && leb (e .b) Limits.highestTopup && (e .b is 0 implies e .a is 0) && zeroFrom-c e
 
 -- "2. Toll: a passage number 1 to 1,000,000,000, b passage day 1 to 36,525, c axles 1 to 99, d height 0 to 999 inches, e mode (1 tag, 2 plate)"
 unfoldable pub tollForm : Form
 tollForm e =
     e .a from 1 to Limits.highestPassage && e .b from 1 to Limits.finalDay && e .c from 1 to Limits.mostAxles
-    && leb (e .d) Limits.highestHeight && e .e from 1 to 2
+    && leb (e .d) Limits.highestHeight && e .e from ModeTag to ModePlate
 
 -- "3. Payment: a amount 1 to 1,000,000, b method 1 to 3"
 unfoldable pub paymentForm : Form
-paymentForm e = e .a from 1 to Limits.highestPayment && e .b from 1 to 3 && zeroFrom-c e
+paymentForm e = e .a from 1 to Limits.highestPayment && e .b from MethodCard to MethodCheck && zeroFrom-c e
 
 -- "4. Returned check: a payment row, b bank charge 0 to 99,500"; "Row words are looked up, not range-checked"
 unfoldable pub returnForm : Form
@@ -75,11 +76,11 @@ disputeForm e = zeroFrom-b e
 
 -- "6. Decision: a toll row, b verdict", 0 or 1
 unfoldable pub decisionForm : Form
-decisionForm e = leb (e .b) 1 && zeroFrom-c e
+decisionForm e = leb (e .b) Yes && zeroFrom-c e
 
 -- "7. Top-up result: b 1 paid, 0 declined"
 unfoldable pub resultForm : Form
-resultForm e = e .a is 0 && leb (e .b) 1 && zeroFrom-c e
+resultForm e = e .a is 0 && leb (e .b) Yes && zeroFrom-c e
 
 -- "8. Close request"
 unfoldable pub requestForm : Form
@@ -114,35 +115,35 @@ stateOf b e = account b (e .account) .state
 
 -- 3 "account unused, or not from 1 to the table's count"; "3 doesn't concern event 1 inside the table"
 unfoldable pub unknown : Refusal
-unknown b e = cond (e .kind is 9) false (not (inTable b e) || not (e .kind is 1) && stateOf b e is Unused)
+unknown b e = cond (e .kind is EventTick) false (not (inTable b e) || not (e .kind is EventOpen) && stateOf b e is StateUnused)
 
 -- 4 "event 1 on a used account"
 unfoldable pub taken : Refusal
-taken b e = e .kind is 1 && not (stateOf b e is Unused)
+taken b e = e .kind is EventOpen && not (stateOf b e is StateUnused)
 
 -- 5 "events 2, 3, 7, 8 on state 3"
 unfoldable pub onClosed : Refusal
-onClosed b e = (e .kind is 2 || e .kind is 3 || e .kind is 7 || e .kind is 8) && stateOf b e is Closed
+onClosed b e = (e .kind is EventToll || e .kind is EventPayment || e .kind is EventTopupResult || e .kind is EventCloseRequest) && stateOf b e is StateClosed
 
 -- 6 "one axle above 90 inches": no class applies
 unfoldable pub unclassed : Refusal
-unclassed b e = e .kind is 2 && class (e .c) (e .d) is 0
+unclassed b e = e .kind is EventToll && class (e .c) (e .d) is 0
 
 -- 7 "passage after today or over 60 days back"
 unfoldable pub misdated : Refusal
-misdated b e = e .kind is 2 && (ltb (b .day) (e .b) || ltb (e .b + Limits.latestDays) (b .day))
+misdated b e = e .kind is EventToll && (ltb (b .day) (e .b) || ltb (e .b + Limits.latestDays) (b .day))
 
 -- 8 "passage number in the journal"
 unfoldable pub duplicate : Refusal
-duplicate b e = e .kind is 2 && exists (λ r. toll r && r .reference is e .a) (b .rows)
+duplicate b e = e .kind is EventToll && exists (λ r. toll r && r .reference is e .a) (b .rows)
 
 -- 9 "check after three returned ones (000, RET-007)"
 unfoldable pub barred : Refusal
-barred b e = e .kind is 3 && e .b is Check && leb Limits.barringReturns (account b (e .account) .returned)
+barred b e = e .kind is EventPayment && e .b is MethodCheck && leb Limits.barringReturns (account b (e .account) .returned)
 
 -- the kind of the row that an event names, 0 for one that names none
 abbrev pub namedKind : Instruction → ℕ
-namedKind e = getD (0 ∷ 0 ∷ 0 ∷ 0 ∷ Payment ∷ Toll ∷ Toll ∷ []) (e .kind) 0
+namedKind e = getD (0 ∷ 0 ∷ 0 ∷ 0 ∷ KindPayment ∷ KindToll ∷ KindToll ∷ []) (e .kind) 0
 
 -- 10 "no such row, other kind or account"
 unfoldable pub noRow : Refusal
@@ -151,15 +152,15 @@ noRow b e = ltb 0 (namedKind e) && not (row b (e .a) .kind is namedKind e && row
 -- 11 "event 4: mark not 3; 5: settled whole or dispute not 0; 6: not held; 7: not due; 8: pending"
 unfoldable pub untimely : Refusal
 untimely b e =
-    e .kind is 4 && not (row b (e .a) .mark is Check)
-    || e .kind is 5 && (not (unsettled (row b (e .a))) || not (row b (e .a) .dispute is 0))
-    || e .kind is 6 && not (heldToll (row b (e .a)))
-    || e .kind is 7 && not (topUpDue b (e .account))
-    || e .kind is 8 && stateOf b e is Pending
+    e .kind is EventReturnedCheck && not (row b (e .a) .mark is MethodCheck)
+    || e .kind is EventDispute && (not (unsettled (row b (e .a))) || not (row b (e .a) .dispute is 0))
+    || e .kind is EventDecision && not (heldToll (row b (e .a)))
+    || e .kind is EventTopupResult && not (topupDue b (e .account))
+    || e .kind is EventCloseRequest && stateOf b e is StatePending
 
 -- 12 "tick on day 36,525"
 unfoldable pub lastDay : Refusal
-lastDay b e = e .kind is 9 && b .day is Limits.finalDay
+lastDay b e = e .kind is EventTick && b .day is Limits.finalDay
 
 -- 13 "free rows fewer than the event adds"
 unfoldable pub full : Refusal
@@ -167,24 +168,24 @@ full b e = ltb (b .room) (length (after b e .rows))
 
 -- 14 "a refund above 10,649,600,000"
 unfoldable pub ceiling : Refusal
-ceiling b e = exists (λ r. r .kind is Refund && ltb Limits.highestRefund (r .amount)) (drop (length (b .rows)) (after b e .rows))
+ceiling b e = exists (λ r. r .kind is KindRefund && ltb Limits.highestRefund (r .amount)) (drop (length (b .rows)) (after b e .rows))
 
 -- "The lowest number that applies wins" (1 is the tables': see Calls)
 unfoldable pub refusals : Book → Instruction → Cases
 refusals b e =
-    (2, not (wellFormed e))
-    ∷ (3, unknown b e)
-    ∷ (4, taken b e)
-    ∷ (5, onClosed b e)
-    ∷ (6, unclassed b e)
-    ∷ (7, misdated b e)
-    ∷ (8, duplicate b e)
-    ∷ (9, barred b e)
-    ∷ (10, noRow b e)
-    ∷ (11, untimely b e)
-    ∷ (12, lastDay b e)
-    ∷ (13, full b e)
-    ∷ (14, ceiling b e)
+    (Malformed, not (wellFormed e))
+    ∷ (Unknown, unknown b e)
+    ∷ (Taken, taken b e)
+    ∷ (Closed, onClosed b e)
+    ∷ (Unclassed, unclassed b e)
+    ∷ (Misdated, misdated b e)
+    ∷ (Duplicate, duplicate b e)
+    ∷ (Barred, barred b e)
+    ∷ (NoRow, noRow b e)
+    ∷ (Untimely, untimely b e)
+    ∷ (LastDay, lastDay b e)
+    ∷ (Full, full b e)
+    ∷ (Ceiling, ceiling b e)
     ∷ []
 
 -- 0 where no refusal applies

@@ -5,8 +5,8 @@ use mathlib.Core.List.{List, _∷_}
 use lib.ListN.{getD}
 use lib.Dec.{ltb}
 pub use Rattle.records.specs.declared.Row.{Row}
-pub use Rattle.records.specs.Codes.{Toll, Fee, Reversal, Payment, Credit, Refund, Held, LastStage}
-pub use Rattle.records.specs.Updates.{blank, newRow, withSettled, withMark, withDue, withDispute, withHold, withReference}
+pub use Rattle.records.specs.Codes.{KindToll, KindFee, KindReversal, KindPayment, KindCredit, KindRefund, DisputeHeld, LastStage}
+pub use Rattle.records.specs.Updates.{blank, newRow, withSettled, withMark, withDue, withDispute, withHoldStart, withReference}
 use Rattle.lists.specs.Tests.{_is_}
 
 -- a test of a row
@@ -35,15 +35,15 @@ settleWhole r = withSettled (r .amount) r
 
 -- "Kinds 1, 2, 3, 6 are debits, 4 and 5 sources"
 abbrev pub debit : Test
-debit r = r .kind is Toll || r .kind is Fee || r .kind is Reversal || r .kind is Refund
+debit r = r .kind is KindToll || r .kind is KindFee || r .kind is KindReversal || r .kind is KindRefund
 
 -- "4 and 5 sources"
 abbrev pub source : Test
-source r = r .kind is Payment || r .kind is Credit
+source r = r .kind is KindPayment || r .kind is KindCredit
 
 -- a row of kind 1
 abbrev pub toll : Test
-toll r = r .kind is Toll
+toll r = r .kind is KindToll
 
 -- less than its amount is settled; of a source: unused
 abbrev pub unsettled : Test
@@ -51,15 +51,15 @@ unsettled r = ltb (r .settled) (r .amount)
 
 -- "Dispute, tolls only: .. 1 held"
 abbrev pub heldToll : Test
-heldToll r = toll r && r .dispute is Held
+heldToll r = toll r && r .dispute is DisputeHeld
 
 -- "A fee is held while its toll is held"
 unfoldable pub held : List Row → Test
-held rows r = heldToll r || r .kind is Fee && heldToll (rowNo rows (r .reference))
+held rows r = heldToll r || r .kind is KindFee && heldToll (rowNo rows (r .reference))
 
 -- a fee that names row n
 unfoldable pub feeNaming : ℕ → Test
-feeNaming n r = r .kind is Fee && r .reference is n
+feeNaming n r = r .kind is KindFee && r .reference is n
 
 -- ---- rows of one account
 

@@ -5,7 +5,7 @@ use mathlib.Core.List.{[], _∷_}
 use lib.ListN.{getD}
 use lib.Dec.{leb, ltb}
 use Rattle.lists.specs.Tests.{_is_, _from_to_, Cases, first}
-use Rattle.rules.specs.Limits.{longestStage, highestFee, highestRate}
+use Rattle.records.specs.Limits.{longestStage, highestFee, highestRate, lowHeight}
 
 -- "six rates: class 1 tag, class 1 plate, then classes 2 and 3 likewise"
 pub record Rates : Type 0 where
@@ -29,8 +29,8 @@ pub record Schedule : Type 0 where
 -- "Class (001, GEN-CLA): 1 for up to 2 axles and at most 90 inches; 2 for 2 axles above 90, for 3 and for 4 axles; 3 for 5 or more"
 unfoldable pub classes : ℕ → ℕ → Cases
 classes axles height =
-    (1, leb axles 2 && leb height 90)
-    ∷ (2, axles is 2 && ltb 90 height || axles is 3 || axles is 4)
+    (1, leb axles 2 && leb height lowHeight)
+    ∷ (2, axles is 2 && ltb lowHeight height || axles is 3 || axles is 4)
     ∷ (3, leb 5 axles)
     ∷ []
 

@@ -5,21 +5,21 @@ use Prim.Native.Nat.{ℕ, _+_, _-_}
 use mathlib.Core.List.{List, [], _∷_}
 use lib.ListN.{length, getD}
 use lib.Dec.{leb, ltb}
-use Rattle.records.specs.Codes.{CheckReturned}
+use Rattle.records.specs.Codes.{MethodCheckReturned, DisputeUpheld}
 use Rattle.lists.specs.Tests.{_is_, _from_to_, _implies_, allOf}
 use Rattle.lists.specs.Lists.{count, every}
-use Rattle.rules.specs.Limits
+use Rattle.records.specs.Limits
 use Rattle.rules.specs.Schedule.{scheduleFits}
-use Rattle.rules.specs.Rows.{Row, Toll, Fee, Reversal, Payment, Credit, Refund, Held, LastStage, Test, rowNo, toll, heldToll, unsettled, feeNaming}
+use Rattle.rules.specs.Rows.{Row, KindToll, KindFee, KindReversal, KindPayment, KindCredit, KindRefund, DisputeHeld, LastStage, Test, rowNo, toll, heldToll, unsettled, feeNaming}
 use Rattle.rules.specs.Settlement.{money, debt, used, paid, owed}
-use Rattle.rules.specs.Book.{Account, Unused, Open, Pending, Closed, Book, accountNo}
+use Rattle.rules.specs.Book.{Account, StateUnused, StateOpen, StatePending, StateClosed, Book, accountNo}
 use Rattle.rules.specs.Opening.{dayFits, sizesFit}
 
 -- ---- a row by itself: "every word has a value that this paper lists", "Words without a use in a kind are 0"
 
 -- "the first "rows used" rows have kinds 1 to 6"
 unfoldable pub kindFits : Test
-kindFits r = r .kind from 1 to 6
+kindFits r = r .kind from KindToll to KindRefund
 
 -- "at most 1,000,000 (kinds 1, 3, 4), 100,000 (2), 1,300,000 (5), 10,649,600,000 (6)"
 unfoldable pub mostOf : ℕ → ℕ
@@ -32,19 +32,19 @@ amountFits r = r .amount from 1 to mostOf (r .kind)
 
 -- "settled is 0 to amount, a refund's all of it"
 unfoldable pub settledFits : Test
-settledFits r = leb (r .settled) (r .amount) && (r .kind is Refund implies r .settled is r .amount)
+settledFits r = leb (r .settled) (r .amount) && (r .kind is KindRefund implies r .settled is r .amount)
 
 -- "Mark: a toll's stage 0 to 4; a payment's method (1 card, 2 cash, 3 check, 4 check returned)"
 unfoldable pub markFits : Test
-markFits r = cond (toll r) (leb (r .mark) LastStage) (cond (r .kind is Payment) (r .mark from 1 to CheckReturned) (r .mark is 0))
+markFits r = cond (toll r) (leb (r .mark) LastStage) (cond (r .kind is KindPayment) (r .mark from 1 to MethodCheckReturned) (r .mark is 0))
 
 -- "Dispute, tolls only: 0 .. 3"; "Reference: a toll's passage number"; due day, dispute and hold start have no use in other kinds
 unfoldable pub tollWordsFit : Test
-tollWordsFit r = cond (toll r) (leb (r .dispute) 3 && r .reference from 1 to Limits.highestPassage) (r .due is 0 && r .dispute is 0 && r .hold is 0)
+tollWordsFit r = cond (toll r) (leb (r .dispute) DisputeUpheld && r .reference from 1 to Limits.highestPassage) (r .due is 0 && r .dispute is 0 && r .hold is 0)
 
 -- a payment and a refund have no reference
 unfoldable pub noReference : Test
-noReference r = r .kind is Payment || r .kind is Refund implies r .reference is 0
+noReference r = r .kind is KindPayment || r .kind is KindRefund implies r .reference is 0
 
 -- ---- a row and the day
 
@@ -65,8 +65,8 @@ dueFits today L r = dueWithin today (today + L) r
 -- stage 4, after hold start"
 unfoldable pub holdFits : ℕ → ℕ → Test
 holdFits today L r = toll r implies
-    cond (r .dispute is Held)
-    (leb 1 (r .hold) && leb today (r .hold + 29) && leb (r .hold) today && unsettled r
+    cond (r .dispute is DisputeHeld)
+    (leb 1 (r .hold) && leb today (r .hold + Limits.mostHeldDays) && leb (r .hold) today && unsettled r
     && leb (r .due) (r .hold + L) && (ltb (r .mark) LastStage implies ltb (r .hold) (r .due)))
     (r .hold is 0)
 
@@ -74,7 +74,7 @@ holdFits today L r = toll r implies
 
 -- "rows name used accounts"
 unfoldable pub accountUsed : List Account → Test
-accountUsed xs r = not (accountNo xs (r .account) .state is Unused)
+accountUsed xs r = not (accountNo xs (r .account) .state is StateUnused)
 
 -- the reference of row number n is a row of the kind, "in an earlier row of the same account"
 unfoldable pub names : List Row → ℕ → Row → ℕ → Bool
@@ -84,9 +84,9 @@ names rows n r kind = ltb (r .reference) n && rowNo rows (r .reference) .kind is
 -- credit its toll row"
 unfoldable pub referenceFits : List Row → ℕ → Test
 referenceFits rows n r =
-    (r .kind is Fee implies names rows n r Toll || names rows n r Payment)
-    && (r .kind is Reversal implies names rows n r Payment)
-    && (r .kind is Credit implies names rows n r Toll)
+    (r .kind is KindFee implies names rows n r KindToll || names rows n r KindPayment)
+    && (r .kind is KindReversal implies names rows n r KindPayment)
+    && (r .kind is KindCredit implies names rows n r KindToll)
 
 -- "passage numbers differ": each stands once
 unfoldable pub passage : ℕ → Test
@@ -115,22 +115,22 @@ AccountTest = Account → Bool
 
 -- "state (0 unused, 1 open, 2 pending to close, 3 closed)"
 unfoldable pub stateFits : AccountTest
-stateFits x = leb (x .state) Closed
+stateFits x = leb (x .state) StateClosed
 
 -- "unused accounts are all 0"
 unfoldable pub unusedZero : AccountTest
-unusedZero x = x .state is Unused implies
+unusedZero x = x .state is StateUnused implies
     x .request is 0 && x .returned is 0 && x .threshold is 0 && x .topup is 0 && x .declines is 0 && x .declined is 0
 
 -- "request day is 0 in state 1, in 2 and 3 from 1 to today"
 unfoldable pub requestFits : ℕ → AccountTest
-requestFits today x = (x .state is Open implies x .request is 0) && (leb Pending (x .state) implies x .request from 1 to today)
+requestFits today x = (x .state is StateOpen implies x .request is 0) && (leb StatePending (x .state) implies x .request from 1 to today)
 
 -- "threshold and top-up amount lie in 0 to 1,000,000, declines in 0 to 2, .. declines and last decline 0 together, all four 0 where
 -- the amount is 0"
-unfoldable pub topUpFits : AccountTest
-topUpFits x =
-    leb (x .threshold) Limits.highestTopUp && leb (x .topup) Limits.highestTopUp && leb (x .declines) Limits.mostDeclines
+unfoldable pub topupFits : AccountTest
+topupFits x =
+    leb (x .threshold) Limits.highestTopup && leb (x .topup) Limits.highestTopup && leb (x .declines) Limits.mostDeclines
     && (x .declines is 0 implies x .declined is 0) && (x .declined is 0 implies x .declines is 0)
     && (x .topup is 0 implies x .threshold is 0 && x .declines is 0)
 
@@ -142,29 +142,29 @@ declineFits today x = leb (x .declined) today
 
 -- "returned checks = its payments with mark 4"
 unfoldable pub returnedOf : ℕ → Test
-returnedOf n r = r .account is n && r .kind is Payment && r .mark is CheckReturned
+returnedOf n r = r .account is n && r .kind is KindPayment && r .mark is MethodCheckReturned
 
 -- "returned checks = its payments with mark 4"
 unfoldable pub returnedFits : List Row → ℕ → AccountTest
 returnedFits rows n x = x .returned is count (returnedOf n) rows
 
 -- "used sources = settled debits"
-unfoldable pub even : List Row → ℕ → Bool
-even rows n = used n rows is paid n rows
+unfoldable pub usedIsPaid : List Row → ℕ → Bool
+usedIsPaid rows n = used n rows is paid n rows
 
 -- "no unused source beside an unsettled unheld debit"
-unfoldable pub spent : List Row → ℕ → Bool
-spent rows n = money n rows is 0 || debt n rows is 0
+unfoldable pub noIdleMoney : List Row → ℕ → Bool
+noIdleMoney rows n = money n rows is 0 || debt n rows is 0
 
 -- "in state 3 nothing unused or unsettled"
 unfoldable pub closedClear : List Row → ℕ → AccountTest
-closedClear rows n x = x .state is Closed implies money n rows is 0 && owed n rows is 0
+closedClear rows n x = x .state is StateClosed implies money n rows is 0 && owed n rows is 0
 
 -- every clause about account number n
 unfoldable pub accountSound : Book → ℕ → Account → Bool
 accountSound b n x = allOf
-    (stateFits x ∷ unusedZero x ∷ requestFits (b .day) x ∷ topUpFits x ∷ declineFits (b .day) x
-    ∷ returnedFits (b .rows) n x ∷ even (b .rows) n ∷ spent (b .rows) n ∷ closedClear (b .rows) n x ∷ [])
+    (stateFits x ∷ unusedZero x ∷ requestFits (b .day) x ∷ topupFits x ∷ declineFits (b .day) x
+    ∷ returnedFits (b .rows) n x ∷ usedIsPaid (b .rows) n ∷ noIdleMoney (b .rows) n ∷ closedClear (b .rows) n x ∷ [])
 
 -- ---- the book
 

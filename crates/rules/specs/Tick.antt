@@ -6,11 +6,11 @@ use lib.Dec.{leb, ltb}
 use Rattle.records.specs.AccountOperations.{closed}
 use Rattle.lists.specs.Tests.{_is_}
 use Rattle.lists.specs.Lists.{exists, count, one, gather, change}
-use Rattle.rules.specs.Limits.{holdDays, closingDays}
+use Rattle.records.specs.Limits.{holdDays, closingDays}
 use Rattle.rules.specs.Schedule.{Schedule, stageFee}
-use Rattle.rules.specs.Rows.{Row, Fee, Refund, LastStage, Test, newRow, withMark, withDue, withReference, toll, heldToll, unsettled, source, debitOf, settleWhole}
+use Rattle.rules.specs.Rows.{Row, KindFee, KindRefund, LastStage, Test, newRow, withMark, withDue, withReference, toll, heldToll, unsettled, source, debitOf, settleWhole}
 use Rattle.rules.specs.Settlement.{money}
-use Rattle.rules.specs.Book.{Account, Pending, Book, withDay, withAccounts, withRows, account, settled}
+use Rattle.rules.specs.Book.{Account, StatePending, Book, withDay, withAccounts, withRows, account, settled}
 use Rattle.rules.specs.Events.{Change, release}
 
 -- ---- "the day rises by 1"
@@ -51,7 +51,7 @@ raise s today r = cond (rises today r) (withDue (r .due + s .stage) (withMark (r
 -- "and from stage 2 a nonzero fee row naming it is added": n is the toll's row number
 unfoldable pub feeRow : Schedule → ℕ → ℕ → Row → List Row
 feeRow s today n r =
-    one (rises today r && ltb 0 (stageFee s (r .mark + 1))) (withReference n (newRow Fee (r .account) today (stageFee s (r .mark + 1))))
+    one (rises today r && ltb 0 (stageFee s (r .mark + 1))) (withReference n (newRow KindFee (r .account) today (stageFee s (r .mark + 1))))
 
 -- tolls raised, and their fee rows added in row order
 unfoldable pub raiseTolls : Book → Book
@@ -66,7 +66,7 @@ raisedBy b = count (rises (beforeRaising b .day)) (beforeRaising b .rows)
 
 -- such an account
 unfoldable pub closes : Book → ℕ → Account → Bool
-closes b n x = x .state is Pending && leb (x .request + closingDays) (b .day) && not (exists (λ r. debitOf n r && unsettled r) (b .rows))
+closes b n x = x .state is StatePending && leb (x .request + closingDays) (b .day) && not (exists (λ r. debitOf n r && unsettled r) (b .rows))
 
 -- the account after the closings
 unfoldable pub closeIf : Book → ℕ → Account → Account
@@ -74,7 +74,7 @@ closeIf b n x = cond (closes b n x) (closed x) x
 
 -- "any unused money leaving as one refund row", which "is settled whole"
 unfoldable pub refundRow : Book → ℕ → Account → List Row
-refundRow b n x = one (closes b n x && ltb 0 (money n (b .rows))) (settleWhole (newRow Refund n (b .day) (money n (b .rows))))
+refundRow b n x = one (closes b n x && ltb 0 (money n (b .rows))) (settleWhole (newRow KindRefund n (b .day) (money n (b .rows))))
 
 -- its sources are used whole
 unfoldable pub useUp : Book → Row → Row

@@ -94,7 +94,7 @@ transfer-pay a rows i j m hi zi li hj zj lj =
     (rw (take-allocate, other-allocate s u remaining (source-payable rows a) (payable-steady rows a)) zj)
     (rw (remaining-allocate-at s u (source-payable rows a) (payable-steady rows a) m rows j) lj)))
 
--- one turn of the loop, at row i and row j: what source i has and debit j wants, the less of the two, changes hands
+-- one turn of the loop, at row i and row j: what source i has and debit j wants, the minus of the two, changes hands
 pub paying-transfer : (a : ℕ) (old rows : List Row) (i j p m : ℕ) → Paying a old rows i j p
     → i < length rows → m ≤ only (sourceOf a) remaining (getD rows i blank)
     → j < length rows → m ≤ only (payable old a) remaining (getD rows j blank)

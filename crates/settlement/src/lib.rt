@@ -1,5 +1,5 @@
 // The settlement of one account over the journal: unused sources in row order pay unsettled unheld debits in row order, until either side
-// is spent. Uses lists, records, rules, tables, table_rows and row_tests.
+// is spent.
 use row_tests::is_debit;
 use row_tests::is_held;
 use row_tests::is_source;
@@ -35,7 +35,8 @@ fn unused(journal: &[i64], i: usize, account: u64) -> u64
 // What row i wants as a debit of the account that is not held; the account is read first here too.
 fn wanted(journal: &[i64], used: usize, i: usize, account: u64) -> u64
     requires { ⌜ (used * rowWidth ≤ length (now journal)) × (i < used) ⌝ }
-    ensures { λ n. ⌜ n ≡ only (payable (rowsOf (now (journal .entry)) used) account) remaining (rowAt (now (journal .entry)) i) ⌝ }
+    ensures { λ n. ⌜ n
+        ≡ only (payable (rowsOf (now (journal .entry)) used) account) remaining (rowAt (now (journal .entry)) i) ⌝ }
 {
     if account_at(journal, i) != account {
         return 0;

@@ -1,28 +1,27 @@
-// The clauses of soundness on an account by itself. Each test returns at once, as those on rows do. Uses lists, records, rules, tables and
-// sound_header.
+// The clauses of soundness on an account by itself. Each test returns at once, as those on rows do.
 use records::Account;
+use records::codes::STATE_CLOSED;
+use records::codes::STATE_OPEN;
+use records::codes::STATE_PENDING;
+use records::codes::STATE_UNUSED;
+use records::limits::HIGHEST_TOPUP;
+use records::limits::MOST_DECLINES;
 use sound_header::tests::between;
 use sound_header::tests::implies;
-use tables::codes::CLOSED;
-use tables::codes::OPEN;
-use tables::codes::PENDING;
-use tables::codes::UNUSED;
-use tables::limits::HIGHEST_TOP_UP;
-use tables::limits::MOST_DECLINES;
 ghost use mathlib.Core.Path.{_≡_};
-ghost use Rattle.rules.specs.Soundness.{stateFits, unusedZero, requestFits, topUpFits, declineFits};
+ghost use Rattle.rules.specs.Soundness.{stateFits, unusedZero, requestFits, topupFits, declineFits};
 ghost use Rattle.sound_accounts.specs.Alone.{accountAlone};
 
 fn state_fits(x: Account) -> bool
     ensures { λ b. ⌜ b ≡ stateFits x ⌝ }
 {
-    x.state <= CLOSED
+    x.state <= STATE_CLOSED
 }
 
 fn unused_zero(x: Account) -> bool
     ensures { λ b. ⌜ b ≡ unusedZero x ⌝ }
 {
-    if x.state != UNUSED {
+    if x.state != STATE_UNUSED {
         return true;
     }
     (x.request == 0)
@@ -36,20 +35,20 @@ fn unused_zero(x: Account) -> bool
 fn request_fits(today: u64, x: Account) -> bool
     ensures { λ b. ⌜ b ≡ requestFits today x ⌝ }
 {
-    if x.state == OPEN {
+    if x.state == STATE_OPEN {
         return x.request == 0;
     }
-    if x.state < PENDING {
+    if x.state < STATE_PENDING {
         return true;
     }
     between(1, x.request, today)
 }
 
-fn top_up_fits(x: Account) -> bool
-    ensures { λ b. ⌜ b ≡ topUpFits x ⌝ }
+fn topup_fits(x: Account) -> bool
+    ensures { λ b. ⌜ b ≡ topupFits x ⌝ }
 {
-    let within = (x.threshold <= HIGHEST_TOP_UP)
-        & (x.topup <= HIGHEST_TOP_UP)
+    let within = (x.threshold <= HIGHEST_TOPUP)
+        & (x.topup <= HIGHEST_TOPUP)
         & (x.declines <= MOST_DECLINES);
     let together = within
         & implies(x.declines == 0, x.declined == 0)
@@ -76,7 +75,7 @@ pub fn account_alone(today: u64, x: Account) -> bool
     if !request_fits(today, x) {
         return false;
     }
-    if !top_up_fits(x) {
+    if !topup_fits(x) {
         return false;
     }
     decline_fits(today, x)

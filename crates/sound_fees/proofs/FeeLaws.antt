@@ -15,21 +15,21 @@ use Rattle.lists.specs.Lists.{sumBy, count, tabulate}
 use Rattle.lists.proofs.ListLaws.{every-tabulate, every-fails, numbered-at, zeros}
 use Rattle.lists.proofs.SumLaws.{sumBy-more}
 use Rattle.records.specs.Encoding.{rowAt, rowsOf}
-use Rattle.rules.specs.Rows.{Row, Fee, toll, feeNaming, rowNo, blank}
+use Rattle.rules.specs.Rows.{Row, KindFee, toll, feeNaming, rowNo, blank}
 use Rattle.rules.specs.Soundness.{feesFit}
 use Rattle.account_sums.specs.Tallies.{Tallied}
-use Rattle.sound_fees.specs.Fees.{feesFew, feeOf, feesWithin, Counted}
+use Rattle.sound_fees.specs.Fees.{feesFew, feeOf, feesWithin, FeesCounted}
 use Rattle.account_sums.proofs.TallyLaws.{tallied-none, tallied-skip, tallied-add, tallied-small}
 
-not-fee : (n : ℕ) (r : Row) → (r .kind ≡ Fee → ⊥) → feeOf n r ≡ 0
+not-fee : (n : ℕ) (r : Row) → (r .kind ≡ KindFee → ⊥) → feeOf n r ≡ 0
 unfolding feeOf feeNaming
 not-fee n r q = simp (ne-eqb _ _ q)
 
-not-named : (n : ℕ) (r : Row) → r .kind ≡ Fee → (r .reference ≡ n → ⊥) → feeOf n r ≡ 0
+not-named : (n : ℕ) (r : Row) → r .kind ≡ KindFee → (r .reference ≡ n → ⊥) → feeOf n r ≡ 0
 unfolding feeOf feeNaming
 not-named n r p q = simp (eq-eqb _ _ p, ne-eqb _ _ q)
 
-named : (r : Row) → r .kind ≡ Fee → feeOf (r .reference) r ≡ 1
+named : (r : Row) → r .kind ≡ KindFee → feeOf (r .reference) r ≡ 1
 unfolding feeOf feeNaming
 named r p = simp (eq-eqb _ _ p, eq-eqb (r .reference) (r .reference) refl)
 
@@ -84,23 +84,23 @@ sum-longer : (f : Row → ℕ) (g : ℕ → Row) (n d : ℕ) → sumBy f (tabula
 sum-longer f g n zero = let e : n + zero ≡ n = omega arith in rw e (omega arith)
 sum-longer f g n (suc d) = let e : n + suc d ≡ n + d + 1 = omega arith in rw e (omega (arith, sum-longer f g n d, sumBy-more f g (n + d)))
 
-pub counted-none : (space : ℕ) (t : List ℤ) (a : ℕ) → a ≡ space + 1 → Counted space t (replicate a 0) 0
+pub counted-none : (space : ℕ) (t : List ℤ) (a : ℕ) → a ≡ space + 1 → FeesCounted space t (replicate a 0) 0
 counted-none space t a e = record { tallied = rw (← e) (tallied-none feeOf a t); within = λ k. rw (zeros a (k + 1)) (fees-none (rowAt t k)) }
 
-module _ (space : ℕ) (t : List ℤ) (xs : List ℕ) (i : ℕ) (s : Counted space t xs i) where
+module _ (space : ℕ) (t : List ℤ) (xs : List ℕ) (i : ℕ) (s : FeesCounted space t xs i) where
   -- a row that is no fee
-  pub counted-skip : (rowAt t i .kind ≡ Fee → ⊥) → Counted space t xs (i + 1)
+  pub counted-skip : (rowAt t i .kind ≡ KindFee → ⊥) → FeesCounted space t xs (i + 1)
   counted-skip q = record { tallied = tallied-skip feeOf (space + 1) t xs i (s .tallied) (λ n b. not-fee n _ q); within = s .within }
 
   pub counts-fit : (n : ℕ) → n ≤ space → i < 8192 → getD xs n 0 < 8192
   counts-fit n b d = omega (arith, tallied-small feeOf (space + 1) t 1 xs i n (s .tallied) (omega arith) (λ k q. fee-le n (rowAt t k)))
 
   -- a fee that names row number n of the used ones
-  module _ (used n : ℕ) (p : rowAt t i .kind ≡ Fee) (e : n ≡ rowAt t i .reference) (b : n ≤ used) (h : used ≤ space) where
+  module _ (used n : ℕ) (p : rowAt t i .kind ≡ KindFee) (e : n ≡ rowAt t i .reference) (b : n ≤ used) (h : used ≤ space) where
     tallied-fee : Tallied feeOf (space + 1) t (set xs n (getD xs n 0 + 1)) (i + 1)
     tallied-fee = tallied-add feeOf (space + 1) t xs i n 1 (s .tallied) (omega arith) (rw e (sym (named _ p))) (λ m q. not-named m _ p (λ w. q (sym w ∙ sym e)))
 
-    pub counted-fee : feesWithin (getD xs n 0 + 1) (rowNo (rowsOf t used) n) ≡ true → Counted space t (set xs n (getD xs n 0 + 1)) (i + 1)
+    pub counted-fee : feesWithin (getD xs n 0 + 1) (rowNo (rowsOf t used) n) ≡ true → FeesCounted space t (set xs n (getD xs n 0 + 1)) (i + 1)
     counted-fee f =
         record {
           tallied = tallied-fee;
@@ -129,7 +129,7 @@ module _ (space : ℕ) (t : List ℤ) (xs : List ℕ) (i : ℕ) (s : Counted spa
         ]
 
 -- all counted: none has too many
-pub fees-few : (space : ℕ) (t : List ℤ) (xs : List ℕ) (used : ℕ) → used ≤ space → Counted space t xs used → feesFew (rowsOf t used) ≡ true
+pub fees-few : (space : ℕ) (t : List ℤ) (xs : List ℕ) (used : ℕ) → used ≤ space → FeesCounted space t xs used → feesFew (rowsOf t used) ≡ true
 unfolding feesFew
 fees-few space t xs used h s =
     every-tabulate (feesFit (rowsOf t used)) (rowAt t) used (λ k b. rw (fits-within (rowsOf t used) (k + 1) (rowAt t k), ← s .tallied .each (k + 1) (omega arith)) (s .within k))

@@ -25,7 +25,7 @@ unfoldable pub feesWithin : ℕ → Row → Bool
 feesWithin c r = toll r implies leb c (r .mark - 1)
 
 -- the fees among the first i rows, by the row that each names, of as many as there is space for; none has too many
-pub record Counted (space : ℕ) (t : List ℤ) (counts : List ℕ) (i : ℕ) : Type 0 where
+pub record FeesCounted (space : ℕ) (t : List ℤ) (counts : List ℕ) (i : ℕ) : Type 0 where
   pub tallied : Tallied feeOf (space + 1) t counts i
   pub within : (k : ℕ) → feesWithin (getD counts (k + 1) 0) (rowAt t k) ≡ true
 

@@ -1,12 +1,12 @@
-// "A toll of stage k is named by at most k - 1 fees": the fees that name each row are counted as they come, and one too many is refused at
-// once. Uses lists, records, rules, tables, sound_header and account_sums.
+// "A toll of stage k is named by at most k - 1 fees": the fees that name each row are counted as they come, and one too many is refused
+// at once.
 use records::Row;
+use records::codes::KIND_TOLL;
 use sound_header::tests::implies;
-use tables::codes::TOLL;
 ghost use mathlib.Core.Path.{_≡_};
 ghost use Prim.Native.Nat.{_<_};
 ghost use lib.ListN.{length, getD};
-ghost use Rattle.rules.specs.Limits.{mostRows};
+ghost use Rattle.records.specs.Limits.{mostRows};
 ghost use Rattle.sound_fees.specs.Fees.{CountsOne};
 
 fn wide(x: u16) -> u64
@@ -22,5 +22,5 @@ pub fn count_fee(counts: &mut [u16], n: usize, named: Row) -> bool
 {
     let c = counts[n] + 1;
     counts[n] = c;
-    implies(named.kind == TOLL, wide(c) < named.mark)
+    implies(named.kind == KIND_TOLL, wide(c) < named.mark)
 }

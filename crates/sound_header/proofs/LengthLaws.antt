@@ -10,7 +10,7 @@ use borrow.Author.Tests.{eqb-true}
 use Rattle.lists.specs.Tests.{_is_, _from_to_}
 use Rattle.lists.proofs.TestLaws.{and-left, and-right}
 use Rattle.records.specs.Layout.{headerWidth, accountWidth, rowWidth}
-use Rattle.rules.specs.Limits.{mostAccounts, mostRows}
+use Rattle.records.specs.Limits.{mostAccounts, mostRows}
 use Rattle.rules.specs.Opening.{sizesFit}
 use Rattle.rules.specs.Tables.{wholeRecords, lengthsFit}
 use Rattle.rules.proofs.StorableLaws.{between-le}
@@ -20,7 +20,7 @@ pub record Lengths (header accounts journal : List ℤ) : Type 0 where
   pub words : length header ≡ headerWidth
   pub wholeAccounts : length accounts / accountWidth * accountWidth ≡ length accounts
   pub wholeRows : length journal / rowWidth * rowWidth ≡ length journal
-  pub seats : length accounts / accountWidth ≤ mostAccounts
+  pub slots : length accounts / accountWidth ≤ mostAccounts
   pub room : length journal / rowWidth ≤ mostRows
 
 module _ (h a j : List ℤ) (e : lengthsFit (tablesAt h a j) ≡ true) where
@@ -33,8 +33,8 @@ module _ (h a j : List ℤ) (e : lengthsFit (tablesAt h a j) ≡ true) where
   abbrev journal-part : Bool
   journal-part = length j % rowWidth is 0
 
-  abbrev seats-part : Bool
-  seats-part = length a / accountWidth from 1 to mostAccounts
+  abbrev slots-part : Bool
+  slots-part = length a / accountWidth from 1 to mostAccounts
 
   abbrev room-part : Bool
   room-part = length j / rowWidth from 1 to mostRows
@@ -42,14 +42,14 @@ module _ (h a j : List ℤ) (e : lengthsFit (tablesAt h a j) ≡ true) where
   pub lengths-known : Lengths h a j
   unfolding lengthsFit wholeRecords sizesFit
   lengths-known =
-      let w : header-part && accounts-part && journal-part ≡ true = and-left (header-part && accounts-part && journal-part) (seats-part && room-part) e in
-      let s : seats-part && room-part ≡ true = and-right (header-part && accounts-part && journal-part) (seats-part && room-part) e in
+      let w : header-part && accounts-part && journal-part ≡ true = and-left (header-part && accounts-part && journal-part) (slots-part && room-part) e in
+      let s : slots-part && room-part ≡ true = and-right (header-part && accounts-part && journal-part) (slots-part && room-part) e in
       let x : length a % accountWidth ≡ 0 = eqb-true _ _ (and-right header-part accounts-part (and-left (header-part && accounts-part) journal-part w)) in
       let y : length j % rowWidth ≡ 0 = eqb-true _ _ (and-right (header-part && accounts-part) journal-part w) in
       record {
         words = eqb-true _ _ (and-left header-part accounts-part (and-left (header-part && accounts-part) journal-part w));
         wholeAccounts = omega arith;
         wholeRows = omega arith;
-        seats = between-le 1 mostAccounts (length a / accountWidth) (and-left seats-part room-part s);
-        room = between-le 1 mostRows (length j / rowWidth) (and-right seats-part room-part s);
+        slots = between-le 1 mostAccounts (length a / accountWidth) (and-left slots-part room-part s);
+        room = between-le 1 mostRows (length j / rowWidth) (and-right slots-part room-part s);
       }

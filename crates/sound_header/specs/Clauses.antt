@@ -10,7 +10,7 @@ use Rattle.lists.specs.Tests.{allOf}
 use Rattle.lists.specs.Lists.{every}
 use Rattle.records.specs.Layout.{rowWidth, accountWidth}
 use Rattle.records.specs.Encoding.{rowsOf, accountsOf}
-use Rattle.rules.specs.Limits.{finalDay, longestStage, mostAccounts, mostRows}
+use Rattle.records.specs.Limits.{finalDay, longestStage, mostAccounts, mostRows}
 use Rattle.rules.specs.Rows.{Row}
 use Rattle.rules.specs.Book.{Account}
 use Rattle.rules.specs.Soundness.{kindFits, amountFits, settledFits, markFits, tollWordsFit, noReference, rowDayFits, dueFits, holdFits, accountUsed, referenceFits}
@@ -27,26 +27,26 @@ unfoldable pub rowAlone : ℕ → ℕ → Row → Bool
 rowAlone today L r = allOf (kindFits r ∷ amountFits r ∷ settledFits r ∷ ownWords today L r ∷ [])
 
 -- and with the account and the row that it names
-unfoldable pub rowStands : List Account → List Row → ℕ → ℕ → ℕ → Row → Bool
-rowStands xs rows today L n r = allOf (rowAlone today L r ∷ accountUsed xs r ∷ referenceFits rows n r ∷ [])
+unfoldable pub rowPasses : List Account → List Row → ℕ → ℕ → ℕ → Row → Bool
+rowPasses xs rows today L n r = allOf (rowAlone today L r ∷ accountUsed xs r ∷ referenceFits rows n r ∷ [])
 
 unfoldable pub rowsStand : List Account → List Row → ℕ → ℕ → Bool
-rowsStand xs rows today L = every (rowStands xs rows today L) rows
+rowsStand xs rows today L = every (rowPasses xs rows today L) rows
 
 -- a row numbered n as the tables' accounts, rows and header have it stand
-abbrev pub standsIn : List ℤ → List ℤ → Frame → ℕ → Row → Bool
-standsIn accounts journal f n r = rowStands (accountsOf accounts (f .count)) (rowsOf journal (f .used)) (f .today) (f .stage) n r
+abbrev pub passesIn : List ℤ → List ℤ → Frame → ℕ → Row → Bool
+passesIn accounts journal f n r = rowPasses (accountsOf accounts (f .count)) (rowsOf journal (f .used)) (f .today) (f .stage) n r
 
 -- b says whether r stands, whatever the rows are and its number among them: it refers to none
-abbrev pub StandsAnywhere : List ℤ → Frame → Row → Bool → Type 0
-StandsAnywhere accounts f r b = (rows : List Row) (n : ℕ) → b ≡ rowStands (accountsOf accounts (f .count)) rows (f .today) (f .stage) n r
+abbrev pub PassesAnywhere : List ℤ → Frame → Row → Bool → Type 0
+PassesAnywhere accounts f r b = (rows : List Row) (n : ℕ) → b ≡ rowPasses (accountsOf accounts (f .count)) rows (f .today) (f .stage) n r
 
 -- what the lengths and the header have shown before any row is read
 pub record Bounds (accounts journal : List ℤ) (f : Frame) : Type 0 where
   pub room : f .used * rowWidth ≤ length journal
   pub few : f .used ≤ mostRows
   pub held : f .used ≤ f .space
-  pub seats : f .count * accountWidth ≤ length accounts
+  pub slots : f .count * accountWidth ≤ length accounts
   pub fewer : f .count ≤ mostAccounts
   pub day : f .today ≤ finalDay
   pub length : f .stage ≤ longestStage

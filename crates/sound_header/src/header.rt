@@ -1,24 +1,24 @@
 // The lengths of the tables and the header's words.
 use super::tests::between;
-use tables::layout::ACCOUNT_WIDTH;
-use tables::layout::FEE2_PLACE;
-use tables::layout::FEE3_PLACE;
-use tables::layout::FEE4_PLACE;
-use tables::layout::HEADER_WIDTH;
-use tables::layout::PLATE1_PLACE;
-use tables::layout::PLATE2_PLACE;
-use tables::layout::PLATE3_PLACE;
-use tables::layout::ROW_WIDTH;
-use tables::layout::STAGE_PLACE;
-use tables::layout::TAG1_PLACE;
-use tables::layout::TAG2_PLACE;
-use tables::layout::TAG3_PLACE;
-use tables::limits::FINAL_DAY;
-use tables::limits::HIGHEST_FEE;
-use tables::limits::HIGHEST_RATE;
-use tables::limits::LONGEST_STAGE;
-use tables::limits::MOST_ACCOUNTS;
-use tables::limits::MOST_ROWS;
+use records::layout::ACCOUNT_WIDTH;
+use records::layout::FEE2_PLACE;
+use records::layout::FEE3_PLACE;
+use records::layout::FEE4_PLACE;
+use records::layout::HEADER_WIDTH;
+use records::layout::PLATE1_PLACE;
+use records::layout::PLATE2_PLACE;
+use records::layout::PLATE3_PLACE;
+use records::layout::ROW_WIDTH;
+use records::layout::STAGE_PLACE;
+use records::layout::TAG1_PLACE;
+use records::layout::TAG2_PLACE;
+use records::layout::TAG3_PLACE;
+use records::limits::FINAL_DAY;
+use records::limits::HIGHEST_FEE;
+use records::limits::HIGHEST_RATE;
+use records::limits::LONGEST_STAGE;
+use records::limits::MOST_ACCOUNTS;
+use records::limits::MOST_ROWS;
 use tables::words::get;
 ghost use mathlib.Core.Path.{_≡_};
 ghost use Prim.Native.Nat.{_+_, _≤_, _<_};
@@ -26,11 +26,12 @@ ghost use lib.ListN.{length};
 ghost use lib.Dec.{leb};
 ghost use Rattle.lists.specs.Tests.{_from_to_};
 ghost use Rattle.records.specs.Encoding.{word};
-ghost use Rattle.rules.specs.Limits.{highestFee, highestRate};
+ghost use Rattle.records.specs.Limits.{highestFee, highestRate};
 ghost use Rattle.rules.specs.Opening.{dayFits, sizesFit};
 ghost use Rattle.rules.specs.Schedule.{ratesFit, scheduleFits};
 ghost use Rattle.rules.specs.Tables.{scheduleFrom, lengthsFit};
 ghost use Rattle.sound_header.specs.Clauses.{tablesAt, ScheduleIn};
+ghost use Rattle.rules.specs.Lent.{atEntry};
 
 pub fn day_fits(day: u64) -> bool
     ensures { λ b. ⌜ b ≡ dayFits day ⌝ }
@@ -46,7 +47,7 @@ pub fn sizes_fit(count: usize, room: usize) -> bool
 
 // "The lengths are exactly those above": no word over, and neither too few nor too many records.
 pub fn lengths_fit(header: &[i64], accounts: &[i64], journal: &[i64]) -> bool
-    ensures { λ b. ⌜ b ≡ lengthsFit (tablesAt (now (header .entry)) (now (accounts .entry)) (now (journal .entry))) ⌝ }
+    ensures { λ b. ⌜ b ≡ lengthsFit (atEntry header accounts journal) ⌝ }
 {
     let whole = (header.len() == HEADER_WIDTH)
         & (accounts.len() % ACCOUNT_WIDTH == 0)

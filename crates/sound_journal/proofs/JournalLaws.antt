@@ -16,8 +16,8 @@ use Rattle.lists.specs.Lists.{everyFrom, tabulate}
 use Rattle.lists.proofs.ListLaws.{tabulate-getD, length-tabulate}
 use Rattle.records.specs.Layout.{rowWidth}
 use Rattle.records.specs.Encoding.{word, rowFrom, rowAt, rowsOf, accountAt, accountsOf, StorableRow}
-use Rattle.rules.specs.Limits.{finalDay, longestStage, mostAccounts, mostRows}
-use Rattle.rules.specs.Rows.{Row, Toll, Fee, Reversal, Payment, Credit, rowNo}
+use Rattle.records.specs.Limits.{finalDay, longestStage, mostAccounts, mostRows}
+use Rattle.rules.specs.Rows.{Row, KindToll, KindFee, KindReversal, KindPayment, KindCredit, rowNo}
 use Rattle.rules.specs.Book.{Account}
 use Rattle.rules.specs.Soundness.{kindFits, amountFits, settledFits, markFits, tollWordsFit, noReference, rowDayFits, dueFits, holdFits, accountUsed, names, referenceFits}
 use Rattle.rules.proofs.StorableLaws.{between-le, used-inside, amount-le, settled-le, mark-le, due-le, dispute-le, hold-le, reference-le}
@@ -26,7 +26,7 @@ use Rattle.tables.specs.Changes.{RowIn}
 use Rattle.plain_rows.specs.Alike.{AlikeRow}
 use Rattle.plain_rows.proofs.AlikeLaws.{alike-first, alike-test}
 use Rattle.sound_header.specs.declared.frame.Frame.{Frame}
-use Rattle.sound_header.specs.Clauses.{ownWords, rowAlone, rowStands, standsIn, Bounds, emptyRow, restZero}
+use Rattle.sound_header.specs.Clauses.{ownWords, rowAlone, rowPasses, passesIn, Bounds, emptyRow, restZero}
 
 -- ---- the row that is named
 
@@ -46,23 +46,23 @@ module _ (rows : List Row) (n : ℕ) (r : Row) (m : ℕ) where
 
 -- the clause on references, by the kind of the row that is named
 module _ (rows : List Row) (n : ℕ) (r : Row) (k : ℕ) (f : (m : ℕ) → m ≢ 0 → eqb k m ≡ names rows n r m) where
-  pub fits-fee : r .kind ≡ Fee → (eqb k Toll || eqb k Payment) ≡ referenceFits rows n r
+  pub fits-fee : r .kind ≡ KindFee → (eqb k KindToll || eqb k KindPayment) ≡ referenceFits rows n r
   unfolding referenceFits
   fits-fee e = simp (e, f 1 (λ q. omega arith), f 4 (λ q. omega arith), and-true)
 
-  pub fits-reversal : r .kind ≡ Reversal → eqb k Payment ≡ referenceFits rows n r
+  pub fits-reversal : r .kind ≡ KindReversal → eqb k KindPayment ≡ referenceFits rows n r
   unfolding referenceFits
   fits-reversal e = simp (e, f 4 (λ q. omega arith), and-true)
 
-  pub fits-credit : r .kind ≢ Fee → r .kind ≢ Reversal → (eqb (r .kind) Credit implies eqb k Toll) ≡ referenceFits rows n r
+  pub fits-credit : r .kind ≢ KindFee → r .kind ≢ KindReversal → (eqb (r .kind) KindCredit implies eqb k KindToll) ≡ referenceFits rows n r
   unfolding referenceFits
-  fits-credit a b = rw (f 1 (λ q. omega arith), ne-eqb (r .kind) Fee a, ne-eqb (r .kind) Reversal b)
+  fits-credit a b = rw (f 1 (λ q. omega arith), ne-eqb (r .kind) KindFee a, ne-eqb (r .kind) KindReversal b)
 
 -- ---- rows that pass have small words
 
 -- a row that stands
-pub stands-small : (xs : List Account) (rows : List Row) (today L n : ℕ) → today ≤ finalDay → L ≤ longestStage → length xs ≤ mostAccounts → n ≤ mostRows → (r : Row) → rowStands xs rows today L n r ≡ true → StorableRow r
-stands-small xs rows today L n d l a m r e =
+pub passes-small : (xs : List Account) (rows : List Row) (today L n : ℕ) → today ≤ finalDay → L ≤ longestStage → length xs ≤ mostAccounts → n ≤ mostRows → (r : Row) → rowPasses xs rows today L n r ≡ true → StorableRow r
+passes-small xs rows today L n d l a m r e =
     record {
       kind = unfold kindFits in omega (arith, between-le 1 6 (r .kind) (alone 0));
       account = unfold accountUsed in omega (arith, used-inside xs (r .account) (not-true _ (part 1)));
@@ -77,7 +77,7 @@ stands-small xs rows today L n d l a m r e =
     }
   where
     part : (i : ℕ) → getD (rowAlone today L r ∷ accountUsed xs r ∷ referenceFits rows n r ∷ []) i true ≡ true
-    part = unfold rowStands in allOf-at _ e
+    part = unfold rowPasses in allOf-at _ e
 
     alone : (i : ℕ) → getD (kindFits r ∷ amountFits r ∷ settledFits r ∷ ownWords today L r ∷ []) i true ≡ true
     alone = unfold rowAlone in allOf-at _ (part 0)
@@ -87,21 +87,21 @@ stands-small xs rows today L n d l a m r e =
 
 -- so it stands as it is read, and then it is the table's
 module _ (accounts journal : List ℤ) (f : Frame) (l : Bounds accounts journal f) (i : ℕ) (h : i < f .used) (r : Row) (a : AlikeRow r (rowAt journal i)) where
-  small-here : (s : Row) → standsIn accounts journal f (i + 1) s ≡ true → StorableRow s
-  small-here = stands-small (accountsOf accounts (f .count)) (rowsOf journal (f .used)) (f .today) (f .stage) (i + 1) (l .day) (l .length) (omega (arith, l .fewer, length-tabulate (accountAt accounts) (f .count))) (omega (arith, l .few))
+  small-here : (s : Row) → passesIn accounts journal f (i + 1) s ≡ true → StorableRow s
+  small-here = passes-small (accountsOf accounts (f .count)) (rowsOf journal (f .used)) (f .today) (f .stage) (i + 1) (l .day) (l .length) (omega (arith, l .fewer, length-tabulate (accountAt accounts) (f .count))) (omega (arith, l .few))
 
-  pub stands-alike : standsIn accounts journal f (i + 1) r ≡ standsIn accounts journal f (i + 1) (rowAt journal i)
-  stands-alike = alike-test (standsIn accounts journal f (i + 1)) small-here r (rowAt journal i) a
+  pub passes-alike : passesIn accounts journal f (i + 1) r ≡ passesIn accounts journal f (i + 1) (rowAt journal i)
+  passes-alike = alike-test (passesIn accounts journal f (i + 1)) small-here r (rowAt journal i) a
 
-  pub stands-same : standsIn accounts journal f (i + 1) r ≡ true → r ≡ rowAt journal i
-  stands-same e = alike-first r (rowAt journal i) a (small-here r e)
+  pub passes-same : passesIn accounts journal f (i + 1) r ≡ true → r ≡ rowAt journal i
+  passes-same e = alike-first r (rowAt journal i) a (small-here r e)
 
 -- a toll and a payment refer to no row
-pub toll-names-none : (rows : List Row) (n : ℕ) (r : Row) → r .kind ≡ Toll → referenceFits rows n r ≡ true
+pub toll-names-none : (rows : List Row) (n : ℕ) (r : Row) → r .kind ≡ KindToll → referenceFits rows n r ≡ true
 unfolding referenceFits
 toll-names-none rows n r e = rw e
 
-pub payment-names-none : (rows : List Row) (n : ℕ) (r : Row) → r .kind ≡ Payment → referenceFits rows n r ≡ true
+pub payment-names-none : (rows : List Row) (n : ℕ) (r : Row) → r .kind ≡ KindPayment → referenceFits rows n r ≡ true
 unfolding referenceFits
 payment-names-none rows n r e = rw e
 

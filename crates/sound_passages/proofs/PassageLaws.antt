@@ -13,16 +13,16 @@ use Rattle.lists.specs.Lists.{count}
 use Rattle.lists.proofs.ListLaws.{every-tabulate, every-fails}
 use Rattle.lists.proofs.SumLaws.{count-single, count-pair}
 use Rattle.records.specs.Encoding.{rowAt, rowsOf}
-use Rattle.rules.specs.Rows.{Row, Toll, toll}
+use Rattle.rules.specs.Rows.{Row, KindToll, toll}
 use Rattle.rules.specs.Soundness.{passage, passageOnce}
 use Rattle.sound_passages.specs.Trees.{passagesDiffer}
 use Rattle.sound_passages.specs.Trees.{IsToll, HasPassage}
 
-passage-hit : (p : ℕ) (r : Row) → r .kind ≡ Toll → r .reference ≡ p → passage p r ≡ true
+passage-hit : (p : ℕ) (r : Row) → r .kind ≡ KindToll → r .reference ≡ p → passage p r ≡ true
 unfolding passage
 passage-hit p r k e = simp (eq-eqb _ _ k, eq-eqb _ _ e)
 
-passage-miss : (p : ℕ) (r : Row) → (r .kind ≡ Toll → r .reference ≡ p → ⊥) → passage p r ≡ false
+passage-miss : (p : ℕ) (r : Row) → (r .kind ≡ KindToll → r .reference ≡ p → ⊥) → passage p r ≡ false
 unfolding passage
 passage-miss p r q = go (toll r) (r .reference is p) (λ a b. q (eqb-true _ _ a) (eqb-true _ _ b))
   where
@@ -57,4 +57,4 @@ unfolding passagesDiffer passageOnce
 clash-same t n j k h b a d e =
     let p : ℕ = rowAt t k .reference in
     let two : 2 ≤ count (passage p) (rowsOf t n) = count-pair (passage p) (rowAt t) n j k h b (passage-hit p (rowAt t j) a e) (passage-hit p (rowAt t k) d refl) in
-    every-fails _ (rowAt t) n k b (rw (eq-eqb (rowAt t k .kind) Toll d) (ne-eqb (count (passage p) (rowsOf t n)) 1 (λ w. omega arith)))
+    every-fails _ (rowAt t) n k b (rw (eq-eqb (rowAt t k .kind) KindToll d) (ne-eqb (count (passage p) (rowsOf t n)) 1 (λ w. omega arith)))

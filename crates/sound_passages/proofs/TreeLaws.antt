@@ -11,7 +11,7 @@ use lib.ListN.{length, getD, set, replicate, length-set, length-replicate}
 use lib.Seq.{getD-set-same, getD-set-other}
 use Rattle.lists.proofs.ListLaws.{zeros}
 use Rattle.records.specs.Encoding.{rowAt, rowsOf}
-use Rattle.rules.specs.Limits.{mostRows}
+use Rattle.records.specs.Limits.{mostRows}
 use Rattle.sound_passages.specs.Trees.{passagesDiffer}
 use Rattle.sound_passages.specs.Trees.{mixOf, rootOf, IsToll, HasPassage, Leads, here, next, Kept, TreesOf, CellFor}
 use Rattle.sound_passages.proofs.PassageLaws.{clash-same}

@@ -8,8 +8,8 @@ use lib.IntN.{ℤ}
 use lib.ListN.{length, getD}
 use Rattle.lists.specs.Lists.{every}
 use Rattle.records.specs.Encoding.{rowAt, rowsOf}
-use Rattle.rules.specs.Limits.{mostRows}
-use Rattle.rules.specs.Rows.{Row, Toll}
+use Rattle.records.specs.Limits.{mostRows}
+use Rattle.rules.specs.Rows.{Row, KindToll}
 use Rattle.rules.specs.Soundness.{passageOnce}
 
 -- "passage numbers differ"
@@ -22,7 +22,7 @@ mixOf p = p % 1_073_741_824 * 2_654_435_769 % 4_294_967_296
 
 -- row j is a toll, and one of passage x
 abbrev pub IsToll : List ℤ → ℕ → Type 0
-IsToll t j = rowAt t j .kind ≡ Toll
+IsToll t j = rowAt t j .kind ≡ KindToll
 
 abbrev pub HasPassage : List ℤ → ℕ → ℕ → Type 0
 HasPassage t j x = rowAt t j .reference ≡ x

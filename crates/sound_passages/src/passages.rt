@@ -1,9 +1,9 @@
 // "Passage numbers differ", in linear time, a row at a time: the tolls read so far stand in digital search trees, so that no choice of numbers makes
 // a way down longer than the bits that tell two numbers apart.
+use records::codes::KIND_TOLL;
+use records::limits::MOST_ROWS;
 use table_rows::kind_at;
 use table_rows::reference_at;
-use tables::codes::TOLL;
-use tables::limits::MOST_ROWS;
 ghost use mathlib.Core.Path.{_≡_};
 ghost use Prim.Native.Nat.{_+_, _*_, _≤_, _<_};
 ghost use lib.ListN.{length};
@@ -52,7 +52,11 @@ pub fn cell_for(journal: &[i64], cells: &[u16], space: usize, n: usize, x: u64) 
 
 // Row n, a toll of passage x, goes to its cell: false where an earlier toll has its passage number.
 pub fn insert_toll(journal: &[i64], cells: &mut [u16], space: usize, n: usize, x: u64) -> bool
-    requires { ⌜ RowIn (now journal) n × (n < space) × TreesOf space (now journal) (now cells) n × IsToll (now journal) n × HasPassage (now journal) n x ⌝ }
+    requires { ⌜ RowIn (now journal) n
+        × (n < space)
+        × TreesOf space (now journal) (now cells) n
+        × IsToll (now journal) n
+        × HasPassage (now journal) n x ⌝ }
     ensures { λ r. ⌜ Inserted space (now (journal .entry)) (now (cells .exit)) n r ⌝ }
 {
     let c = cell_for(journal, cells, space, n, x);
@@ -68,7 +72,7 @@ pub fn insert(journal: &[i64], cells: &mut [u16], space: usize, n: usize) -> boo
     requires { ⌜ RowIn (now journal) n × (n < space) × TreesOf space (now journal) (now cells) n ⌝ }
     ensures { λ r. ⌜ Inserted space (now (journal .entry)) (now (cells .exit)) n r ⌝ }
 {
-    if kind_at(journal, n) != TOLL {
+    if kind_at(journal, n) != KIND_TOLL {
         return true;
     }
     let x = reference_at(journal, n);

@@ -8,22 +8,22 @@ use lib.ListN.{getD}
 use Rattle.lists.specs.Lists.{count}
 use Rattle.lists.proofs.ListLaws.{every-ext-tabulate}
 use Rattle.records.specs.Encoding.{rowsOf, accountAt, accountsOf}
-use Rattle.rules.specs.Limits.{finalDay, mostRows, highestTopUp, mostDeclines}
+use Rattle.records.specs.Limits.{finalDay, mostRows, highestTopup, mostDeclines, slotCount}
 use Rattle.rules.specs.Settlement
 use Rattle.rules.specs.Book.{Account}
-use Rattle.rules.specs.Soundness.{stateFits, unusedZero, requestFits, topUpFits, declineFits}
+use Rattle.rules.specs.Soundness.{stateFits, unusedZero, requestFits, topupFits, declineFits}
 use Rattle.plain_rows.specs.Alike.{AlikeAccount}
 use Rattle.plain_rows.proofs.AlikeLaws.{alike-is, alike-most, alike-least}
 use Rattle.account_sums.specs.Tallies.{returnOf}
 use Rattle.account_sums.specs.Columns.{Low, Tallies}
 use Rattle.sound_accounts.specs.Alone.{accountAlone}
 use Rattle.sound_sums.specs.declared.accounts.Sums.{Sums}
-use Rattle.sound_sums.specs.Accounts.{sumsAgree, accountStands, sumsAt, sumsOf, allAgree, accountsStand}
+use Rattle.sound_sums.specs.Accounts.{sumsAgree, accountPasses, sumsAt, sumsOf, allAgree, accountsStand}
 
 -- each clause compares a word with a small number, which does not tell alike words apart
-pub stands-alike : (today : ℕ) (s : Sums) (x y : Account) → today ≤ finalDay → s .returned < 2 ^ 63 → AlikeAccount x y → accountStands today s x ≡ accountStands today s y
-unfolding accountStands accountAlone sumsAgree stateFits unusedZero requestFits topUpFits declineFits
-stands-alike today s x y d r w =
+pub passes-alike : (today : ℕ) (s : Sums) (x y : Account) → today ≤ finalDay → s .returned < 2 ^ 63 → AlikeAccount x y → accountPasses today s x ≡ accountPasses today s y
+unfolding accountPasses accountAlone sumsAgree stateFits unusedZero requestFits topupFits declineFits
+passes-alike today s x y d r w =
     let t : today < 2 ^ 63 = omega arith in
     rw (
       alike-is _ _ (w .state) 0 (omega arith),
@@ -37,9 +37,9 @@ stands-alike today s x y d r w =
       alike-is _ _ (w .returned) 0 (omega arith),
       alike-is _ _ (w .returned) (s .returned) r,
       alike-is _ _ (w .threshold) 0 (omega arith),
-      alike-most _ _ (w .threshold) highestTopUp (omega arith),
+      alike-most _ _ (w .threshold) highestTopup (omega arith),
       alike-is _ _ (w .topup) 0 (omega arith),
-      alike-most _ _ (w .topup) highestTopUp (omega arith),
+      alike-most _ _ (w .topup) highestTopup (omega arith),
       alike-is _ _ (w .declines) 0 (omega arith),
       alike-most _ _ (w .declines) mostDeclines (omega arith),
       alike-is _ _ (w .declined) 0 (omega arith),
@@ -52,7 +52,7 @@ unfolding sumsAt
 returned-small sums n low = omega (arith, low (n * 6))
 
 module _ (t : List ℤ) (n : ℕ) (sums : List ℕ) (w : Tallies t n sums n) where
-  sums-are : (k : ℕ) → k < 257 → sumsAt sums k ≡ sumsOf (rowsOf t n) k
+  sums-are : (k : ℕ) → k < slotCount → sumsAt sums k ≡ sumsOf (rowsOf t n) k
   unfolding sumsAt sumsOf count returnOf Settlement.money Settlement.debt Settlement.used Settlement.paid Settlement.owed
   sums-are k h =
       let z : k * 6 ≡ k * 6 + 0 = omega arith in

@@ -8,7 +8,7 @@ use Rattle.lists.specs.Tests.{_is_, _implies_, allOf}
 use Rattle.lists.specs.Lists.{count, every}
 use Rattle.rules.specs.Rows.{Row}
 use Rattle.rules.specs.Settlement.{money, debt, used, paid, owed}
-use Rattle.rules.specs.Book.{Account, Closed}
+use Rattle.rules.specs.Book.{Account, StateClosed}
 use Rattle.rules.specs.Soundness.{returnedOf}
 use Rattle.sound_accounts.specs.Alone.{accountAlone}
 use Rattle.sound_sums.specs.declared.accounts.Sums.{Sums}
@@ -17,10 +17,10 @@ use Rattle.sound_sums.specs.declared.accounts.Sums.{Sums}
 unfoldable pub sumsAgree : Account → Sums → Bool
 sumsAgree x s = allOf
     (eqb (x .returned) (s .returned) ∷ eqb (s .drawn) (s .paid) ∷ (s .money is 0 || s .debt is 0)
-    ∷ (x .state is Closed implies s .money is 0 && s .owed is 0) ∷ [])
+    ∷ (x .state is StateClosed implies s .money is 0 && s .owed is 0) ∷ [])
 
-unfoldable pub accountStands : ℕ → Sums → Account → Bool
-accountStands today s x = accountAlone today x && sumsAgree x s
+unfoldable pub accountPasses : ℕ → Sums → Account → Bool
+accountPasses today s x = accountAlone today x && sumsAgree x s
 
 -- the sums of account n, in their array and by the definitions
 unfoldable pub sumsAt : List ℕ → ℕ → Sums
@@ -44,7 +44,7 @@ sumsOf rows n = record {
 }
 
 unfoldable pub allAgree : ℕ → (ℕ → Sums) → List Account → Bool
-allAgree today sums xs = every (λ n x. accountStands today (sums n) x) xs
+allAgree today sums xs = every (λ n x. accountPasses today (sums n) x) xs
 
 unfoldable pub accountsStand : ℕ → List Row → List Account → Bool
 accountsStand today rows xs = allAgree today (sumsOf rows) xs

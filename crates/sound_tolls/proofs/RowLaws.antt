@@ -6,7 +6,7 @@ use Prim.Native.Nat.{ℕ, zero, suc, _+_, _≤_}
 use lib.Dec.{leb, ltb}
 use borrow.Author.Tests.{eq-eqb, ne-eqb, le-leb}
 use Rattle.lists.specs.Tests.{_implies_}
-use Rattle.rules.specs.Rows.{Row, Toll, Held, LastStage}
+use Rattle.rules.specs.Rows.{Row, KindToll, DisputeHeld, LastStage}
 use Rattle.rules.specs.Soundness.{mostOf, noReference, dueWithin, dueFits, holdFits}
 
 -- a number that is no kind has no amount
@@ -22,20 +22,20 @@ most-none (suc (suc (suc (suc (suc (suc zero)))))) a b c d e f = absurd (f refl)
 most-none (suc (suc (suc (suc (suc (suc (suc k))))))) a b c d e f = refl
 
 -- a toll has a reference, and only a toll has a due day and a hold
-pub toll-no-reference : (r : Row) → r .kind ≡ Toll → noReference r ≡ true
+pub toll-no-reference : (r : Row) → r .kind ≡ KindToll → noReference r ≡ true
 unfolding noReference
 toll-no-reference r e = rw e
 
-pub other-due : (today L : ℕ) (r : Row) → r .kind ≢ Toll → dueFits today L r ≡ true
+pub other-due : (today L : ℕ) (r : Row) → r .kind ≢ KindToll → dueFits today L r ≡ true
 unfolding dueWithin
-other-due today L r q = rw (ne-eqb (r .kind) Toll q)
+other-due today L r q = rw (ne-eqb (r .kind) KindToll q)
 
-pub other-hold : (today L : ℕ) (r : Row) → r .kind ≢ Toll → holdFits today L r ≡ true
+pub other-hold : (today L : ℕ) (r : Row) → r .kind ≢ KindToll → holdFits today L r ≡ true
 unfolding holdFits
-other-hold today L r q = rw (ne-eqb (r .kind) Toll q)
+other-hold today L r q = rw (ne-eqb (r .kind) KindToll q)
 
 -- a held toll's own tests, where its hold starts by today
-pub held-fits : (today L : ℕ) (r : Row) (after : Bool) → r .kind ≡ Toll → r .dispute ≡ Held → r .hold ≤ today → after ≡ (ltb (r .mark) LastStage implies ltb (r .hold) (r .due))
+pub held-fits : (today L : ℕ) (r : Row) (after : Bool) → r .kind ≡ KindToll → r .dispute ≡ DisputeHeld → r .hold ≤ today → after ≡ (ltb (r .mark) LastStage implies ltb (r .hold) (r .due))
     → (leb 1 (r .hold) && leb today (r .hold + 29) && ltb (r .settled) (r .amount) && leb (r .due) (r .hold + L) && after) ≡ holdFits today L r
 unfolding holdFits
-held-fits today L r after k d h a = rw (a, eq-eqb (r .kind) Toll k, eq-eqb (r .dispute) Held d, le-leb (r .hold) today h, and-true)
+held-fits today L r after k d h a = rw (a, eq-eqb (r .kind) KindToll k, eq-eqb (r .dispute) DisputeHeld d, le-leb (r .hold) today h, and-true)

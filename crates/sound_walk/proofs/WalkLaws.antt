@@ -14,35 +14,35 @@ use borrow.Author.Count.{below-more}
 use Rattle.lists.proofs.TestLaws.{allOf-at}
 use Rattle.lists.proofs.ListLaws.{every-fails, length-tabulate}
 use Rattle.records.specs.Encoding.{rowAt, rowsOf, accountAt, accountsOf}
-use Rattle.rules.specs.Limits.{mostAccounts}
-use Rattle.rules.specs.Rows.{Row, Toll, Fee, Payment, Credit, rowNo, source, debit, heldToll, held}
+use Rattle.records.specs.Limits.{mostAccounts}
+use Rattle.rules.specs.Rows.{Row, KindToll, KindFee, KindPayment, KindCredit, rowNo, source, debit, heldToll, held}
 use Rattle.rules.specs.Soundness.{kindFits, amountFits, settledFits, accountUsed, names, referenceFits}
 use Rattle.rules.proofs.StorableLaws.{amount-le, settled-le, used-inside}
 use Rattle.sound_header.specs.declared.frame.Frame.{Frame}
-use Rattle.sound_header.specs.Clauses.{ownWords, rowAlone, rowStands, rowsStand, standsIn}
-use Rattle.sound_journal.proofs.JournalLaws.{stands-alike, stands-same}
+use Rattle.sound_header.specs.Clauses.{ownWords, rowAlone, rowPasses, rowsStand, passesIn}
+use Rattle.sound_journal.proofs.JournalLaws.{passes-alike, passes-same}
 use Rattle.sound_passages.specs.Trees.{passagesDiffer, TreesOf}
-use Rattle.sound_fees.specs.Fees.{feesFew, Counted}
+use Rattle.sound_fees.specs.Fees.{feesFew, FeesCounted}
 use Rattle.account_sums.specs.Columns.{Tallies, Addable}
 use Rattle.account_sums.proofs.SumsLaws.{no-source-debit}
 use Rattle.account_sums.proofs.ColumnLaws.{addable}
 use Rattle.sound_walk.specs.Walks.{Walked, Unfit, Walks, Turn}
 
 -- a toll is held by its own word, a fee by its toll's, no other row; neither a payment nor a credit is a debit, and every other kind is
-pub toll-held : (rows : List Row) (r : Row) → r .kind ≡ Toll → eqb (r .dispute) 1 ≡ held rows r
+pub toll-held : (rows : List Row) (r : Row) → r .kind ≡ KindToll → eqb (r .dispute) 1 ≡ held rows r
 unfolding held
 toll-held rows r e = rw (e, or-false)
 
-pub fee-held : (rows : List Row) (r : Row) → r .kind ≡ Fee → heldToll (rowNo rows (r .reference)) ≡ held rows r
+pub fee-held : (rows : List Row) (r : Row) → r .kind ≡ KindFee → heldToll (rowNo rows (r .reference)) ≡ held rows r
 unfolding held
 fee-held rows r e = rw e
 
-pub none-held : (rows : List Row) (r : Row) → r .kind ≢ Toll → r .kind ≢ Fee → false ≡ held rows r
+pub none-held : (rows : List Row) (r : Row) → r .kind ≢ KindToll → r .kind ≢ KindFee → false ≡ held rows r
 unfolding held
-none-held rows r p q = rw (ne-eqb (r .kind) Toll p, ne-eqb (r .kind) Fee q)
+none-held rows r p q = rw (ne-eqb (r .kind) KindToll p, ne-eqb (r .kind) KindFee q)
 
-pub no-source : (r : Row) → r .kind ≢ Payment → r .kind ≢ Credit → source r ≡ false
-no-source r p q = rw (ne-eqb (r .kind) Payment p, ne-eqb (r .kind) Credit q)
+pub no-source : (r : Row) → r .kind ≢ KindPayment → r .kind ≢ KindCredit → source r ≡ false
+no-source r p q = rw (ne-eqb (r .kind) KindPayment p, ne-eqb (r .kind) KindCredit q)
 
 module _ (accounts journal : List ℤ) (f : Frame) where
   -- two tolls of the same passage number
@@ -63,24 +63,24 @@ module _ (accounts journal : List ℤ) (f : Frame) where
 
   module _ (i : ℕ) (r : Row) (t : Turn accounts journal f i r) where
     -- a row that does not stand
-    pub row-unfit : standsIn accounts journal f (i + 1) r ≡ false → Unfit accounts journal f
+    pub row-unfit : passesIn accounts journal f (i + 1) r ≡ false → Unfit accounts journal f
     unfolding rowsStand
     row-unfit e =
-        rw (every-fails (standsIn accounts journal f) (rowAt journal) (f .used) i (t .inside) (sym (stands-alike accounts journal f (t .bounds) i (t .inside) r (t .alike)) ∙ e))
+        rw (every-fails (passesIn accounts journal f) (rowAt journal) (f .used) i (t .inside) (sym (passes-alike accounts journal f (t .bounds) i (t .inside) r (t .alike)) ∙ e))
 
     -- a row that stands
-    module _ (e : standsIn accounts journal f (i + 1) r ≡ true) where
+    module _ (e : passesIn accounts journal f (i + 1) r ≡ true) where
       pub row-same : r ≡ rowAt journal i
-      row-same = stands-same accounts journal f (t .bounds) i (t .inside) r (t .alike) e
+      row-same = passes-same accounts journal f (t .bounds) i (t .inside) r (t .alike) e
 
       part : (k : ℕ) → getD (rowAlone (f .today) (f .stage) r ∷ accountUsed (accountsOf accounts (f .count)) r ∷ referenceFits (rowsOf journal (f .used)) (i + 1) r ∷ []) k true ≡ true
-      part = unfold rowStands in allOf-at _ e
+      part = unfold rowPasses in allOf-at _ e
 
       alone : (k : ℕ) → getD (kindFits r ∷ amountFits r ∷ settledFits r ∷ ownWords (f .today) (f .stage) r ∷ []) k true ≡ true
       alone = unfold rowAlone in allOf-at _ (part 0)
 
       -- a fee names an earlier row
-      pub row-earlier : r .kind ≡ Fee → r .reference < i + 1
+      pub row-earlier : r .kind ≡ KindFee → r .reference < i + 1
       unfolding referenceFits names
       row-earlier k =
           elim (decLt (r .reference) (i + 1)) [
@@ -101,6 +101,6 @@ module _ (accounts journal : List ℤ) (f : Frame) where
 
       -- and is entered everywhere
       pub row-walks : {cells counts sums cells₁ counts₁ sums₁ : List ℕ} → Walked accounts journal f cells counts sums i
-          → TreesOf (f .space) journal cells₁ (i + 1) → Counted (f .space) journal counts₁ (i + 1) → Tallies journal (f .used) sums₁ (i + 1) → Walks accounts journal f cells₁ counts₁ sums₁ (i + 1) true
+          → TreesOf (f .space) journal cells₁ (i + 1) → FeesCounted (f .space) journal counts₁ (i + 1) → Tallies journal (f .used) sums₁ (i + 1) → Walks accounts journal f cells₁ counts₁ sums₁ (i + 1) true
       row-walks w g c s =
-          walks-good record { stood = below-more _ _ (w .stood) (sym (stands-alike accounts journal f (t .bounds) i (t .inside) r (t .alike)) ∙ e); trees = g; fees = c; tallies = s }
+          walks-good record { stood = below-more _ _ (w .stood) (sym (passes-alike accounts journal f (t .bounds) i (t .inside) r (t .alike)) ∙ e); trees = g; fees = c; tallies = s }

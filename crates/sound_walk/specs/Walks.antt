@@ -6,21 +6,21 @@ use mathlib.Core.List.{List}
 use lib.IntN.{ℤ}
 use lib.ListN.{length}
 use Rattle.records.specs.Layout.{rowWidth}
-use Rattle.rules.specs.Limits.{mostRows}
+use Rattle.records.specs.Limits.{mostRows}
 use Rattle.records.specs.Encoding.{rowAt, rowsOf, accountsOf}
-use Rattle.rules.specs.Rows.{Row, Fee}
+use Rattle.rules.specs.Rows.{Row, KindFee}
 use Rattle.plain_rows.specs.Alike.{AlikeRow}
 use Rattle.sound_header.specs.declared.frame.Frame.{Frame}
-use Rattle.sound_header.specs.Clauses.{rowsStand, standsIn, Bounds}
+use Rattle.sound_header.specs.Clauses.{rowsStand, passesIn, Bounds}
 use Rattle.sound_passages.specs.Trees.{passagesDiffer, TreesOf}
-use Rattle.sound_fees.specs.Fees.{feesFew, Counted}
+use Rattle.sound_fees.specs.Fees.{feesFew, FeesCounted}
 use Rattle.account_sums.specs.Columns.{Tallies}
 
 -- each stands, their passage numbers differ, and the arrays hold their trees, fees and sums
 pub record Walked (accounts journal : List ℤ) (f : Frame) (cells counts sums : List ℕ) (i : ℕ) : Type 0 where
-  pub stood : (k : ℕ) → k < i → standsIn accounts journal f (k + 1) (rowAt journal k) ≡ true
+  pub stood : (k : ℕ) → k < i → passesIn accounts journal f (k + 1) (rowAt journal k) ≡ true
   pub trees : TreesOf (f .space) journal cells i
-  pub fees : Counted (f .space) journal counts i
+  pub fees : FeesCounted (f .space) journal counts i
   pub tallies : Tallies journal (f .used) sums i
 
 -- a row does not stand, or has the passage number of another, or too many fees
@@ -52,10 +52,10 @@ pub record FeeTurn (journal : List ℤ) (f : Frame) (i : ℕ) (r : Row) : Type 0
   pub held : f .used ≤ f .space
   pub inside : i < f .used
   pub same : r ≡ rowAt journal i
-  pub fee : r .kind ≡ Fee
+  pub fee : r .kind ≡ KindFee
   pub earlier : r .reference < i + 1
 
 pub record FeeTurns (journal : List ℤ) (f : Frame) (i : ℕ) (counts sums : List ℕ) (b : Bool) : Type 0 where
-  pub counted : b ≡ true → Counted (f .space) journal counts (i + 1)
+  pub counted : b ≡ true → FeesCounted (f .space) journal counts (i + 1)
   pub added : b ≡ true → Tallies journal (f .used) sums (i + 1)
   pub over : b ≡ false → feesFew (rowsOf journal (f .used)) ≡ false

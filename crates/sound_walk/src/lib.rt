@@ -1,34 +1,34 @@
 // The one pass of the check over the journal: each row is read once, and its kind decides once how it is tested, inserted among the
-// passage numbers, counted where it is a fee, and added to the sums of its account. Uses lists, records, rules, tables, table_rows,
-// plain_rows, row_tests, sound_header, sound_journal, sound_passages, account_sums and sound_fees.
+// passage numbers, counted where it is a fee, and added to the sums of its account.
 use account_sums::SUMS;
 use account_sums::add_debit;
 use account_sums::add_source;
 use plain_rows::plain_row;
 use records::Row;
+use records::codes::DISPUTE_HELD;
+use records::codes::KIND_CREDIT;
+use records::codes::KIND_FEE;
+use records::codes::KIND_PAYMENT;
+use records::codes::KIND_TOLL;
+use records::codes::METHOD_CHECK_RETURNED;
 use row_tests::held_toll;
 use sound_fees::count_fee;
 use sound_header::frame::Frame;
-use sound_journal::other_stands;
-use sound_journal::payment_stands;
-use sound_journal::toll_stands;
+use sound_journal::other_passes;
+use sound_journal::payment_passes;
+use sound_journal::toll_passes;
 use sound_passages::passages::insert_toll;
 use table_rows::row_numbered;
-use tables::codes::CHECK_RETURNED;
-use tables::codes::CREDIT;
-use tables::codes::FEE;
-use tables::codes::HELD;
-use tables::codes::PAYMENT;
-use tables::codes::TOLL;
 ghost use mathlib.Core.Path.{_≡_};
 ghost use mathlib.Core.List.{List};
 ghost use Prim.Native.Nat.{ℕ, _+_, _<_};
-ghost use Rattle.rules.specs.Rows.{Toll, Payment};
+ghost use Rattle.rules.specs.Rows.{KindToll, KindPayment};
 ghost use Rattle.sound_header.specs.Clauses.{Bounds};
 ghost use Rattle.sound_passages.specs.Trees.{TreesOf};
-ghost use Rattle.sound_fees.specs.Fees.{Counted};
+ghost use Rattle.sound_fees.specs.Fees.{FeesCounted};
 ghost use Rattle.account_sums.specs.Columns.{Tallies, Addable};
 ghost use Rattle.sound_walk.specs.Walks.{Walked, Walks, Turn, Turns, FeeTurn, FeeTurns};
+ghost use Rattle.records.specs.Codes.{KindToll, KindPayment};
 
 // Row i, r, a toll: false where it does not stand, or an earlier one has its passage number. As any row, it is added only once it is found to
 // stand, so the sums are of amounts that are known to be small.
@@ -41,16 +41,20 @@ fn toll_turn(
     cells: &mut [u16],
     sums: &mut [u64; SUMS],
 ) -> bool
-    requires { ⌜ Turn (now accounts) (now journal) f i r × (r .kind ≡ Toll) × TreesOf (f .space) (now journal) (now cells) i × Tallies (now journal) (f .used) (now sums) i ⌝ }
-    ensures { λ b. ⌜ ((counts : List ℕ) → Turns (now (accounts .entry)) (now (journal .entry)) f i (now (cells .entry)) counts (now (sums .entry)) (now (cells .exit)) counts (now (sums .exit)) b) ⌝ }
+    requires { ⌜ Turn (now accounts) (now journal) f i r
+        × (r .kind ≡ KindToll)
+        × TreesOf (f .space) (now journal) (now cells) i
+        × Tallies (now journal) (f .used) (now sums) i ⌝ }
+    ensures { λ b. ⌜ ((counts : List ℕ) → Turns (now (accounts .entry)) (now (journal .entry)) f i (now (cells .entry)) counts
+        (now (sums .entry)) (now (cells .exit)) counts (now (sums .exit)) b) ⌝ }
 {
-    if !toll_stands(accounts, f, r) {
+    if !toll_passes(accounts, f, r) {
         return false;
     }
     if !insert_toll(journal, cells, f.space, i, r.reference) {
         return false;
     }
-    add_debit(sums, r, r.dispute == HELD);
+    add_debit(sums, r, r.dispute == DISPUTE_HELD);
     true
 }
 
@@ -63,7 +67,10 @@ fn fee_turn(
     counts: &mut [u16],
     sums: &mut [u64; SUMS],
 ) -> bool
-    requires { ⌜ FeeTurn (now journal) f i r × Counted (f .space) (now journal) (now counts) i × Tallies (now journal) (f .used) (now sums) i × Addable (now sums) r ⌝ }
+    requires { ⌜ FeeTurn (now journal) f i r
+        × FeesCounted (f .space) (now journal) (now counts) i
+        × Tallies (now journal) (f .used) (now sums) i
+        × Addable (now sums) r ⌝ }
     ensures { λ b. ⌜ FeeTurns (now (journal .entry)) f i (now (counts .exit)) (now (sums .exit)) b ⌝ }
 {
     let named = row_numbered(journal, f.used, r.reference);
@@ -84,16 +91,21 @@ fn other_turn(
     counts: &mut [u16],
     sums: &mut [u64; SUMS],
 ) -> bool
-    requires { ⌜ Turn (now accounts) (now journal) f i r × (r .kind ≡ Toll → ⊥) × (r .kind ≡ Payment → ⊥) × Counted (f .space) (now journal) (now counts) i × Tallies (now journal) (f .used) (now sums) i ⌝ }
-    ensures { λ b. ⌜ ((cells : List ℕ) → Turns (now (accounts .entry)) (now (journal .entry)) f i cells (now (counts .entry)) (now (sums .entry)) cells (now (counts .exit)) (now (sums .exit)) b) ⌝ }
+    requires { ⌜ Turn (now accounts) (now journal) f i r
+        × (r .kind ≡ KindToll → ⊥)
+        × (r .kind ≡ KindPayment → ⊥)
+        × FeesCounted (f .space) (now journal) (now counts) i
+        × Tallies (now journal) (f .used) (now sums) i ⌝ }
+    ensures { λ b. ⌜ ((cells : List ℕ) → Turns (now (accounts .entry)) (now (journal .entry)) f i cells (now (counts .entry))
+        (now (sums .entry)) cells (now (counts .exit)) (now (sums .exit)) b) ⌝ }
 {
-    if !other_stands(accounts, journal, f, (i + 1) as u64, r) {
+    if !other_passes(accounts, journal, f, (i + 1) as u64, r) {
         return false;
     }
-    if r.kind == FEE {
+    if r.kind == KIND_FEE {
         return fee_turn(journal, f, i, r, counts, sums);
     }
-    if r.kind == CREDIT {
+    if r.kind == KIND_CREDIT {
         add_source(sums, r, false);
         return true;
     }
@@ -111,20 +123,23 @@ fn turn(
     counts: &mut [u16],
     sums: &mut [u64; SUMS],
 ) -> bool
-    requires { ⌜ Bounds (now accounts) (now journal) f × (i < f .used) × Walked (now accounts) (now journal) f (now cells) (now counts) (now sums) i ⌝ }
-    ensures { λ b. ⌜ Walks (now (accounts .entry)) (now (journal .entry)) f (now (cells .exit)) (now (counts .exit)) (now (sums .exit)) (i + 1) b ⌝ }
+    requires { ⌜ Bounds (now accounts) (now journal) f
+        × (i < f .used)
+        × Walked (now accounts) (now journal) f (now cells) (now counts) (now sums) i ⌝ }
+    ensures { λ b. ⌜ Walks (now (accounts .entry)) (now (journal .entry)) f (now (cells .exit)) (now (counts .exit))
+        (now (sums .exit)) (i + 1) b ⌝ }
 {
     let r = plain_row(journal, i);
-    if r.kind == TOLL {
+    if r.kind == KIND_TOLL {
         return toll_turn(accounts, journal, f, i, r, cells, sums);
     }
-    if r.kind != PAYMENT {
+    if r.kind != KIND_PAYMENT {
         return other_turn(accounts, journal, f, i, r, counts, sums);
     }
-    if !payment_stands(accounts, f, r) {
+    if !payment_passes(accounts, f, r) {
         return false;
     }
-    add_source(sums, r, r.mark == CHECK_RETURNED);
+    add_source(sums, r, r.mark == METHOD_CHECK_RETURNED);
     true
 }
 
@@ -137,8 +152,10 @@ pub fn walk(
     counts: &mut [u16],
     sums: &mut [u64; SUMS],
 ) -> bool
-    requires { ⌜ Bounds (now accounts) (now journal) f × Walked (now accounts) (now journal) f (now cells) (now counts) (now sums) 0 ⌝ }
-    ensures { λ b. ⌜ Walks (now (accounts .entry)) (now (journal .entry)) f (now (cells .exit)) (now (counts .exit)) (now (sums .exit)) (f .used) b ⌝ }
+    requires { ⌜ Bounds (now accounts) (now journal) f
+        × Walked (now accounts) (now journal) f (now cells) (now counts) (now sums) 0 ⌝ }
+    ensures { λ b. ⌜ Walks (now (accounts .entry)) (now (journal .entry)) f (now (cells .exit)) (now (counts .exit))
+        (now (sums .exit)) (f .used) b ⌝ }
 {
     let mut i = 0;
     while i < f.used {

@@ -15,45 +15,46 @@ use Rattle.lists.proofs.TestLaws.{and-right}
 use Rattle.lists.proofs.ListLaws.{every-ext, every-and, every-tabulate, length-tabulate}
 use Rattle.records.specs.Layout.{dayPlace, usedPlace, headerSchedule, stagePlace, accountWidth, rowWidth}
 use Rattle.records.specs.Encoding.{word, rowAt, rowsOf, accountsOf}
-use Rattle.rules.specs.Limits.{mostRows, finalDay}
+use Rattle.records.specs.Limits.{mostRows, finalDay}
 use Rattle.rules.specs.Schedule.{scheduleFits}
 use Rattle.rules.specs.Book.{Book}
 use Rattle.rules.specs.Opening.{dayFits, sizesFit}
-use Rattle.rules.specs.Soundness.{passageOnce, feesFit, rowSound, returnedFits, even, spent, closedClear, accountSound, sound}
+use Rattle.rules.specs.Soundness.{passageOnce, feesFit, rowSound, returnedFits, usedIsPaid, noIdleMoney, closedClear, accountSound, sound}
 use Rattle.rules.specs.Tables.{Tables, accountsIn, roomIn, rowsUsed, scheduleFrom, bookOf, wholeRecords, lengthsFit, usedFits, laterRowsZero, soundTables}
 use Rattle.rules.proofs.StorableLaws.{between-le, schedule-storable}
 use Rattle.sound_header.specs.declared.frame.Frame.{Frame}
-use Rattle.sound_header.specs.Clauses.{ownWords, rowAlone, rowStands, rowsStand, restZero, tablesAt, Bounds}
+use Rattle.sound_header.specs.Clauses.{ownWords, rowAlone, rowPasses, rowsStand, restZero, tablesAt, Bounds}
 use Rattle.sound_header.proofs.LengthLaws.{lengths-known}
 use Rattle.sound_passages.specs.Trees.{passagesDiffer, TreesOf}
 use Rattle.sound_passages.proofs.PassageLaws.{clean-differ}
-use Rattle.sound_fees.specs.Fees.{feesFew, Counted}
+use Rattle.sound_fees.specs.Fees.{feesFew, FeesCounted}
 use Rattle.sound_fees.proofs.FeeLaws.{fees-few}
-use Rattle.soundness.specs.Book.{bookStands}
-use Rattle.sound_sums.specs.Accounts.{sumsAgree, accountStands, sumsAt, sumsOf, allAgree, accountsStand}
+use Rattle.soundness.specs.Book.{bookPasses}
+use Rattle.sound_sums.specs.Accounts.{sumsAgree, accountPasses, sumsAt, sumsOf, allAgree, accountsStand}
 use Rattle.sound_sums.proofs.AccountLaws.{all-stand}
 use Rattle.sound_accounts.specs.Alone.{accountAlone}
 use Rattle.account_sums.proofs.ColumnLaws.{tallies-none}
 use Rattle.sound_walk.specs.Walks.{Walked, Unfit}
+use Rattle.account_sums.specs.Columns.{sumsSize}
 
 -- ---- rows and accounts
 
 rows-parts : (b : Book) → every (rowSound b) (b .rows) ≡ rowsStand (b .accounts) (b .rows) (b .day) (b .schedule .stage) && (passagesDiffer (b .rows) && feesFew (b .rows))
 unfolding rowsStand passagesDiffer feesFew
 rows-parts b =
-    every-ext (rowSound b) (λ n r. rowStands (b .accounts) (b .rows) (b .day) (b .schedule .stage) n r && (passageOnce (b .rows) r && feesFit (b .rows) n r)) 1 (b .rows) (λ n r.
-    unfold rowSound rowStands rowAlone ownWords allOf in simp (and-assoc, and-true))
-    ∙ every-and (rowStands (b .accounts) (b .rows) (b .day) (b .schedule .stage)) (λ n r. passageOnce (b .rows) r && feesFit (b .rows) n r) 1 (b .rows)
+    every-ext (rowSound b) (λ n r. rowPasses (b .accounts) (b .rows) (b .day) (b .schedule .stage) n r && (passageOnce (b .rows) r && feesFit (b .rows) n r)) 1 (b .rows) (λ n r.
+    unfold rowSound rowPasses rowAlone ownWords allOf in simp (and-assoc, and-true))
+    ∙ every-and (rowPasses (b .accounts) (b .rows) (b .day) (b .schedule .stage)) (λ n r. passageOnce (b .rows) r && feesFit (b .rows) n r) 1 (b .rows)
     ∙ rw (every-and (λ n r. passageOnce (b .rows) r) (feesFit (b .rows)) 1 (b .rows))
 
 accounts-parts : (b : Book) → every (accountSound b) (b .accounts) ≡ accountsStand (b .day) (b .rows) (b .accounts)
 unfolding accountsStand allAgree
 accounts-parts b =
-    every-ext (accountSound b) (λ n x. accountStands (b .day) (sumsOf (b .rows) n) x) 1 (b .accounts) (λ n x.
-    unfold accountSound accountStands accountAlone sumsAgree sumsOf returnedFits even spent closedClear allOf in simp (and-assoc, and-true))
+    every-ext (accountSound b) (λ n x. accountPasses (b .day) (sumsOf (b .rows) n) x) 1 (b .accounts) (λ n x.
+    unfold accountSound accountPasses accountAlone sumsAgree sumsOf returnedFits usedIsPaid noIdleMoney closedClear allOf in simp (and-assoc, and-true))
 
-pub book-parts : (b : Book) → every (rowSound b) (b .rows) && every (accountSound b) (b .accounts) ≡ bookStands (b .accounts) (b .rows) (b .day) (b .schedule .stage)
-unfolding bookStands allOf
+pub book-parts : (b : Book) → every (rowSound b) (b .rows) && every (accountSound b) (b .accounts) ≡ bookPasses (b .accounts) (b .rows) (b .day) (b .schedule .stage)
+unfolding bookPasses allOf
 book-parts b = rw (rows-parts b, accounts-parts b, and-assoc, and-assoc, and-true)
 
 -- ---- the tables
@@ -80,7 +81,7 @@ module _ (t : Tables) where
   unfit-schedule e = simp (e, and-false)
 
   pub fit-tables : lengthsFit t ≡ true → usedFits t ≡ true → laterRowsZero t ≡ true → dayFits (bookOf t .day) ≡ true → scheduleFits (bookOf t .schedule) ≡ true
-      → soundTables t ≡ bookStands (bookOf t .accounts) (bookOf t .rows) (bookOf t .day) (bookOf t .schedule .stage)
+      → soundTables t ≡ bookPasses (bookOf t .accounts) (bookOf t .rows) (bookOf t .day) (bookOf t .schedule .stage)
   unfolding soundTables sound allOf
   fit-tables l u z d s =
       let n : sizesFit (length (bookOf t .accounts)) (bookOf t .room) ≡ true = sizes-again in
@@ -93,7 +94,7 @@ module _ (t : Tables) where
       few-again : leb (length (bookOf t .rows)) (bookOf t .room) ≡ true
       few-again = unfold bookOf in (rw (length-tabulate) (le-leb (min (rowsUsed t) (roomIn t)) (roomIn t) (omega arith)))
 
-      rest : (b : Book) → every (rowSound b) (b .rows) && (every (accountSound b) (b .accounts) && true) ≡ bookStands (b .accounts) (b .rows) (b .day) (b .schedule .stage)
+      rest : (b : Book) → every (rowSound b) (b .rows) && (every (accountSound b) (b .accounts) && true) ≡ bookPasses (b .accounts) (b .rows) (b .day) (b .schedule .stage)
       rest b = rw (and-true (every (accountSound b) (b .accounts))) (book-parts b)
 
 -- ---- what the lengths and the header have shown, on the words that were read
@@ -112,7 +113,7 @@ module _ (h a j : List ℤ) (used today stage : ℕ) (f : Fit h a j used today s
   abbrev tables : Tables
   tables = tablesAt h a j
 
-  pub fit-sound : bookStands (accountsOf a (length a / accountWidth)) (rowsOf j used) today stage ≡ soundTables tables
+  pub fit-sound : bookPasses (accountsOf a (length a / accountWidth)) (rowsOf j used) today stage ≡ soundTables tables
   fit-sound = unfold bookOf scheduleFrom in (rw (f .readDay, f .readStage, least) (sym (fit-tables tables (f .lengths) used-fits later-zero day-fits schedule-fits)))
     where
       least : used ≡ min (rowsUsed tables) (roomIn tables)
@@ -139,7 +140,7 @@ module _ (h a j : List ℤ) (used today stage : ℕ) (f : Fit h a j used today s
         room = omega arith;
         few = omega arith;
         held = omega arith;
-        seats = omega arith;
+        slots = omega arith;
         fewer = omega arith;
         day = between-le 1 finalDay today (f .day);
         length = omega (arith, f .readStage, schedule-storable (scheduleFrom h headerSchedule) (f .schedule) .stage);
@@ -149,10 +150,10 @@ module _ (h a j : List ℤ) (used today stage : ℕ) (f : Fit h a j used today s
 
 -- arrays with space for fewer rows, but for the used ones
 pub bounds-space : (accounts journal : List ℤ) (f : Frame) → Bounds accounts journal f → (n : ℕ) → f .used ≤ n → Bounds accounts journal (record { count = f .count; used = f .used; space = n; today = f .today; stage = f .stage })
-bounds-space accounts journal f b n h = record { room = b .room; few = b .few; held = h; seats = b .seats; fewer = b .fewer; day = b .day; length = b .length }
+bounds-space accounts journal f b n h = record { room = b .room; few = b .few; held = h; slots = b .slots; fewer = b .fewer; day = b .day; length = b .length }
 
 -- no sums before the first row
-pub walked-none : (accounts journal : List ℤ) (f : Frame) {cells counts : List ℕ} → TreesOf (f .space) journal cells 0 → Counted (f .space) journal counts 0 → Walked accounts journal f cells counts (replicate 1542 0) 0
+pub walked-none : (accounts journal : List ℤ) (f : Frame) {cells counts : List ℕ} → TreesOf (f .space) journal cells 0 → FeesCounted (f .space) journal counts 0 → Walked accounts journal f cells counts (replicate sumsSize 0) 0
 walked-none accounts journal f g c = record {
   stood = below-none _;
   trees = g;
@@ -162,11 +163,11 @@ walked-none accounts journal f g c = record {
 
 module _ (accounts journal : List ℤ) (f : Frame) where
   abbrev standing : Bool
-  standing = bookStands (accountsOf accounts (f .count)) (rowsOf journal (f .used)) (f .today) (f .stage)
+  standing = bookPasses (accountsOf accounts (f .count)) (rowsOf journal (f .used)) (f .today) (f .stage)
 
-  pub unfit-stands : Unfit accounts journal f → false ≡ standing
-  unfolding bookStands allOf
-  unfit-stands e = sym (regroup (rowsStand (accountsOf accounts (f .count)) (rowsOf journal (f .used)) (f .today) (f .stage)) (passagesDiffer (rowsOf journal (f .used))) (feesFew (rowsOf journal (f .used))) _ e)
+  pub unfit-passes : Unfit accounts journal f → false ≡ standing
+  unfolding bookPasses allOf
+  unfit-passes e = sym (regroup (rowsStand (accountsOf accounts (f .count)) (rowsOf journal (f .used)) (f .today) (f .stage)) (passagesDiffer (rowsOf journal (f .used))) (feesFew (rowsOf journal (f .used))) _ e)
     where
       regroup : (a b c d : Bool) → a && (b && c) ≡ false → a && (b && (c && d)) ≡ false
       regroup true true true d e = absurd (true≢false e)
@@ -184,7 +185,7 @@ module _ (accounts journal : List ℤ) (f : Frame) where
     passages-differ = clean-differ journal (f .used) (w .trees .clean)
 
     pub sums-decide : allAgree (f .today) (sumsAt sums) (accountsOf accounts (f .count)) ≡ standing
-    unfolding bookStands allOf
+    unfolding bookPasses allOf
     sums-decide =
         all-stand journal (f .used) sums (w .tallies) (f .today) accounts (f .count) (b .fewer)
         ∙ rw (rows-stand, passages-differ, fees-few (f .space) journal counts (f .used) (b .held) (w .fees), and-true)

@@ -14,9 +14,9 @@ use Rattle.sound_passages.specs.Trees.{passagesDiffer}
 use Rattle.sound_fees.specs.Fees.{feesFew}
 use Rattle.sound_sums.specs.Accounts.{accountsStand}
 
-unfoldable pub bookStands : List Account → List Row → ℕ → ℕ → Bool
-bookStands xs rows today L = allOf (rowsStand xs rows today L ∷ passagesDiffer rows ∷ feesFew rows ∷ accountsStand today rows xs ∷ [])
+unfoldable pub bookPasses : List Account → List Row → ℕ → ℕ → Bool
+bookPasses xs rows today L = allOf (rowsStand xs rows today L ∷ passagesDiffer rows ∷ feesFew rows ∷ accountsStand today rows xs ∷ [])
 
 -- b says whether they hold of the used rows and the accounts of tables
 abbrev pub Stands : List ℤ → List ℤ → Frame → Bool → Type 0
-Stands accounts journal f b = b ≡ bookStands (accountsOf accounts (f .count)) (rowsOf journal (f .used)) (f .today) (f .stage)
+Stands accounts journal f b = b ≡ bookPasses (accountsOf accounts (f .count)) (rowsOf journal (f .used)) (f .today) (f .stage)

@@ -1,7 +1,13 @@
 // The check of a whole book: whether three lent tables of any lengths and contents are sound, in time that grows with the rows and
-// accounts. Uses lists, records, rules, tables, sound_header, sound_journal, sound_passages, account_sums, sound_fees, sound_accounts,
-// sound_sums and sound_walk.
+// accounts.
 use account_sums::SUMS;
+use records::layout::ACCOUNT_WIDTH;
+use records::layout::DAY_PLACE;
+use records::layout::HEADER_SCHEDULE;
+use records::layout::ROW_WIDTH;
+use records::layout::STAGE_PLACE;
+use records::layout::USED_PLACE;
+use records::limits::MOST_ROWS;
 use sound_header::frame::Frame;
 use sound_header::header::day_fits;
 use sound_header::header::lengths_fit;
@@ -11,35 +17,31 @@ use sound_passages::passages::CELLS;
 use sound_passages::passages::ROW_CELLS;
 use sound_sums::accounts::all_agree;
 use sound_walk::walk;
-use tables::layout::ACCOUNT_WIDTH;
-use tables::layout::DAY_PLACE;
-use tables::layout::HEADER_SCHEDULE;
-use tables::layout::ROW_WIDTH;
-use tables::layout::STAGE_PLACE;
-use tables::layout::USED_PLACE;
-use tables::limits::MOST_ROWS;
 use tables::words::get;
 ghost use mathlib.Core.Path.{_≡_};
 ghost use Prim.Native.Nat.{_≤_};
-ghost use Rattle.rules.specs.Limits.{mostRows};
+ghost use Rattle.records.specs.Limits.{mostRows};
 ghost use Rattle.rules.specs.Tables.{soundTables};
 ghost use Rattle.sound_header.specs.Clauses.{tablesAt, Bounds};
 ghost use Rattle.sound_passages.specs.Trees.{TreesOf};
-ghost use Rattle.sound_fees.specs.Fees.{Counted};
+ghost use Rattle.sound_fees.specs.Fees.{FeesCounted};
 ghost use Rattle.soundness.specs.Book.{Stands};
+ghost use Rattle.rules.specs.Lent.{atEntry};
 
 // Up to as many rows are checked with small arrays: to clear those for the most rows would take longer than to check so few.
 const FEW_ROWS: usize = 1024;
 
 // The used rows and the accounts, with these arrays: one pass over the rows, then the sums of accounts that it leaves.
-fn stands_with(
+fn passes_with(
     accounts: &[i64],
     journal: &[i64],
     f: Frame,
     cells: &mut [u16],
     counts: &mut [u16],
 ) -> bool
-    requires { ⌜ Bounds (now accounts) (now journal) f × TreesOf (f .space) (now journal) (now cells) 0 × Counted (f .space) (now journal) (now counts) 0 ⌝ }
+    requires { ⌜ Bounds (now accounts) (now journal) f
+        × TreesOf (f .space) (now journal) (now cells) 0
+        × FeesCounted (f .space) (now journal) (now counts) 0 ⌝ }
     ensures { λ b. ⌜ Stands (now (accounts .entry)) (now (journal .entry)) f b ⌝ }
 {
     let mut sums = [0u64; SUMS];
@@ -63,7 +65,7 @@ fn few_stand(accounts: &[i64], journal: &[i64], f: Frame) -> bool
         today: f.today,
         stage: f.stage,
     };
-    stands_with(accounts, journal, few, &mut cells, &mut counts)
+    passes_with(accounts, journal, few, &mut cells, &mut counts)
 }
 
 // Any number of rows: 80 KiB.
@@ -73,11 +75,11 @@ fn many_stand(accounts: &[i64], journal: &[i64], f: Frame) -> bool
 {
     let mut cells = [0u16; CELLS];
     let mut counts = [0u16; MOST_ROWS + 1];
-    stands_with(accounts, journal, f, &mut cells, &mut counts)
+    passes_with(accounts, journal, f, &mut cells, &mut counts)
 }
 
 // The used rows and the accounts, once the lengths and the header are found fit.
-fn book_stands(accounts: &[i64], journal: &[i64], f: Frame) -> bool
+fn book_passes(accounts: &[i64], journal: &[i64], f: Frame) -> bool
     requires { ⌜ Bounds (now accounts) (now journal) f × (f .space ≡ mostRows) ⌝ }
     ensures { λ b. ⌜ Stands (now (accounts .entry)) (now (journal .entry)) f b ⌝ }
 {
@@ -90,7 +92,7 @@ fn book_stands(accounts: &[i64], journal: &[i64], f: Frame) -> bool
 // Whether the tables are sound. It takes 92 KiB of the stack, 64 for passage numbers, 16 for fees and 12 for sums; of at most FEW_ROWS rows
 // only 22 are cleared.
 pub fn sound(header: &[i64], accounts: &[i64], journal: &[i64]) -> bool
-    ensures { λ b. ⌜ b ≡ soundTables (tablesAt (now (header .entry)) (now (accounts .entry)) (now (journal .entry))) ⌝ }
+    ensures { λ b. ⌜ b ≡ soundTables (atEntry header accounts journal) ⌝ }
 {
     if !lengths_fit(header, accounts, journal) {
         return false;
@@ -117,5 +119,5 @@ pub fn sound(header: &[i64], accounts: &[i64], journal: &[i64]) -> bool
         today,
         stage: get(header, HEADER_SCHEDULE + STAGE_PLACE),
     };
-    book_stands(accounts, journal, f)
+    book_passes(accounts, journal, f)
 }

@@ -1,13 +1,13 @@
-// An account of the accounts' table, read and written as a value. Uses lists, records, rules and tables.
+// An account of the accounts' table, read and written as a value.
 use records::Account;
-use tables::layout::ACCOUNT_WIDTH;
-use tables::layout::DECLINED_PLACE;
-use tables::layout::DECLINES_PLACE;
-use tables::layout::REQUEST_PLACE;
-use tables::layout::RETURNED_PLACE;
-use tables::layout::STATE_PLACE;
-use tables::layout::THRESHOLD_PLACE;
-use tables::layout::TOP_UP_PLACE;
+use records::layout::ACCOUNT_WIDTH;
+use records::layout::DECLINED_PLACE;
+use records::layout::DECLINES_PLACE;
+use records::layout::REQUEST_PLACE;
+use records::layout::RETURNED_PLACE;
+use records::layout::STATE_PLACE;
+use records::layout::THRESHOLD_PLACE;
+use records::layout::TOPUP_PLACE;
 use tables::words::get;
 use tables::words::put;
 ghost use mathlib.Core.Path.{_≡_};
@@ -29,7 +29,7 @@ pub fn read_account(accounts: &[i64], i: usize) -> Account
         request: get(accounts, p + REQUEST_PLACE),
         returned: get(accounts, p + RETURNED_PLACE),
         threshold: get(accounts, p + THRESHOLD_PLACE),
-        topup: get(accounts, p + TOP_UP_PLACE),
+        topup: get(accounts, p + TOPUP_PLACE),
         declines: get(accounts, p + DECLINES_PLACE),
         declined: get(accounts, p + DECLINED_PLACE),
     }
@@ -79,7 +79,7 @@ fn put_last_words(accounts: &mut [i64], p: usize, x: Account)
     requires { ⌜ (p + accountWidth ≤ length (now accounts)) × StorableAccount x ⌝ }
     ensures { λ _. ⌜ now (accounts .exit) ≡ putAll (now (accounts .entry)) p 4 (drop 4 (accountWords x)) ⌝ }
 {
-    put(accounts, p + TOP_UP_PLACE, x.topup);
+    put(accounts, p + TOPUP_PLACE, x.topup);
     put(accounts, p + DECLINES_PLACE, x.declines);
     put(accounts, p + DECLINED_PLACE, x.declined);
 }

@@ -1,16 +1,16 @@
-// A row of the journal, read and written as a value. Uses lists, records, rules and tables.
+// A row of the journal, read and written as a value.
 use records::Row;
-use tables::layout::ACCOUNT_PLACE;
-use tables::layout::AMOUNT_PLACE;
-use tables::layout::DISPUTE_PLACE;
-use tables::layout::DUE_PLACE;
-use tables::layout::HOLD_PLACE;
-use tables::layout::KIND_PLACE;
-use tables::layout::MARK_PLACE;
-use tables::layout::REFERENCE_PLACE;
-use tables::layout::ROW_DAY_PLACE;
-use tables::layout::ROW_WIDTH;
-use tables::layout::SETTLED_PLACE;
+use records::layout::ACCOUNT_PLACE;
+use records::layout::AMOUNT_PLACE;
+use records::layout::DISPUTE_PLACE;
+use records::layout::DUE_PLACE;
+use records::layout::HOLD_PLACE;
+use records::layout::KIND_PLACE;
+use records::layout::MARK_PLACE;
+use records::layout::REFERENCE_PLACE;
+use records::layout::ROW_DAY_PLACE;
+use records::layout::ROW_WIDTH;
+use records::layout::SETTLED_PLACE;
 use tables::words::get;
 use tables::words::put;
 ghost use mathlib.Core.Path.{_≡_};
@@ -145,7 +145,8 @@ pub fn write_row(journal: &mut [i64], i: usize, r: Row)
 // Row i has v settled: one word, since settlement writes no other.
 pub fn put_settled(journal: &mut [i64], i: usize, v: u64)
     requires { ⌜ RowIn (now journal) i × (v < 2 ^ 63) ⌝ }
-    ensures { λ _. ⌜ RowChanged (now (journal .entry)) (now (journal .exit)) i (withSettled v (rowAt (now (journal .entry)) i)) ⌝ }
+    ensures { λ _. ⌜ RowChanged (now (journal .entry)) (now (journal .exit)) i
+        (withSettled v (rowAt (now (journal .entry)) i)) ⌝ }
 {
     put(journal, i * ROW_WIDTH + SETTLED_PLACE, v);
 }

@@ -4,7 +4,7 @@ ghost use Prim.Native.Nat.{_^_, _<_};
 ghost use lib.IntN.{pos};
 ghost use lib.ListN.{length, set};
 ghost use Rattle.records.specs.Encoding.{natOf, word};
-ghost use Rattle.rules.specs.Book.{less};
+ghost use Rattle.rules.specs.Book.{minus};
 
 // What a negative word reads as: past every limit.
 const PAST_EVERY_LIMIT: u64 = 9223372036854775808;
@@ -35,7 +35,7 @@ pub fn put(t: &mut [i64], i: usize, v: u64)
 // a - b as a word.
 pub fn minus(a: u64, b: u64) -> i64
     requires { ⌜ (a < 2 ^ 63) × (b < 2 ^ 63) ⌝ }
-    ensures { λ r. ⌜ r ≡ less a b ⌝ }
+    ensures { λ r. ⌜ r ≡ minus a b ⌝ }
 {
     (a as i64) - (b as i64)
 }

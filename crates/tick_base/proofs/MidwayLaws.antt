@@ -11,7 +11,7 @@ use Rattle.lists.proofs.TestLaws.{and-left, allOf-at}
 use Rattle.lists.proofs.ListLaws.{tabulate-at, length-tabulate}
 use Rattle.records.specs.Layout.{headerWidth, rowWidth, accountWidth}
 use Rattle.records.specs.Encoding.{rowAt, rowsOf, accountAt}
-use Rattle.rules.specs.Limits.{mostRows, mostAccounts, highestRefund}
+use Rattle.records.specs.Limits.{mostRows, mostAccounts, highestRefund}
 use Rattle.rules.specs.Rows.{Row, blank}
 use Rattle.rules.specs.Book.{Book, accountNo}
 use Rattle.rules.specs.Opening.{sizesFit}
@@ -19,7 +19,7 @@ use Rattle.rules.specs.Soundness.{kindFits, accountUsed}
 use Rattle.rules.specs.Tables.{Tables, accountsIn, roomIn, rowsUsed, bookOf, wholeRecords, lengthsFit, usedFits, soundTables}
 use Rattle.rules.proofs.StorableLaws.{amount-le, settled-le, used-inside, accounts-le, room-le}
 use Rattle.rules.proofs.TableLaws.{sound-book}
-use Rattle.posting_laws.proofs.WrittenLaws.{Written}
+use Rattle.posting.specs.Written.{Written}
 use Rattle.account_sums.specs.Tallies.{Countable}
 use Rattle.tick_base.specs.Midway.{Midway}
 

@@ -11,11 +11,11 @@ use borrow.Author.Tests.{eq-eqb, ne-eqb, le-leb, lt-leb}
 use Rattle.lists.specs.Tests.{_is_}
 use Rattle.records.specs.Layout.{headerSchedule, fee2Place}
 use Rattle.records.specs.Encoding.{word}
-use Rattle.rules.specs.Limits.{holdDays, closingDays}
+use Rattle.records.specs.Limits.{holdDays, closingDays}
 use Rattle.rules.specs.Schedule.{Schedule, stageFee}
-use Rattle.rules.specs.Rows.{Row, Held, LastStage, toll, heldToll, unsettled, source, debit}
+use Rattle.rules.specs.Rows.{Row, DisputeHeld, LastStage, toll, heldToll, unsettled, source, debit}
 use Rattle.rules.specs.Soundness.{kindFits}
-use Rattle.rules.specs.Book.{Account, Pending}
+use Rattle.rules.specs.Book.{Account, StatePending}
 use Rattle.rules.specs.Tick.{holdEnds, rises}
 use Rattle.rules.specs.Tables.{scheduleFrom}
 use Rattle.preservation.proofs.TickSteps.{rising}
@@ -60,10 +60,10 @@ not-due today r n = rw (ne-eqb (r .due) today n) (and-false (toll r && not (held
 -- ---- days
 
 -- a row that is not in dispute is no held toll, and no hold of it ends
-pub not-held : (r : Row) → (r .dispute ≡ Held → ⊥) → heldToll r ≡ false
-not-held r n = rw (ne-eqb (r .dispute) Held n) (and-false (toll r))
+pub not-held : (r : Row) → (r .dispute ≡ DisputeHeld → ⊥) → heldToll r ≡ false
+not-held r n = rw (ne-eqb (r .dispute) DisputeHeld n) (and-false (toll r))
 
-pub no-end : (today : ℕ) (r : Row) → (r .dispute ≡ Held → ⊥) → holdEnds today r ≡ false
+pub no-end : (today : ℕ) (r : Row) → (r .dispute ≡ DisputeHeld → ⊥) → holdEnds today r ≡ false
 unfolding holdEnds
 no-end today r n = rw (not-held r n)
 
@@ -82,9 +82,9 @@ ends-at today r h l =
 
 pub over-before : (today : ℕ) (x : Account) → today < x .request → false ≡ daysOver today x
 unfolding daysOver
-over-before today x l = rw (lt-leb (x .request + closingDays) today (omega arith)) (sym (and-false (x .state is Pending)))
+over-before today x l = rw (lt-leb (x .request + closingDays) today (omega arith)) (sym (and-false (x .state is StatePending)))
 
-pub over-at : (today : ℕ) (x : Account) → x .state ≡ Pending → x .request ≤ today → leb closingDays (today - x .request) ≡ daysOver today x
+pub over-at : (today : ℕ) (x : Account) → x .state ≡ StatePending → x .request ≤ today → leb closingDays (today - x .request) ≡ daysOver today x
 unfolding daysOver
 over-at today x e l =
     rw e

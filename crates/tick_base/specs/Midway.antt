@@ -3,7 +3,7 @@ use mathlib.Core.Path.{_≡_}
 use mathlib.Core.Bool.{true}
 use Prim.Native.Nat.{ℕ}
 use Rattle.rules.specs.Tables.{Tables, bookOf, lengthsFit, usedFits}
-use Rattle.rules.proofs.SoundnessLaws.{Near}
+use Rattle.rules.specs.SoundFacts.{Near}
 
 -- open tolls are due after `past`: yesterday until tolls are raised, then today
 pub record Midway (past : ℕ) (t : Tables) : Type 0 where

@@ -1,10 +1,10 @@
 // Days counted back from today: which holds end, and whose days to close are over.
 use records::Account;
 use records::Row;
+use records::codes::STATE_PENDING;
+use records::limits::CLOSING_DAYS;
+use records::limits::HOLD_DAYS;
 use row_tests::held_toll;
-use tables::codes::PENDING;
-use tables::limits::CLOSING_DAYS;
-use tables::limits::HOLD_DAYS;
 ghost use mathlib.Core.Path.{_≡_};
 ghost use Rattle.rules.specs.Tick.{holdEnds};
 ghost use Rattle.tick_base.specs.Remainders.{daysOver};
@@ -26,7 +26,7 @@ pub fn hold_ends(r: Row, today: u64) -> bool
 pub fn days_over(x: Account, today: u64) -> bool
     ensures { λ b. ⌜ b ≡ daysOver today x ⌝ }
 {
-    if x.state != PENDING {
+    if x.state != STATE_PENDING {
         return false;
     }
     if today < x.request {

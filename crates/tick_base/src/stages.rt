@@ -1,10 +1,10 @@
 // Which tolls rise at a tick, and their fees.
 use records::Row;
+use records::codes::KIND_TOLL;
+use records::codes::LAST_STAGE;
+use records::layout::FEE2_PLACE;
+use records::layout::HEADER_SCHEDULE;
 use row_tests::held_toll;
-use tables::codes::LAST_STAGE;
-use tables::codes::TOLL;
-use tables::layout::FEE2_PLACE;
-use tables::layout::HEADER_SCHEDULE;
 use tables::words::get;
 ghost use mathlib.Core.Path.{_≡_};
 ghost use mathlib.Core.Bool.{cond};
@@ -19,7 +19,7 @@ ghost use Rattle.rules.specs.Tables.{scheduleFrom};
 pub fn is_rising(r: Row, today: u64) -> bool
     ensures { λ b. ⌜ b ≡ rises today r ⌝ }
 {
-    (r.kind == TOLL)
+    (r.kind == KIND_TOLL)
         & !held_toll(r)
         & (r.settled < r.amount)
         & (r.mark < LAST_STAGE)

@@ -18,7 +18,8 @@ use Rattle.rules.specs.Book.{Account}
 use Rattle.tables.specs.Changes.{RowChanged, AccountChanged}
 use Rattle.tables.proofs.ChangeLaws.{unchanged, changed-append}
 use Rattle.posting.specs.Posts.{tablesAt, RowRoom, RowAdded}
-use Rattle.posting_laws.proofs.UsedRowsLaws.{UsedRows, rows-before, rows-add, rows-room}
+use Rattle.posting.specs.Written.{UsedRows}
+use Rattle.posting_laws.proofs.UsedRowsLaws.{rows-before, rows-add, rows-room}
 use Rattle.tick_close.specs.Closing.{closesBy, closeBy, refundsBy, refundOf, Closable, ClosedOne, useUpBy, closeAt, refundAt, refundsTo, AllClosable, ClosedTo}
 
 -- ---- one row: n is the account of row i, read first

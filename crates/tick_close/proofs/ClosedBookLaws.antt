@@ -17,7 +17,7 @@ use Rattle.lists.proofs.ListLaws.{tabulate-at, length-tabulate, numbered-at}
 use Rattle.lists.proofs.GatherLaws.{gather-same, change-same}
 use Rattle.records.specs.Layout.{dayPlace}
 use Rattle.records.specs.Encoding.{word, rowAt, rowsOf, accountAt, accountsOf}
-use Rattle.rules.specs.Limits.{mostRows, mostAccounts, highestRefund}
+use Rattle.records.specs.Limits.{mostRows, mostAccounts, highestRefund, slotCount}
 use Rattle.rules.specs.Rows.{Row, blank, remaining, unsettled, sourceOf, debitOf}
 use Rattle.rules.specs.Settlement.{money, owed}
 use Rattle.rules.specs.Book.{Account, unused, Book, account, accountNo}
@@ -33,8 +33,9 @@ use Rattle.tables.proofs.ChangeLaws.{mapped-all}
 use Rattle.account_sums.specs.Tallies.{moneyOf}
 use Rattle.account_sums.proofs.TallyLaws.{tallied-small}
 use Rattle.posting.specs.Posts.{tablesAt}
-use Rattle.posting_laws.proofs.WrittenLaws.{Written}
-use Rattle.posting_laws.proofs.UsedRowsLaws.{UsedRows, rows-before, rows-map, rows-then, rows-written}
+use Rattle.posting.specs.Written.{Written}
+use Rattle.posting.specs.Written.{UsedRows}
+use Rattle.posting_laws.proofs.UsedRowsLaws.{rows-before, rows-map, rows-then, rows-written}
 use Rattle.tick_base.specs.Midway.{Midway}
 use Rattle.tick_base.specs.Remainders.{Remainders, daysOver}
 use Rattle.tick_base.proofs.MidwayLaws.{midway-header, midway-rows, midway-length, midway-few, midway-room, midway-count, midway-each, midway-countable}
@@ -149,7 +150,7 @@ module _ (t : Tables) (m : Midway (word (t .header) dayPlace) t) where
     moneys-small : (n : ℕ) → n ≤ mostAccounts → getD moneys n 0 < 2 ^ 63
     unfolding only
     moneys-small n l =
-        let s = tallied-small moneyOf 257 (t .journal) highestRefund moneys (rowsUsed t) n (r .moneys) (omega arith) (λ k h.
+        let s = tallied-small moneyOf slotCount (t .journal) highestRefund moneys (rowsUsed t) n (r .moneys) (omega arith) (λ k h.
         cond-either (λ v. v ≤ highestRefund) (sourceOf n (rowAt (t .journal) k)) (remaining (rowAt (t .journal) k)) 0 (omega (arith, midway-countable _ t m .amount k h)) (omega arith)) in
         let f = mul-le-mul-right {m = rowsUsed t} {n = mostRows} highestRefund (midway-few _ t m) in
         omega arith

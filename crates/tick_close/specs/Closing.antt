@@ -12,14 +12,14 @@ use Rattle.records.specs.Encoding.{word, rowAt, rowsOf, accountAt, accountsOf, 
 use Rattle.records.specs.AccountOperations.{closed}
 use Rattle.lists.specs.Tests.{_is_}
 use Rattle.lists.specs.Lists.{one, gather, change}
-use Rattle.rules.specs.Limits.{mostAccounts}
-use Rattle.rules.specs.Rows.{Row, Refund, newRow, source, settleWhole}
+use Rattle.records.specs.Limits.{mostAccounts}
+use Rattle.rules.specs.Rows.{Row, KindRefund, newRow, source, settleWhole}
 use Rattle.rules.specs.Book.{Account, unused}
 use Rattle.rules.specs.Tick.{closes, closeAccounts}
 use Rattle.rules.specs.Tables.{Tables, bookOf}
 use Rattle.tables.specs.Changes.{AccountIn, AccountChanged}
 use Rattle.posting.specs.Posts.{tablesAt, RowRoom, RowAdded}
-use Rattle.posting_laws.proofs.UsedRowsLaws.{UsedRows}
+use Rattle.posting.specs.Written.{UsedRows}
 use Rattle.tick_base.specs.Midway.{Midway}
 use Rattle.tick_base.specs.Remainders.{daysOver}
 
@@ -39,7 +39,7 @@ refundsBy today money owed x = closesBy today owed x && ltb 0 money
 
 -- the refund of account n
 abbrev pub refundOf : ℕ → ℕ → ℕ → Row
-refundOf today money n = settleWhole (newRow Refund n today money)
+refundOf today money n = settleWhole (newRow KindRefund n today money)
 
 -- account i can be closed and a refund row added
 pub record Closable (h a j : List ℤ) (i today money owed : ℕ) : Type 0 where
@@ -104,7 +104,7 @@ pub record ClosedTo (h a j h′ a′ j′ : List ℤ) (today : ℕ) (money owed 
 -- ---- the tables
 
 -- midway, with room for the refunds, and whether an account closes
-pub record Closing (t : Tables) (closing : Bool) : Type 0 where
+pub record ReadyToClose (t : Tables) (closing : Bool) : Type 0 where
   pub midway : Midway (word (t .header) dayPlace) t
   pub room : length (closeAccounts (bookOf t) .rows) ≤ length (t .journal) / rowWidth
   pub quiet : closing ≡ false → (k : ℕ) → k < length (bookOf t .accounts) → closes (bookOf t) (suc k) (getD (bookOf t .accounts) k unused) ≡ false

@@ -1,20 +1,19 @@
 // The last step of a day tick: each pending account whose 15 days are over and that owes nothing closes, and its unused money leaves as
-// one refund row. Uses lists, records, rules, preservation, tables, table_rows, table_accounts, row_tests, account_sums, tick_rules,
-// posting, posting_laws and tick_base.
-use account_sums::SEATS;
+// one refund row.
+use account_sums::SLOTS;
 use posting::rows::add_row;
 use posting::rows::new_row;
 use records::Account;
+use records::codes::KIND_REFUND;
+use records::layout::ACCOUNT_WIDTH;
+use records::layout::DAY_PLACE;
+use records::layout::USED_PLACE;
 use row_tests::is_source;
 use table_accounts::read_account;
 use table_accounts::write_account;
 use table_rows::account_at;
 use table_rows::put_settled;
 use table_rows::read_row;
-use tables::codes::REFUND;
-use tables::layout::ACCOUNT_WIDTH;
-use tables::layout::DAY_PLACE;
-use tables::layout::USED_PLACE;
 use tables::words::get;
 use tick_base::days::days_over;
 use tick_base::sums::add_remainders;
@@ -26,9 +25,9 @@ ghost use Rattle.records.specs.Encoding.{rowAt};
 ghost use Rattle.rules.specs.Tick.{closeAccounts};
 ghost use Rattle.rules.specs.Tables.{bookOf};
 ghost use Rattle.tables.specs.Changes.{RowIn, RowChanged, RowsMapped};
-ghost use Rattle.posting.specs.Posts.{tablesAt};
-ghost use Rattle.posting_laws.proofs.WrittenLaws.{Written};
-ghost use Rattle.tick_close.specs.Closing.{closesBy, Closable, ClosedOne, useUpBy, Usable, UsableRows, AllClosable, ClosedTo, Closing};
+ghost use Rattle.posting.specs.Written.{Written};
+ghost use Rattle.tick_close.specs.Closing.{closesBy, Closable, ClosedOne, useUpBy, Usable, UsableRows, AllClosable, ClosedTo, ReadyToClose};
+ghost use Rattle.rules.specs.Lent.{lent, atEntry, atExit};
 
 // Its days are over and it owes nothing.
 fn is_closing(x: Account, today: u64, owed: u64) -> bool
@@ -39,9 +38,10 @@ fn is_closing(x: Account, today: u64, owed: u64) -> bool
 
 // Row i is used whole if it is a source of a closing account. Few accounts close, so that is tested first, and the row's account is
 // read alone.
-fn use_row(accounts: &[i64], journal: &mut [i64], i: usize, today: u64, owed: &[u64; SEATS])
+fn use_row(accounts: &[i64], journal: &mut [i64], i: usize, today: u64, owed: &[u64; SLOTS])
     requires { ⌜ RowIn (now journal) i × Usable (now accounts) (rowAt (now journal) i) ⌝ }
-    ensures { λ _. ⌜ RowChanged (now (journal .entry)) (now (journal .exit)) i (useUpBy today (now (accounts .entry)) (now (owed .entry)) (rowAt (now (journal .entry)) i)) ⌝ }
+    ensures { λ _. ⌜ RowChanged (now (journal .entry)) (now (journal .exit)) i
+        (useUpBy today (now (accounts .entry)) (now (owed .entry)) (rowAt (now (journal .entry)) i)) ⌝ }
 {
     let n = account_at(journal, i) as usize;
     if !is_closing(read_account(accounts, n - 1), today, owed[n]) {
@@ -55,9 +55,10 @@ fn use_row(accounts: &[i64], journal: &mut [i64], i: usize, today: u64, owed: &[
 }
 
 // The used rows, before any account changes.
-fn use_rows(accounts: &[i64], journal: &mut [i64], used: usize, today: u64, owed: &[u64; SEATS])
+fn use_rows(accounts: &[i64], journal: &mut [i64], used: usize, today: u64, owed: &[u64; SLOTS])
     requires { ⌜ UsableRows (now accounts) (now journal) used ⌝ }
-    ensures { λ _. ⌜ RowsMapped (useUpBy today (now (accounts .entry)) (now (owed .entry))) (now (journal .entry)) (now (journal .exit)) used ⌝ }
+    ensures { λ _. ⌜ RowsMapped (useUpBy today (now (accounts .entry)) (now (owed .entry))) (now (journal .entry))
+        (now (journal .exit)) used ⌝ }
 {
     let mut i = 0;
     while i < used {
@@ -77,7 +78,8 @@ fn close_account(
     owed: u64,
 )
     requires { ⌜ Closable (now header) (now accounts) (now journal) i today money owed ⌝ }
-    ensures { λ _. ⌜ ClosedOne (now (header .entry)) (now (header .exit)) (now (accounts .entry)) (now (accounts .exit)) (now (journal .entry)) (now (journal .exit)) i today money owed ⌝ }
+    ensures { λ _. ⌜ ClosedOne (now (header .entry)) (now (header .exit)) (now (accounts .entry)) (now (accounts .exit))
+        (now (journal .entry)) (now (journal .exit)) i today money owed ⌝ }
 {
     let x = read_account(accounts, i);
     if !is_closing(x, today, owed) {
@@ -87,7 +89,7 @@ fn close_account(
     if money == 0 {
         return;
     }
-    let mut r = new_row(REFUND, i as u64 + 1, today, money);
+    let mut r = new_row(KIND_REFUND, i as u64 + 1, today, money);
     r.settled = money;
     add_row(header, journal, r);
 }
@@ -98,11 +100,13 @@ fn close_each(
     accounts: &mut [i64],
     journal: &mut [i64],
     today: u64,
-    money: &[u64; SEATS],
-    owed: &[u64; SEATS],
+    money: &[u64; SLOTS],
+    owed: &[u64; SLOTS],
 )
     requires { ⌜ AllClosable (now header) (now accounts) (now journal) today (now money) (now owed) ⌝ }
-    ensures { λ _. ⌜ ClosedTo (now (header .entry)) (now (accounts .entry)) (now (journal .entry)) (now (header .exit)) (now (accounts .exit)) (now (journal .exit)) today (now (money .entry)) (now (owed .entry)) (length (now (accounts .entry)) / accountWidth) ⌝ }
+    ensures { λ _. ⌜ ClosedTo (now (header .entry)) (now (accounts .entry)) (now (journal .entry)) (now (header .exit))
+        (now (accounts .exit)) (now (journal .exit)) today (now (money .entry)) (now (owed .entry))
+        (length (now (accounts .entry)) / accountWidth) ⌝ }
 {
     let count = accounts.len() / ACCOUNT_WIDTH;
     let mut i = 0;
@@ -122,16 +126,17 @@ fn close_each(
 
 // What remains is summed first: an account is judged on the book before any closes. On most days none closes, and nothing changes.
 pub fn close_accounts(header: &mut [i64], accounts: &mut [i64], journal: &mut [i64], closing: bool)
-    requires { ⌜ Closing (tablesAt (now header) (now accounts) (now journal)) closing ⌝ }
-    ensures { λ _. ⌜ Written (tablesAt (now (header .entry)) (now (accounts .entry)) (now (journal .entry))) (tablesAt (now (header .exit)) (now (accounts .exit)) (now (journal .exit))) (closeAccounts (bookOf (tablesAt (now (header .entry)) (now (accounts .entry)) (now (journal .entry))))) ⌝ }
+    requires { ⌜ ReadyToClose (lent header accounts journal) closing ⌝ }
+    ensures { λ _. ⌜ Written (atEntry header accounts journal) (atExit header accounts journal)
+        (closeAccounts (bookOf (atEntry header accounts journal))) ⌝ }
 {
     if !closing {
         return;
     }
     let used = get(header, USED_PLACE) as usize;
     let today = get(header, DAY_PLACE);
-    let mut money = [0u64; SEATS];
-    let mut owed = [0u64; SEATS];
+    let mut money = [0u64; SLOTS];
+    let mut owed = [0u64; SLOTS];
     add_remainders(journal, used, &mut money, &mut owed);
     use_rows(accounts, journal, used, today, &owed);
     close_each(header, accounts, journal, today, &money, &owed);

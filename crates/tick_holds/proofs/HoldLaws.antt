@@ -9,13 +9,14 @@ use lib.IntN.{ℤ}
 use lib.ListN.{length, getD}
 use lib.Dec.{eqb, ltb}
 use borrow.Author.Tests.{eqb-true}
+use Rattle.records.specs.Codes.{KindToll}
 use Rattle.lists.specs.Tests.{_is_}
 use Rattle.lists.specs.Lists.{count, exists}
 use Rattle.lists.proofs.TestLaws.{and-left, and-right}
 use Rattle.lists.proofs.ListLaws.{tabulate-at}
 use Rattle.records.specs.Layout.{dayPlace}
 use Rattle.records.specs.Encoding.{word, rowAt, rowsOf, StorableRow}
-use Rattle.rules.specs.Limits.{holdDays}
+use Rattle.records.specs.Limits.{holdDays, slotCount}
 use Rattle.rules.specs.Rows.{Row, blank, heldToll}
 use Rattle.rules.specs.Events.{release}
 use Rattle.rules.specs.Settlement.{settle}
@@ -59,7 +60,7 @@ module _ (t : Tables) (s : soundTables t ≡ true) where
     unfolding holdEnds
     ending =
         let h = and-left (heldToll r) (r .hold + holdDays is b .day + 1) e in
-        let kind : r .kind ≡ 1 = eqb-true (r .kind) 1 (and-left (eqb (r .kind) 1) (eqb (r .dispute) 1) h) in
+        let kind : r .kind ≡ KindToll = eqb-true (r .kind) 1 (and-left (eqb (r .kind) 1) (eqb (r .dispute) 1) h) in
         let disp : r .dispute ≡ 1 = eqb-true (r .dispute) 1 (and-right (eqb (r .kind) 1) (eqb (r .dispute) 1) h) in
         (eqb-true _ _ (and-right (heldToll r) (r .hold + holdDays is b .day + 1) e), held-is (b .day) (b .schedule .stage) r kind disp (sound-book t s .near .live k l .hold))
 
@@ -145,7 +146,7 @@ settled-more ends n t u v used f g = record {
 
 -- ---- both steps
 
-module _ (t : Tables) (s : soundTables t ≡ true) (ends : List ℕ) (u v : List ℤ) (c : Tallied (endsOf (word (t .header) dayPlace + 1)) 257 (t .journal) ends (rowsUsed t))
+module _ (t : Tables) (s : soundTables t ≡ true) (ends : List ℕ) (u v : List ℤ) (c : Tallied (endsOf (word (t .header) dayPlace + 1)) slotCount (t .journal) ends (rowsUsed t))
     (m : RowsMapped (endHold (word (t .header) dayPlace + 1)) (t .journal) u (rowsUsed t)) (d : SettledThose ends (accountsIn t) u v (rowsUsed t)) (few : accountsIn t ≤ 256) where
   -- the counts tell which accounts have a hold that ended
   freed-counted : (n : ℕ) → n ≤ accountsIn t → ltb 0 (getD ends n 0) ≡ freed (bookOf t .day + 1) (bookOf t .rows) n

@@ -1,35 +1,37 @@
-// The first steps of a day tick: holds begun 30 days ago end as by verdict 0, then settlement of the accounts for which something can have
-// changed. Uses lists, records, rules, preservation, tables, table_rows, settlement, account_sums, tick_rules, posting and tick_base.
-use account_sums::SEATS;
+// The first steps of a day tick: holds begun 30 days ago end as by verdict 0, then settlement of the accounts for which something can
+// have changed.
+use account_sums::SLOTS;
 use account_sums::add;
 use account_sums::part;
 use posting::rows::released;
+use records::codes::DISPUTE_HELD;
+use records::layout::ACCOUNT_WIDTH;
+use records::layout::DAY_PLACE;
+use records::layout::USED_PLACE;
 use settlement::settle;
 use table_rows::dispute_at;
 use table_rows::read_row;
 use table_rows::write_row;
-use tables::codes::HELD;
-use tables::layout::ACCOUNT_WIDTH;
-use tables::layout::DAY_PLACE;
-use tables::layout::USED_PLACE;
 use tables::words::get;
 use tick_base::days::hold_ends;
 ghost use Prim.Native.Nat.{_+_, _≤_, _<_};
 ghost use Rattle.records.specs.Encoding.{rowAt};
-ghost use Rattle.rules.specs.Limits.{mostAccounts};
+ghost use Rattle.records.specs.Limits.{mostAccounts, slotCount};
 ghost use Rattle.rules.specs.Tick.{endHold};
 ghost use Rattle.tables.specs.Changes.{RowIn, RowChanged, RowsMapped};
 ghost use Rattle.account_sums.specs.Tallies.{Tallied, Countable};
 ghost use Rattle.settlement.specs.Settling.{Journal};
-ghost use Rattle.posting.specs.Posts.{tablesAt};
 ghost use Rattle.tick_holds.specs.Holds.{endsOf, Ending, EndingRows, Ends, SettledIf, SettledThose, UnraisedRows};
+ghost use Rattle.rules.specs.Lent.{lent, atEntry};
 
 // Row i, where its hold ends, is counted at its account. Few rows are in dispute, so that is read first and alone, here and below.
-fn count_end(journal: &[i64], used: usize, i: usize, today: u64, ends: &mut [u64; SEATS])
-    requires { ⌜ Countable (now journal) used × (i < used) × Tallied (endsOf today) 257 (now journal) (now ends) i ⌝ }
-    ensures { λ _. ⌜ Tallied (endsOf today) 257 (now (journal .entry)) (now (ends .exit)) (i + 1) ⌝ }
+fn count_end(journal: &[i64], used: usize, i: usize, today: u64, ends: &mut [u64; SLOTS])
+    requires { ⌜ Countable (now journal) used
+        × (i < used)
+        × Tallied (endsOf today) slotCount (now journal) (now ends) i ⌝ }
+    ensures { λ _. ⌜ Tallied (endsOf today) slotCount (now (journal .entry)) (now (ends .exit)) (i + 1) ⌝ }
 {
-    if dispute_at(journal, i) != HELD {
+    if dispute_at(journal, i) != DISPUTE_HELD {
         return;
     }
     let r = read_row(journal, i);
@@ -37,9 +39,9 @@ fn count_end(journal: &[i64], used: usize, i: usize, today: u64, ends: &mut [u64
 }
 
 // How many holds of each account end.
-fn count_ends(journal: &[i64], used: usize, today: u64, ends: &mut [u64; SEATS])
-    requires { ⌜ Countable (now journal) used × Tallied (endsOf today) 257 (now journal) (now ends) 0 ⌝ }
-    ensures { λ _. ⌜ Tallied (endsOf today) 257 (now (journal .entry)) (now (ends .exit)) used ⌝ }
+fn count_ends(journal: &[i64], used: usize, today: u64, ends: &mut [u64; SLOTS])
+    requires { ⌜ Countable (now journal) used × Tallied (endsOf today) slotCount (now journal) (now ends) 0 ⌝ }
+    ensures { λ _. ⌜ Tallied (endsOf today) slotCount (now (journal .entry)) (now (ends .exit)) used ⌝ }
 {
     let mut i = 0;
     while i < used {
@@ -51,9 +53,10 @@ fn count_ends(journal: &[i64], used: usize, today: u64, ends: &mut [u64; SEATS])
 // Row i, released where its hold ends.
 fn end_hold(journal: &mut [i64], i: usize, today: u64)
     requires { ⌜ RowIn (now journal) i × Ending today (rowAt (now journal) i) ⌝ }
-    ensures { λ _. ⌜ RowChanged (now (journal .entry)) (now (journal .exit)) i (endHold today (rowAt (now (journal .entry)) i)) ⌝ }
+    ensures { λ _. ⌜ RowChanged (now (journal .entry)) (now (journal .exit)) i
+        (endHold today (rowAt (now (journal .entry)) i)) ⌝ }
 {
-    if dispute_at(journal, i) != HELD {
+    if dispute_at(journal, i) != DISPUTE_HELD {
         return;
     }
     let r = read_row(journal, i);
@@ -85,7 +88,7 @@ fn settle_if(journal: &mut [i64], used: usize, account: u64, freed: bool)
 }
 
 // Accounts 1 to `count`, those settled of which a hold has ended.
-fn settle_freed(journal: &mut [i64], used: usize, count: usize, ends: &[u64; SEATS])
+fn settle_freed(journal: &mut [i64], used: usize, count: usize, ends: &[u64; SLOTS])
     requires { ⌜ Journal (now journal) used × (count ≤ mostAccounts) ⌝ }
     ensures { λ _. ⌜ SettledThose (now (ends .entry)) count (now (journal .entry)) (now (journal .exit)) used ⌝ }
 {
@@ -99,15 +102,15 @@ fn settle_freed(journal: &mut [i64], used: usize, count: usize, ends: &[u64; SEA
 
 // The holds that end at the tick to the next day, and the settlement that they allow. On most days none ends, and nothing changes.
 pub fn free_and_settle(header: &[i64], accounts: &[i64], journal: &mut [i64], ending: bool)
-    requires { ⌜ Ends (tablesAt (now header) (now accounts) (now journal)) ending ⌝ }
-    ensures { λ _. ⌜ UnraisedRows (tablesAt (now (header .entry)) (now (accounts .entry)) (now (journal .entry))) (now (journal .exit)) ⌝ }
+    requires { ⌜ Ends (lent header accounts journal) ending ⌝ }
+    ensures { λ _. ⌜ UnraisedRows (atEntry header accounts journal) (now (journal .exit)) ⌝ }
 {
     if !ending {
         return;
     }
     let used = get(header, USED_PLACE) as usize;
     let today = get(header, DAY_PLACE) + 1;
-    let mut ends = [0u64; SEATS];
+    let mut ends = [0u64; SLOTS];
     count_ends(journal, used, today, &mut ends);
     end_holds(journal, used, today);
     settle_freed(journal, used, accounts.len() / ACCOUNT_WIDTH, &ends);

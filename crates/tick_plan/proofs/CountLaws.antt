@@ -16,11 +16,11 @@ use Rattle.lists.proofs.GatherLaws.{length-gather-same, length-gather-tabulate}
 use Rattle.lists.proofs.ListLaws.{tabulate-at, length-tabulate}
 use Rattle.records.specs.Layout.{dayPlace, headerSchedule}
 use Rattle.records.specs.Encoding.{word, rowAt, rowsOf, accountAt, accountsOf}
-use Rattle.rules.specs.Limits.{closingDays, mostRows, mostAccounts}
+use Rattle.records.specs.Limits.{closingDays, mostRows, mostAccounts, slotCount}
 use Rattle.rules.specs.Schedule.{Schedule, stageFee}
 use Rattle.rules.specs.Rows.{Row, blank, heldToll}
 use Rattle.rules.specs.Settlement.{money, owed}
-use Rattle.rules.specs.Book.{Account, Pending, unused, Book}
+use Rattle.rules.specs.Book.{Account, StatePending, unused, Book}
 use Rattle.rules.specs.Tick.{holdEnds, rises, feeRow}
 use Rattle.rules.specs.Tables.{Tables, accountsIn, rowsUsed, scheduleFrom, bookOf, soundTables}
 use Rattle.tick_rules.specs.Ticks.{staysHeld, willRefund, willClose, NoneCloses, feesAdded, refundsAdded}
@@ -67,7 +67,7 @@ share-stays today = record { form = λ n r. refl }
 -- ---- one row more
 
 module _ (h t : List ℤ) (today : ℕ) (money owed stays : List ℕ) where
-  pub rows-none : Remainders t money owed 0 → Tallied (staysOf today) 257 t stays 0 → RowsCounted h t today money owed stays 0 (record { fees = 0; ending = false })
+  pub rows-none : Remainders t money owed 0 → Tallied (staysOf today) slotCount t stays 0 → RowsCounted h t today money owed stays 0 (record { fees = 0; ending = false })
   unfolding gatherFrom exists count sumBy tabulate
   rows-none r s = record { sums = r; held = s; fees = refl; few = omega arith; ending = refl }
 
@@ -83,7 +83,7 @@ module _ (h t : List ℤ) (today : ℕ) (money owed stays : List ℕ) where
       go (suc m) false = rw (lt-ltb 0 (suc m) (omega arith)) (lt-ltb 0 (suc m + 0) (omega arith))
 
   pub rows-more : (i : ℕ) (c : RowCounts) → RowsCounted h t today money owed stays i c → (money′ owed′ stays′ : List ℕ) → Remainders t money′ owed′ (i + 1)
-      → Tallied (staysOf today) 257 t stays′ (i + 1) → (fee : ℕ) → ((k : ℕ) → fee ≡ length (feeRow (scheduleFrom h headerSchedule) today k (rowAt t i))) → fee ≤ 1
+      → Tallied (staysOf today) slotCount t stays′ (i + 1) → (fee : ℕ) → ((k : ℕ) → fee ≡ length (feeRow (scheduleFrom h headerSchedule) today k (rowAt t i))) → fee ≤ 1
       → (ends : Bool) → ends ≡ holdEnds today (rowAt t i) → RowsCounted h t today money′ owed′ stays′ (i + 1) (record { fees = c .fees + fee; ending = c .ending || ends })
   rows-more i c w money′ owed′ stays′ r s fee f l ends e = record {
     sums = r;
@@ -96,7 +96,7 @@ module _ (h t : List ℤ) (today : ℕ) (money owed stays : List ℕ) where
 -- ---- the refunds counted are those of the definition
 
 module _ (b : Book) (t : List ℤ) (stays owed′ money′ : List ℕ) (n : ℕ) (rows : b .rows ≡ rowsOf t n)
-    (s : Tallied (staysOf (b .day + 1)) 257 t stays n) (r : Remainders t money′ owed′ n) (few : length (b .accounts) ≤ 256) where
+    (s : Tallied (staysOf (b .day + 1)) slotCount t stays n) (r : Remainders t money′ owed′ n) (few : length (b .accounts) ≤ 256) where
   zero-test : (m : ℕ) → eqb m 0 ≡ not (ltb 0 m)
   zero-test zero = refl
   zero-test (suc m) = rw (lt-ltb 0 (suc m) (omega arith)) (ne-eqb (suc m) 0 (λ q. omega arith))
@@ -104,13 +104,13 @@ module _ (b : Book) (t : List ℤ) (stays owed′ money′ : List ℕ) (n : ℕ)
   test : (p : Bool) (m : ℕ) (q : Bool) → p && eqb m 0 && q ≡ p && not (ltb 0 m) && q
   test p m q = rw (zero-test m)
 
-  refund-at : (k : ℕ) → k < 257 → (x : Account) → refundBy (b .day + 1) (getD stays k 0) (getD owed′ k 0) (getD money′ k 0) x ≡ willRefund b k x
+  refund-at : (k : ℕ) → k < slotCount → (x : Account) → refundBy (b .day + 1) (getD stays k 0) (getD owed′ k 0) (getD money′ k 0) x ≡ willRefund b k x
   unfolding refundBy willRefund daysOver exists count staysOf money owed
-  refund-at k h x = rw (s .each k h, r .moneys .each k h, r .owings .each k h, rows) (test (x .state is Pending && leb (x .request + closingDays) (b .day + 1)) (sumBy (staysOf (b .day + 1) k) (rowsOf t n)) (ltb (sumBy (owedOf k) (rowsOf t n)) (sumBy (moneyOf k) (rowsOf t n))))
+  refund-at k h x = rw (s .each k h, r .moneys .each k h, r .owings .each k h, rows) (test (x .state is StatePending && leb (x .request + closingDays) (b .day + 1)) (sumBy (staysOf (b .day + 1) k) (rowsOf t n)) (ltb (sumBy (owedOf k) (rowsOf t n)) (sumBy (moneyOf k) (rowsOf t n))))
 
-  close-at : (k : ℕ) → k < 257 → (x : Account) → closeBy (b .day + 1) (getD stays k 0) (getD owed′ k 0) (getD money′ k 0) x ≡ willClose b k x
+  close-at : (k : ℕ) → k < slotCount → (x : Account) → closeBy (b .day + 1) (getD stays k 0) (getD owed′ k 0) (getD money′ k 0) x ≡ willClose b k x
   unfolding closeBy willClose daysOver exists count staysOf money owed
-  close-at k h x = rw (s .each k h, r .moneys .each k h, r .owings .each k h, rows) (test (x .state is Pending && leb (x .request + closingDays) (b .day + 1)) (sumBy (staysOf (b .day + 1) k) (rowsOf t n)) (leb (sumBy (owedOf k) (rowsOf t n)) (sumBy (moneyOf k) (rowsOf t n))))
+  close-at k h x = rw (s .each k h, r .moneys .each k h, r .owings .each k h, rows) (test (x .state is StatePending && leb (x .request + closingDays) (b .day + 1)) (sumBy (staysOf (b .day + 1) k) (rowsOf t n)) (leb (sumBy (owedOf k) (rowsOf t n)) (sumBy (moneyOf k) (rowsOf t n))))
 
   pub none-closes : (a : List ℤ) (m : ℕ) → b .accounts ≡ accountsOf a m → NoneClosesBy (b .day + 1) stays owed′ money′ a m → NoneCloses b
   none-closes a m e z k h =

@@ -11,7 +11,7 @@ use Rattle.lists.specs.Lists.{exists, one, gather}
 use Rattle.records.specs.Layout.{headerSchedule}
 use Rattle.records.specs.Encoding.{rowsOf, accountAt}
 use Rattle.rules.specs.Rows.{Row, blank}
-use Rattle.rules.specs.Limits.{mostAccounts, mostRows}
+use Rattle.records.specs.Limits.{mostAccounts, mostRows, slotCount}
 use Rattle.rules.specs.Book.{Account, Book}
 use Rattle.rules.specs.Tick.{holdEnds, feeRow}
 use Rattle.rules.specs.Tables.{scheduleFrom}
@@ -44,7 +44,7 @@ refundAt today stays owed money n x = one (refundBy today (getD stays n 0) (getD
 -- what the first i rows come to
 pub record RowsCounted (h t : List ℤ) (today : ℕ) (money owed stays : List ℕ) (i : ℕ) (c : RowCounts) : Type 0 where
   pub sums : Remainders t money owed i
-  pub held : Tallied (staysOf today) 257 t stays i
+  pub held : Tallied (staysOf today) slotCount t stays i
   pub fees : c .fees ≡ length (gather (feeRow (scheduleFrom h headerSchedule) today) (rowsOf t i))
   pub few : c .fees ≤ i
   pub ending : c .ending ≡ exists (holdEnds today) (rowsOf t i)

@@ -14,7 +14,9 @@ ghost use Rattle.tables.specs.Changes.{RowIn};
 // How many fee rows row i brings: one or none. Few rows are due today, so the due day is read first and alone.
 pub fn fee_rows(header: &[i64], journal: &[i64], i: usize, today: u64) -> usize
     requires { ⌜ (headerWidth ≤ length (now header)) × RowIn (now journal) i ⌝ }
-    ensures { λ n. ⌜ ((k : ℕ) → n ≡ length (feeRow (scheduleFrom (now (header .entry)) headerSchedule) today k (rowAt (now (journal .entry)) i))) × (n ≤ 1) ⌝ }
+    ensures { λ n. ⌜ ((k : ℕ) → n ≡ length
+        (feeRow (scheduleFrom (now (header .entry)) headerSchedule) today k (rowAt (now (journal .entry)) i)))
+        × (n ≤ 1) ⌝ }
 {
     if due_at(journal, i) != today {
         return 0;

@@ -1,24 +1,23 @@
 // The plan of a day tick, made on the tables before it writes anything: how many rows it adds, which are the fees of the tolls that will
-// rise and a refund for each account that will close with money left; whether a hold ends; whether an account closes. Uses lists, records,
-// rules, tables, table_rows, table_accounts, row_tests, account_sums, tick_rules, posting and tick_base.
+// rise and a refund for each account that will close with money left; whether a hold ends; whether an account closes.
 mod fees; // fees.rt: the fee of a toll that will rise
 mod holds; // holds.rt: the tolls that stay held and those whose hold ends
 mod rows; // rows.rt: what the used rows come to, in one pass
 mod refunds; // refunds.rt: the accounts that will close, and those of them with money left
 
-use account_sums::SEATS;
+use account_sums::SLOTS;
+use records::layout::ACCOUNT_WIDTH;
+use records::layout::DAY_PLACE;
+use records::layout::USED_PLACE;
 use refunds::any_closes;
 use refunds::refunds_added;
 use rows::count_rows;
-use tables::layout::ACCOUNT_WIDTH;
-use tables::layout::DAY_PLACE;
-use tables::layout::USED_PLACE;
 use tables::words::get;
 ghost use mathlib.Core.Path.{_≡_};
 ghost use mathlib.Core.Bool.{true};
 ghost use Rattle.rules.specs.Tables.{bookOf, soundTables};
-ghost use Rattle.posting.specs.Posts.{tablesAt};
 ghost use Rattle.tick_plan.specs.Plans.{Planned};
+ghost use Rattle.rules.specs.Lent.{lent, atEntry};
 
 // How many rows the tick adds, whether a hold ends, and whether an account closes.
 pub struct Plan {
@@ -29,14 +28,14 @@ pub struct Plan {
 
 // The sums are 6 KiB of the stack.
 pub fn plan_tick(header: &[i64], accounts: &[i64], journal: &[i64]) -> Plan
-    requires { ⌜ soundTables (tablesAt (now header) (now accounts) (now journal)) ≡ true ⌝ }
-    ensures { λ p. ⌜ Planned (bookOf (tablesAt (now (header .entry)) (now (accounts .entry)) (now (journal .entry)))) p ⌝ }
+    requires { ⌜ soundTables (lent header accounts journal) ≡ true ⌝ }
+    ensures { λ p. ⌜ Planned (bookOf (atEntry header accounts journal)) p ⌝ }
 {
     let used = get(header, USED_PLACE) as usize;
     let today = get(header, DAY_PLACE) + 1;
-    let mut money = [0u64; SEATS];
-    let mut owed = [0u64; SEATS];
-    let mut stays = [0u64; SEATS];
+    let mut money = [0u64; SLOTS];
+    let mut owed = [0u64; SLOTS];
+    let mut stays = [0u64; SLOTS];
     let c = count_rows(
         header,
         journal,

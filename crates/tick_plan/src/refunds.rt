@@ -1,5 +1,5 @@
 // The accounts that will close, and those of them that have money left.
-use account_sums::SEATS;
+use account_sums::SLOTS;
 use records::Account;
 use table_accounts::read_account;
 use tick_base::days::days_over;
@@ -10,7 +10,7 @@ ghost use lib.ListN.{length};
 ghost use Rattle.lists.specs.Lists.{gather, one};
 ghost use Rattle.records.specs.Layout.{accountWidth};
 ghost use Rattle.records.specs.Encoding.{accountsOf};
-ghost use Rattle.rules.specs.Limits.{mostAccounts};
+ghost use Rattle.records.specs.Limits.{mostAccounts};
 ghost use Rattle.rules.specs.Rows.{blank};
 ghost use Rattle.tick_plan.specs.Plans.{closeBy, NoneClosesBy, refundBy, refundAt};
 
@@ -26,12 +26,13 @@ pub fn any_closes(
     accounts: &[i64],
     count: usize,
     today: u64,
-    stays: &[u64; SEATS],
-    owed: &[u64; SEATS],
-    money: &[u64; SEATS],
+    stays: &[u64; SLOTS],
+    owed: &[u64; SLOTS],
+    money: &[u64; SLOTS],
 ) -> bool
     requires { ⌜ (count * accountWidth ≤ length (now accounts)) × (count ≤ mostAccounts) ⌝ }
-    ensures { λ b. ⌜ (b ≡ false → NoneClosesBy today (now (stays .entry)) (now (owed .entry)) (now (money .entry)) (now (accounts .entry)) count) ⌝ }
+    ensures { λ b. ⌜ (b ≡ false → NoneClosesBy today (now (stays .entry)) (now (owed .entry)) (now (money .entry))
+        (now (accounts .entry)) count) ⌝ }
 {
     let mut i = 0;
     while i < count {
@@ -65,12 +66,14 @@ pub fn refunds_added(
     accounts: &[i64],
     count: usize,
     today: u64,
-    stays: &[u64; SEATS],
-    owed: &[u64; SEATS],
-    money: &[u64; SEATS],
+    stays: &[u64; SLOTS],
+    owed: &[u64; SLOTS],
+    money: &[u64; SLOTS],
 ) -> usize
     requires { ⌜ (count * accountWidth ≤ length (now accounts)) × (count ≤ mostAccounts) ⌝ }
-    ensures { λ n. ⌜ (n ≡ length (gather (refundAt today (now (stays .entry)) (now (owed .entry)) (now (money .entry))) (accountsOf (now (accounts .entry)) count))) × (n ≤ count) ⌝ }
+    ensures { λ n. ⌜ (n ≡ length (gather (refundAt today (now (stays .entry)) (now (owed .entry)) (now (money .entry)))
+        (accountsOf (now (accounts .entry)) count)))
+        × (n ≤ count) ⌝ }
 {
     let mut n = 0;
     let mut i = 0;

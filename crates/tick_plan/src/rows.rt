@@ -1,7 +1,7 @@
 // What the used rows come to, in one pass.
 use super::fees::fee_rows;
 use super::holds::count_hold;
-use account_sums::SEATS;
+use account_sums::SLOTS;
 use tick_base::sums::add_remainder;
 ghost use Prim.Native.Nat.{_+_, _≤_, _<_};
 ghost use lib.ListN.{length};
@@ -9,6 +9,7 @@ ghost use Rattle.records.specs.Layout.{headerWidth};
 ghost use Rattle.account_sums.specs.Tallies.{Tallied, Countable};
 ghost use Rattle.tick_base.specs.Remainders.{Remainders};
 ghost use Rattle.tick_plan.specs.Plans.{staysOf, RowsCounted};
+ghost use Rattle.records.specs.Limits.{slotCount};
 
 // How many fee rows the tick adds, and whether a hold ends.
 pub struct RowCounts {
@@ -23,13 +24,17 @@ fn count_row(
     used: usize,
     i: usize,
     today: u64,
-    money: &mut [u64; SEATS],
-    owed: &mut [u64; SEATS],
-    stays: &mut [u64; SEATS],
+    money: &mut [u64; SLOTS],
+    owed: &mut [u64; SLOTS],
+    stays: &mut [u64; SLOTS],
     c: RowCounts,
 ) -> RowCounts
-    requires { ⌜ (headerWidth ≤ length (now header)) × Countable (now journal) used × (i < used) × RowsCounted (now header) (now journal) today (now money) (now owed) (now stays) i c ⌝ }
-    ensures { λ r. ⌜ RowsCounted (now (header .entry)) (now (journal .entry)) today (now (money .exit)) (now (owed .exit)) (now (stays .exit)) (i + 1) r ⌝ }
+    requires { ⌜ (headerWidth ≤ length (now header))
+        × Countable (now journal) used
+        × (i < used)
+        × RowsCounted (now header) (now journal) today (now money) (now owed) (now stays) i c ⌝ }
+    ensures { λ r. ⌜ RowsCounted (now (header .entry)) (now (journal .entry)) today (now (money .exit)) (now (owed .exit))
+        (now (stays .exit)) (i + 1) r ⌝ }
 {
     add_remainder(journal, used, i, money, owed);
     let ends = count_hold(journal, used, i, today, stays);
@@ -46,12 +51,16 @@ pub fn count_rows(
     journal: &[i64],
     used: usize,
     today: u64,
-    money: &mut [u64; SEATS],
-    owed: &mut [u64; SEATS],
-    stays: &mut [u64; SEATS],
+    money: &mut [u64; SLOTS],
+    owed: &mut [u64; SLOTS],
+    stays: &mut [u64; SLOTS],
 ) -> RowCounts
-    requires { ⌜ (headerWidth ≤ length (now header)) × Countable (now journal) used × Remainders (now journal) (now money) (now owed) 0 × Tallied (staysOf today) 257 (now journal) (now stays) 0 ⌝ }
-    ensures { λ c. ⌜ RowsCounted (now (header .entry)) (now (journal .entry)) today (now (money .exit)) (now (owed .exit)) (now (stays .exit)) used c ⌝ }
+    requires { ⌜ (headerWidth ≤ length (now header))
+        × Countable (now journal) used
+        × Remainders (now journal) (now money) (now owed) 0
+        × Tallied (staysOf today) slotCount (now journal) (now stays) 0 ⌝ }
+    ensures { λ c. ⌜ RowsCounted (now (header .entry)) (now (journal .entry)) today (now (money .exit)) (now (owed .exit))
+        (now (stays .exit)) used c ⌝ }
 {
     let mut c = RowCounts {
         fees: 0,

@@ -11,13 +11,14 @@ use borrow.Author.Tests.{lt-ltb}
 use Rattle.records.specs.Layout.{usedPlace, headerSchedule, stagePlace}
 use Rattle.records.specs.Encoding.{word, rowAt, StorableRow}
 use Rattle.rules.specs.Schedule.{Schedule, stageFee}
-use Rattle.rules.specs.Rows.{Row, Fee, newRow, withMark, withDue, withReference}
+use Rattle.rules.specs.Rows.{Row, KindFee, newRow, withMark, withDue, withReference}
 use Rattle.rules.specs.Tick.{rises, raise, feeRow}
 use Rattle.rules.specs.Tables.{Tables, scheduleFrom}
 use Rattle.tables.specs.Changes.{RowChanged}
 use Rattle.tables.proofs.ChangeLaws.{unchanged}
 use Rattle.posting.specs.Posts.{RowRoom, RowAdded}
-use Rattle.posting_laws.proofs.UsedRowsLaws.{UsedRows, rows-put, rows-add}
+use Rattle.posting.specs.Written.{UsedRows}
+use Rattle.posting_laws.proofs.UsedRowsLaws.{rows-put, rows-add}
 use Rattle.tick_raise.specs.Raising.{scheduleOf, stageFeeRow, Raisable, RowRaised}
 
 -- x is row i, as it is read
@@ -78,7 +79,7 @@ module _ (h j : List ℤ) (i today : ℕ) (c : Raisable h j i today) (x : Row) (
 
       module _ (z : n ≢ 0) where
         abbrev fee : Row
-        fee = withReference (i + 1) (newRow Fee (x .account) today n)
+        fee = withReference (i + 1) (newRow KindFee (x .account) today n)
 
         fee-is : fee ≡ stageFeeRow s today i (rowAt j i)
         fee-is = rw (stage-fee, q)

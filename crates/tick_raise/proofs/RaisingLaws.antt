@@ -13,7 +13,7 @@ use Rattle.lists.proofs.ListLaws.{length-tabulate}
 use Rattle.lists.proofs.SumLaws.{sumBy-more, count-le}
 use Rattle.lists.proofs.GatherLaws.{length-gather-tabulate, length-gather-le}
 use Rattle.lists.proofs.PassLaws.{passedTo, passed-none, passed-all, passed-more, passed-at, length-passed}
-use Rattle.rules.specs.Limits.{mostRows}
+use Rattle.records.specs.Limits.{mostRows}
 use Rattle.rules.specs.Rows.{Row, blank, withMark, withDue}
 use Rattle.rules.specs.Book.{Book}
 use Rattle.rules.specs.Tick.{rises, raise, feeRow, raiseTolls}
@@ -22,8 +22,9 @@ use Rattle.rules.proofs.StorableLaws.{day-le, stage-le, row-storable}
 use Rattle.preservation.proofs.FeeLaws.{schedule-parts, stageFee-le}
 use Rattle.preservation.proofs.TickSteps.{rising}
 use Rattle.posting.specs.Posts.{tablesAt}
-use Rattle.posting_laws.proofs.WrittenLaws.{Written}
-use Rattle.posting_laws.proofs.UsedRowsLaws.{UsedRows, rows-before, rows-row, rows-schedule, rows-written}
+use Rattle.posting.specs.Written.{Written}
+use Rattle.posting.specs.Written.{UsedRows}
+use Rattle.posting_laws.proofs.UsedRowsLaws.{rows-before, rows-row, rows-schedule, rows-written}
 use Rattle.tick_base.specs.Midway.{Midway}
 use Rattle.tick_base.proofs.MidwayLaws.{midway-header, midway-rows, midway-few, midway-each}
 use Rattle.tick_raise.specs.Raising.{scheduleOf, stageFeeRow, Raisable, RowRaised}

@@ -8,10 +8,10 @@ use lib.IntN.{ℤ}
 use Rattle.records.specs.Layout.{headerWidth, usedPlace, headerSchedule, rowWidth}
 use Rattle.records.specs.Encoding.{word, rowAt, StorableRow}
 use Rattle.rules.specs.Schedule.{Schedule, stageFee}
-use Rattle.rules.specs.Rows.{Row, Fee, newRow, withReference}
+use Rattle.rules.specs.Rows.{Row, KindFee, newRow, withReference}
 use Rattle.rules.specs.Tick.{rises, raise, feeRow}
 use Rattle.rules.specs.Tables.{Tables, scheduleFrom}
-use Rattle.posting_laws.proofs.UsedRowsLaws.{UsedRows}
+use Rattle.posting.specs.Written.{UsedRows}
 
 -- the header's schedule
 abbrev pub scheduleOf : List ℤ → Schedule
@@ -19,7 +19,7 @@ scheduleOf h = scheduleFrom h headerSchedule
 
 -- the fee, 0 or not, of row i for the stage after its own
 abbrev pub stageFeeRow : Schedule → ℕ → ℕ → Row → Row
-stageFeeRow s today i r = withReference (i + 1) (newRow Fee (r .account) today (stageFee s (r .mark + 1)))
+stageFeeRow s today i r = withReference (i + 1) (newRow KindFee (r .account) today (stageFee s (r .mark + 1)))
 
 -- row i can be written raised, and its fee row added
 pub record Raisable (h j : List ℤ) (i today : ℕ) : Type 0 where

@@ -1,16 +1,15 @@
-// The fourth step of a day tick: tolls due today rise a stage, and from stage 2 a nonzero fee row naming each is added. Uses lists,
-// records, rules, preservation, tables, table_rows, posting, posting_laws and tick_base.
+// The fourth step of a day tick: tolls due today rise a stage, and from stage 2 a nonzero fee row naming each is added.
 use posting::rows::add_row;
 use posting::rows::new_row;
 use records::Row;
+use records::codes::KIND_FEE;
+use records::layout::DAY_PLACE;
+use records::layout::HEADER_SCHEDULE;
+use records::layout::STAGE_PLACE;
+use records::layout::USED_PLACE;
 use table_rows::due_at;
 use table_rows::read_row;
 use table_rows::write_row;
-use tables::codes::FEE;
-use tables::layout::DAY_PLACE;
-use tables::layout::HEADER_SCHEDULE;
-use tables::layout::STAGE_PLACE;
-use tables::layout::USED_PLACE;
 use tables::words::get;
 use tick_base::stages::fee_of_stage;
 use tick_base::stages::is_rising;
@@ -20,13 +19,14 @@ ghost use lib.ListN.{length};
 ghost use Rattle.lists.specs.Lists.{count};
 ghost use Rattle.records.specs.Layout.{dayPlace, rowWidth};
 ghost use Rattle.records.specs.Encoding.{word};
-ghost use Rattle.rules.specs.Rows.{Fee, newRow, withMark, withDue, withReference};
+ghost use Rattle.rules.specs.Rows.{KindFee, newRow, withMark, withDue, withReference};
 ghost use Rattle.rules.specs.Tick.{rises, raiseTolls};
 ghost use Rattle.rules.specs.Tables.{bookOf};
-ghost use Rattle.posting.specs.Posts.{tablesAt};
-ghost use Rattle.posting_laws.proofs.WrittenLaws.{Written};
+ghost use Rattle.posting.specs.Written.{Written};
 ghost use Rattle.tick_base.specs.Midway.{Midway};
 ghost use Rattle.tick_raise.specs.Raising.{Raisable, RowRaised};
+ghost use Rattle.records.specs.Codes.{KindFee};
+ghost use Rattle.rules.specs.Lent.{lent, atEntry, atExit};
 
 // The toll a stage up, due a stage length later.
 fn raised(r: Row, days: u64) -> Row
@@ -41,9 +41,9 @@ fn raised(r: Row, days: u64) -> Row
 
 // A fee of today that names row n.
 fn fee_naming(n: u64, account: u64, today: u64, fee: u64) -> Row
-    ensures { λ r. ⌜ r ≡ withReference n (newRow Fee account today fee) ⌝ }
+    ensures { λ r. ⌜ r ≡ withReference n (newRow KindFee account today fee) ⌝ }
 {
-    let mut row = new_row(FEE, account, today, fee);
+    let mut row = new_row(KIND_FEE, account, today, fee);
     row.reference = n;
     row
 }
@@ -51,7 +51,8 @@ fn fee_naming(n: u64, account: u64, today: u64, fee: u64) -> Row
 // Row i, if it rises, and its fee: 1 where it does. Few rows are due today, so the due day is read first and alone.
 fn raise_row(header: &mut [i64], journal: &mut [i64], i: usize, today: u64) -> u64
     requires { ⌜ Raisable (now header) (now journal) i today ⌝ }
-    ensures { λ n. ⌜ RowRaised (now (header .entry)) (now (header .exit)) (now (journal .entry)) (now (journal .exit)) i today n ⌝ }
+    ensures { λ n. ⌜ RowRaised (now (header .entry)) (now (header .exit)) (now (journal .entry)) (now (journal .exit)) i today
+        n ⌝ }
 {
     if due_at(journal, i) != today {
         return 0;
@@ -76,8 +77,12 @@ fn raise_row(header: &mut [i64], journal: &mut [i64], i: usize, today: u64) -> u
 
 // The tolls due today are raised, in row order. The result is how many.
 pub fn raise_tolls(header: &mut [i64], accounts: &[i64], journal: &mut [i64]) -> u64
-    requires { ⌜ Midway (word (now header) dayPlace - 1) (tablesAt (now header) (now accounts) (now journal)) × (length (raiseTolls (bookOf (tablesAt (now header) (now accounts) (now journal))) .rows) ≤ length (now journal) / rowWidth) ⌝ }
-    ensures { λ n. ⌜ (n ≡ count (rises (word (now (header .entry)) dayPlace)) (bookOf (tablesAt (now (header .entry)) (now (accounts .entry)) (now (journal .entry))) .rows)) × Written (tablesAt (now (header .entry)) (now (accounts .entry)) (now (journal .entry))) (tablesAt (now (header .exit)) (now (accounts .entry)) (now (journal .exit))) (raiseTolls (bookOf (tablesAt (now (header .entry)) (now (accounts .entry)) (now (journal .entry))))) ⌝ }
+    requires { ⌜ Midway (word (now header) dayPlace - 1) (lent header accounts journal)
+        × (length (raiseTolls (bookOf (lent header accounts journal)) .rows) ≤ length (now journal) / rowWidth) ⌝ }
+    ensures { λ n. ⌜ (n
+        ≡ count (rises (word (now (header .entry)) dayPlace)) (bookOf (atEntry header accounts journal) .rows))
+        × Written (atEntry header accounts journal) (atExit header accounts journal)
+        (raiseTolls (bookOf (atEntry header accounts journal))) ⌝ }
 {
     let today = get(header, DAY_PLACE);
     let used = get(header, USED_PLACE) as usize;

@@ -9,20 +9,21 @@ use lib.ListN.{length, getD, drop, length-append, length-map, length-drop}
 use lib.Seq.{getD-drop}
 use lib.Dec.{eqb, ltb}
 use borrow.Author.Tests.{eqb-true, le-ltb}
+use Rattle.records.specs.Codes.{EventTick}
 use Rattle.lists.specs.Tests.{_is_}
 use Rattle.lists.specs.Lists.{count, one, gather}
 use Rattle.lists.proofs.TestLaws.{and-right}
 use Rattle.lists.proofs.SumLaws.{sumBy-only-le, count-le}
 use Rattle.lists.proofs.ExistsLaws.{none-exists}
 use Rattle.lists.proofs.GatherLaws.{gather-each, grown-each, length-gather-same}
-use Rattle.rules.specs.Limits.{finalDay, highestCredit, highestRefund}
-use Rattle.rules.specs.Rows.{Row, Test, Refund, blank, remaining, source, sourceOf}
+use Rattle.records.specs.Limits.{finalDay, highestCredit, highestRefund}
+use Rattle.rules.specs.Rows.{Row, Test, KindRefund, blank, remaining, source, sourceOf}
 use Rattle.rules.specs.Settlement.{money}
 use Rattle.rules.specs.Book.{unused, Instruction, Book, settled}
 use Rattle.rules.specs.Soundness.{mostOf, amountFits}
 use Rattle.rules.specs.Tick.{nextDay, endHolds, beforeRaising, feeRow, raiseTolls, closes, refundRow, useUp, closeAccounts, tick}
 use Rattle.rules.specs.Refusals.{changeOf, after, ceiling}
-use Rattle.rules.proofs.SoundnessLaws.{Sound}
+use Rattle.rules.specs.SoundFacts.{Sound}
 use Rattle.rules.proofs.StorableLaws.{between-le, room-le, rows-le}
 use Rattle.preservation.proofs.SettledLaws.{length-settled}
 use Rattle.preservation.proofs.HoldsEnded.{beforeRaising-near}
@@ -73,7 +74,7 @@ module _ (b : Book) (s : Sound b) (ne : b .day ≢ finalDay) where
       length-append (map (useUp lateBook) (lateBook .rows)) (refunds lateBook)
       ∙ omega (arith, length-map (lateBook .rows) (useUp lateBook), late-count, refunds-length)
 
-  pub rows-after : (e : Instruction) → e .kind ≡ 9 → length (after b e .rows) ≡ length (b .rows) + feesAdded b + refundsAdded b
+  pub rows-after : (e : Instruction) → e .kind ≡ EventTick → length (after b e .rows) ≡ length (b .rows) + feesAdded b + refundsAdded b
   unfolding after changeOf tick
   rows-after e k = rw k (length-settled (closeAccounts lateBook) ∙ closed-count)
 
@@ -110,7 +111,7 @@ module _ (b : Book) (s : Sound b) (ne : b .day ≢ finalDay) where
       sum-small = unfold money in (sumBy-only-le (sourceOf m) remaining highestCredit blank (unraised b) (source-small m))
 
   abbrev above : Test
-  above r = r .kind is Refund && ltb highestRefund (r .amount)
+  above r = r .kind is KindRefund && ltb highestRefund (r .amount)
 
   -- a row added: a fee, or a refund
   low-row : (k : ℕ) → length (b .rows) ≤ k → k < length (rows′ lateBook) → above (getD (rows′ lateBook) k blank) ≡ false
@@ -130,7 +131,7 @@ module _ (b : Book) (s : Sound b) (ne : b .day ≢ finalDay) where
           (gather-each (refundRow lateBook) (λ r. above r ≡ false) 1 (lateBook .accounts) unused blank
           (λ n k e l j q. go n (closes lateBook n (getD (lateBook .accounts) k unused) && ltb 0 (money n (lateBook .rows))) j q))
 
-  pub tick-low : (e : Instruction) → e .kind ≡ 9 → length (b .rows) + feesAdded b + refundsAdded b ≤ b .room → ceiling b e ≡ false
+  pub tick-low : (e : Instruction) → e .kind ≡ EventTick → length (b .rows) + feesAdded b + refundsAdded b ≤ b .room → ceiling b e ≡ false
   unfolding ceiling closeAccounts
   tick-low e k room =
       rw (after-tick b s ne (late-fits room) e k)

@@ -16,7 +16,7 @@ use Rattle.rules.specs.Book.{Book, settled}
 use Rattle.rules.specs.Tick.{nextDay, holdEnds, endHolds, beforeRaising}
 use Rattle.rules.proofs.SettlementLaws.{settle-same}
 use Rattle.rules.proofs.SettlementAccountsLaws.{settleAccounts-none}
-use Rattle.rules.proofs.SoundnessLaws.{Near, Sound}
+use Rattle.rules.specs.SoundFacts.{Near, Sound}
 use Rattle.preservation.proofs.NamedLaws.{sound-moved}
 use Rattle.preservation.proofs.TickSteps.{today, ended, ended-length, ended-at, ended-account, endHold-goes-on}
 use Rattle.tick_rules.specs.Ticks.{freed, settleThose}

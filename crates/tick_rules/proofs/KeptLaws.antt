@@ -11,16 +11,16 @@ use lib.Dec.{eqb}
 use borrow.Author.Tests.{eqb-true, ne-eqb}
 use Rattle.lists.specs.Lists.{sumBy, only}
 use Rattle.lists.proofs.SumLaws.{sumBy-longer}
-use Rattle.rules.specs.Rows.{Row, blank, rowNo, withMark, withDue, withHold, remaining, held, heldToll, sourceOf, debitOf, payable}
+use Rattle.rules.specs.Rows.{Row, blank, rowNo, withMark, withDue, withHoldStart, remaining, held, heldToll, sourceOf, debitOf, payable}
 use Rattle.rules.specs.Settlement.{money, debt, owed}
 use Rattle.rules.specs.Book.{Book}
-use Rattle.rules.proofs.SoundnessLaws.{Near}
+use Rattle.rules.specs.SoundFacts.{Near}
 use Rattle.rules.proofs.SettlementLaws.{payable-le}
 use Rattle.preservation.proofs.FeeLaws.{Named, fee-at}
 
 -- a row but for its mark, due day and hold start, which settlement does not look at
 abbrev pub gist : Row → Row
-gist r = withHold 0 (withDue 0 (withMark 0 r))
+gist r = withHoldStart 0 (withDue 0 (withMark 0 r))
 
 -- the rows of account m keep their gist, and every other row stays another's
 pub record Kept (m : ℕ) (rows rows′ : List Row) : Type 0 where

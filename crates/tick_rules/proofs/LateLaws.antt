@@ -12,11 +12,11 @@ use Rattle.lists.specs.Lists.{sumBy, only, one, gather}
 use Rattle.lists.proofs.SumLaws.{sumBy-at-le, sumBy-append, sumBy-le, sumBy-map, sumBy-ext}
 use Rattle.lists.proofs.GatherLaws.{gather-each, grown-at, grown-each}
 use Rattle.rules.specs.Schedule.{Schedule, stageFee}
-use Rattle.rules.specs.Rows.{Row, Fee, blank, newRow, withMark, withDue, withReference, remaining, sourceOf, debitOf, payable}
+use Rattle.rules.specs.Rows.{Row, KindFee, blank, newRow, withMark, withDue, withReference, remaining, sourceOf, debitOf, payable}
 use Rattle.rules.specs.Settlement.{money, debt, moved, owed}
 use Rattle.rules.specs.Book.{Book}
 use Rattle.rules.specs.Tick.{rises, raise, feeRow, raiseTolls}
-use Rattle.rules.proofs.SoundnessLaws.{Near}
+use Rattle.rules.specs.SoundFacts.{Near}
 use Rattle.rules.proofs.SettlementLaws.{payable-le}
 use Rattle.preservation.proofs.TickSteps.{rising}
 use Rattle.preservation.proofs.OpenTolls.{open-wants}
@@ -38,7 +38,7 @@ raise-blank s today = refl
 
 -- the fee of a toll that rises
 abbrev feeOf : Schedule → ℕ → ℕ → Row → Row
-feeOf s today n r = withReference n (newRow Fee (r .account) today (stageFee s (r .mark + 1)))
+feeOf s today n r = withReference n (newRow KindFee (r .account) today (stageFee s (r .mark + 1)))
 
 -- ---- any book whose tolls rise
 

@@ -8,17 +8,18 @@ use native.Mathlib.Decide.{decLt}
 use mathlib.Core.List.{List, map}
 use lib.ListN.{length, getD, length-append, length-map, List·getD-eq-default}
 use lib.Dec.{ltb}
+use Rattle.records.specs.Codes.{EventTick}
 use Rattle.lists.specs.Lists.{only, one}
 use Rattle.lists.proofs.TestLaws.{cond-zero}
 use Rattle.lists.proofs.GatherLaws.{gather-each, grown-at, grown-each, length-change}
-use Rattle.rules.specs.Limits.{finalDay}
+use Rattle.records.specs.Limits.{finalDay}
 use Rattle.rules.specs.Rows.{Row, blank, remaining, source, debitOf}
 use Rattle.rules.specs.Settlement.{money, debt, moved}
 use Rattle.rules.specs.Book.{unused, Instruction, Book, account, withRows, settled}
 use Rattle.rules.specs.Tick.{nextDay, endHolds, beforeRaising, raiseTolls, closes, closeIf, refundRow, useUp, closeAccounts, tick}
 use Rattle.rules.specs.Refusals.{changeOf, after}
-use Rattle.rules.proofs.SettlementAccountsLaws.{settleAccounts-spent, settleAccounts-same}
-use Rattle.rules.proofs.SoundnessLaws.{Near, Sound}
+use Rattle.rules.proofs.SettlementAccountsLaws.{settleAccounts-no-idle-money, settleAccounts-same}
+use Rattle.rules.specs.SoundFacts.{Near, Sound}
 use Rattle.rules.proofs.StorableLaws.{settled-le}
 use Rattle.preservation.proofs.HoldsEnded.{beforeRaising-near}
 use Rattle.preservation.proofs.TollsRaised.{raiseTolls-near}
@@ -92,7 +93,7 @@ module _ (b : Book) (s : Sound b) (ne : b .day ≢ finalDay) (room : length (lat
   moved-afterRaising : (j : ℕ) → j < length (b .accounts) → moved (suc j) (late (beforeRaising b)) ≡ 0
   moved-afterRaising j h =
       moved-late (beforeRaising b) (b .day) (beforeRaising-near b (s .near) ne) (suc j)
-      (rw (unraised-rows b) (settleAccounts-spent (length (b .accounts)) (ended b) j h))
+      (rw (unraised-rows b) (settleAccounts-no-idle-money (length (b .accounts)) (ended b) j h))
 
   moved-end : (m : ℕ) → 1 ≤ m → m ≤ length (closeAccounts lateBook .accounts) → moved m (closeAccounts lateBook .rows) ≡ 0
   unfolding closeAccounts
@@ -101,7 +102,7 @@ module _ (b : Book) (s : Sound b) (ne : b .day ≢ finalDay) (room : length (lat
       let q : j < length (b .accounts) = rw (length-change (closeIf lateBook) 1 (lateBook .accounts), same-accounts) at h in
       moved-closed lateBook (beforeRaising b .day) near-late j (rw same-accounts q) (moved-afterRaising j q)
 
-  pub after-tick : (e : Instruction) → e .kind ≡ 9 → after b e ≡ closeAccounts lateBook
+  pub after-tick : (e : Instruction) → e .kind ≡ EventTick → after b e ≡ closeAccounts lateBook
   unfolding after changeOf tick settled
   after-tick e k =
       rw k (ap (λ (rows : List Row). withRows rows (closeAccounts lateBook)) (settleAccounts-same (length (closeAccounts lateBook .accounts)) (closeAccounts lateBook .rows) moved-end))

@@ -10,19 +10,20 @@ use mathlib.Core.List.{List}
 use lib.ListN.{length, getD}
 use lib.Dec.{eqb, leb, ltb}
 use borrow.Author.Tests.{eqb-true, eq-eqb, ne-eqb, lt-ltb, le-leb, ltb-true, not-true}
+use Rattle.records.specs.Codes.{KindToll}
 use Rattle.lists.specs.Lists.{only, exists}
 use Rattle.lists.proofs.TestLaws.{and-left, and-right}
 use Rattle.lists.proofs.SumLaws.{sumBy-at-le, sumBy-ext, sumBy-ext-at, sumBy-map}
 use Rattle.lists.proofs.ExistsLaws.{exists-none, none-exists}
-use Rattle.rules.specs.Limits.{closingDays, finalDay}
+use Rattle.records.specs.Limits.{closingDays, finalDay}
 use Rattle.rules.specs.Rows.{Row, blank, rowNo, remaining, debit, held, heldToll, unsettled, debitOf, payable}
 use Rattle.rules.specs.Settlement.{money, debt, moved, owed}
-use Rattle.rules.specs.Book.{Account, Pending, Book, settled}
+use Rattle.rules.specs.Book.{Account, StatePending, Book, settled}
 use Rattle.rules.specs.Events.{release}
 use Rattle.rules.specs.Tick.{nextDay, holdEnds, endHold, endHolds, beforeRaising, raiseTolls, closes}
 use Rattle.rules.proofs.AllocationLaws.{bare}
 use Rattle.rules.proofs.SettlementAccountsLaws.{Remains, settleAccounts-remains}
-use Rattle.rules.proofs.SoundnessLaws.{Near, Sound}
+use Rattle.rules.specs.SoundFacts.{Near, Sound}
 use Rattle.preservation.proofs.FeeLaws.{Named, fee-at}
 use Rattle.preservation.proofs.DisputeKept.{HeldToll, held-is}
 use Rattle.preservation.proofs.HoldsEnded.{endHolds-near, beforeRaising-near}
@@ -38,7 +39,7 @@ owes n rows k l d u =
     let f = sumBy-at-le (only (debitOf n) remaining) rows k blank l in
     omega (arith, rw d at f, ltb-true (getD rows k blank .settled) (getD rows k blank .amount) u)
 
-toll-debit : (n : ℕ) (r : Row) → r .account ≡ n → r .kind ≡ 1 → debitOf n r ≡ true
+toll-debit : (n : ℕ) (r : Row) → r .account ≡ n → r .kind ≡ KindToll → debitOf n r ≡ true
 unfolding debitOf
 toll-debit n r a k = rw (a, k, eq-eqb n n refl)
 
@@ -87,7 +88,7 @@ module _ (b : Book) (s : Sound b) (ne : b .day ≢ finalDay) (j : ℕ) (h : j < 
       let same : bare z ≡ bare r = rw (← d) (unraised-row b k .kept) in
       let lz : k < length (unraised b) = omega (arith, unraised-length b) in
       let hz : heldToll z ≡ true = ap (λ (x : Row). heldToll x) same ∙ ht in
-      let kind : z .kind ≡ 1 = eqb-true (z .kind) 1 (and-left (eqb (z .kind) 1) (eqb (z .dispute) 1) hz) in
+      let kind : z .kind ≡ KindToll = eqb-true (z .kind) 1 (and-left (eqb (z .kind) 1) (eqb (z .dispute) 1) hz) in
       let disp : z .dispute ≡ 1 = eqb-true (z .dispute) 1 (and-right (eqb (z .kind) 1) (eqb (z .dispute) 1) hz) in
       let w : HeldToll (settledBook .day) (settledBook .schedule .stage) z = held-is (settledBook .day) (settledBook .schedule .stage) z kind disp (near-unraised .live k lz .hold) in
       let acc : z .account ≡ n = ap (λ (x : Row). x .account) same ∙ a in
@@ -121,7 +122,7 @@ module _ (b : Book) (s : Sound b) (ne : b .day ≢ finalDay) (j : ℕ) (h : j < 
 
   pub none-closing : (x : Account) → willClose b n x ≡ false → closes (raiseTolls settledBook) n x ≡ false
   unfolding closes willClose raiseTolls beforeRaising settled endHolds nextDay
-  none-closing x w = go (eqb (x .state) Pending && leb (x .request + closingDays) (b .day + 1)) _ _ _ told-closing w
+  none-closing x w = go (eqb (x .state) StatePending && leb (x .request + closingDays) (b .day + 1)) _ _ _ told-closing w
     where
       go : (p q q′ m′ : Bool) → (q ≡ true → (q′ ≡ true) × (m′ ≡ true)) → p && q′ && m′ ≡ false → p && q ≡ false
       go true true q′ m′ f e = let t = f refl in absurd (true≢false (rw (t .0, t .1) at e))
@@ -210,7 +211,7 @@ module _ (b : Book) (s : Sound b) (ne : b .day ≢ finalDay) (j : ℕ) (h : j < 
 
   pub refund-told : (x : Account) → closes (raiseTolls settledBook) n x && ltb 0 (money n lateRows) ≡ willRefund b n x
   unfolding closes willRefund raiseTolls beforeRaising settled endHolds nextDay
-  refund-told x = regroup (eqb (x .state) Pending && leb (x .request + closingDays) (b .day + 1)) _ _ _ _ told
+  refund-told x = regroup (eqb (x .state) StatePending && leb (x .request + closingDays) (b .day + 1)) _ _ _ _ told
     where
       regroup : (p q m q′ m′ : Bool) → q && m ≡ q′ && m′ → p && q && m ≡ p && q′ && m′
       regroup true q m q′ m′ e = e

@@ -6,17 +6,18 @@ use native.Mathlib.Omega.{arith}
 use lib.ListN.{length, getD}
 use lib.Dec.{eqb}
 use borrow.Author.Tests.{eqb-true, lt-ltb, ltb-true}
+use Rattle.records.specs.Codes.{KindToll}
 use Rattle.lists.specs.Lists.{gather}
 use Rattle.lists.proofs.TestLaws.{and-left, and-right}
 use Rattle.lists.proofs.GatherLaws.{gather-same}
-use Rattle.rules.specs.Limits.{holdDays}
+use Rattle.records.specs.Limits.{holdDays}
 use Rattle.rules.specs.Rows.{Row, blank, heldToll, held}
 use Rattle.rules.specs.Book.{Book, settled}
 use Rattle.rules.specs.Events.{release}
 use Rattle.rules.specs.Tick.{holdEnds, rises, feeRow}
 use Rattle.rules.proofs.AllocationLaws.{bare}
 use Rattle.rules.proofs.SettlementAccountsLaws.{MoreSettled}
-use Rattle.rules.proofs.SoundnessLaws.{Sound}
+use Rattle.rules.specs.SoundFacts.{Sound}
 use Rattle.preservation.proofs.DisputeKept.{HeldToll, held-is}
 use Rattle.preservation.proofs.TickSteps.{endHold-ends, endHold-goes-on, Rising, rising, risen, today, ended, ended-at, unraised, unraised-row, unraised-length}
 use Rattle.preservation.proofs.OpenTolls.{open-stays}
@@ -52,7 +53,7 @@ module _ (b : Book) (s : Sound b) where
             let d : getD (ended b) k blank ≡ release (today b) r = ended-at b k ∙ endHold-ends (today b) r h in
             let same : bare z ≡ bare (release (today b) r) = grown .kept ∙ ap bare d in
             let ht : heldToll r ≡ true = unfold holdEnds in and-left (heldToll r) (eqb (r .hold + holdDays) (today b)) h in
-            let kind : r .kind ≡ 1 = eqb-true (r .kind) 1 (and-left (eqb (r .kind) 1) (eqb (r .dispute) 1) ht) in
+            let kind : r .kind ≡ KindToll = eqb-true (r .kind) 1 (and-left (eqb (r .kind) 1) (eqb (r .dispute) 1) ht) in
             let held : r .dispute ≡ 1 = eqb-true (r .dispute) 1 (and-right (eqb (r .kind) 1) (eqb (r .dispute) 1) ht) in
             let f : HeldToll (b .day) (b .schedule .stage) r = held-is (b .day) (b .schedule .stage) r kind held (s .near .live k l .hold) in
             let words = released-words (today b) r z same in

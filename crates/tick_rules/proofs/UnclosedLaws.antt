@@ -10,10 +10,10 @@ use lib.Dec.{eqb, leb, ltb}
 use borrow.Author.Tests.{leb-false, le-ltb}
 use Rattle.lists.specs.Lists.{exists, one, gather, gatherFrom, change}
 use Rattle.lists.proofs.GatherLaws.{length-change, change-at}
-use Rattle.rules.specs.Limits.{closingDays}
+use Rattle.records.specs.Limits.{closingDays}
 use Rattle.rules.specs.Rows.{Row, blank, source}
 use Rattle.rules.specs.Settlement.{money, owed}
-use Rattle.rules.specs.Book.{Account, Pending, unused, Book, account}
+use Rattle.rules.specs.Book.{Account, StatePending, unused, Book, account}
 use Rattle.rules.specs.Tick.{closes, closeIf, refundRow, useUp, closeAccounts}
 use Rattle.preservation.proofs.ClosingLaws.{up-blank}
 use Rattle.tick_rules.specs.Ticks.{staysHeld, willRefund, willClose, NoneCloses, refundsAdded}
@@ -30,7 +30,7 @@ module _ (b : Book) where
   no-refund : (n : ℕ) (x : Account) → willClose b n x ≡ false → willRefund b n x ≡ false
   unfolding willClose willRefund
   no-refund n x w =
-      go (eqb (x .state) Pending && leb (x .request + closingDays) (b .day + 1)) (not (exists (staysHeld (b .day + 1) n) (b .rows)))
+      go (eqb (x .state) StatePending && leb (x .request + closingDays) (b .day + 1)) (not (exists (staysHeld (b .day + 1) n) (b .rows)))
       (leb (owed n (b .rows)) (money n (b .rows))) (ltb (owed n (b .rows)) (money n (b .rows)))
       (λ e. le-ltb (owed n (b .rows)) (money n (b .rows)) (omega (arith, leb-false (owed n (b .rows)) (money n (b .rows)) e))) w
     where

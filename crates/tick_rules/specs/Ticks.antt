@@ -7,10 +7,10 @@ use lib.ListN.{length, getD}
 use lib.Dec.{leb, ltb}
 use Rattle.lists.specs.Tests.{_is_}
 use Rattle.lists.specs.Lists.{exists, one, gather}
-use Rattle.rules.specs.Limits.{closingDays}
+use Rattle.records.specs.Limits.{closingDays}
 use Rattle.rules.specs.Rows.{Row, Test, blank, heldToll}
 use Rattle.rules.specs.Settlement.{money, settle, owed}
-use Rattle.rules.specs.Book.{Account, Pending, unused, Book}
+use Rattle.rules.specs.Book.{Account, StatePending, unused, Book}
 use Rattle.rules.specs.Tick.{holdEnds, feeRow}
 
 -- ---- the settlement after holds have ended
@@ -33,13 +33,13 @@ staysHeld today n r = r .account is n && (heldToll r && not (holdEnds today r))
 -- account n will close with money left: its days are over, none of its tolls stays held, and its money exceeds what it owes
 unfoldable pub willRefund : Book → ℕ → Account → Bool
 willRefund b n x =
-    x .state is Pending && leb (x .request + closingDays) (b .day + 1) && not (exists (staysHeld (b .day + 1) n) (b .rows))
+    x .state is StatePending && leb (x .request + closingDays) (b .day + 1) && not (exists (staysHeld (b .day + 1) n) (b .rows))
     && ltb (owed n (b .rows)) (money n (b .rows))
 
 -- account n will close, with money left or not
 unfoldable pub willClose : Book → ℕ → Account → Bool
 willClose b n x =
-    x .state is Pending && leb (x .request + closingDays) (b .day + 1) && not (exists (staysHeld (b .day + 1) n) (b .rows))
+    x .state is StatePending && leb (x .request + closingDays) (b .day + 1) && not (exists (staysHeld (b .day + 1) n) (b .rows))
     && leb (owed n (b .rows)) (money n (b .rows))
 
 -- no account will

@@ -12,9 +12,9 @@ use Rattle.rules.specs.Book.{Book, Instruction}
 use Rattle.rules.specs.Refusals.{answerNumber}
 use Rattle.rules.specs.Posting.{acceptance, refusalBy, post}
 use Rattle.rules.specs.Tables.{Tables, bookOf}
-use Rattle.rules.specs.Calls.{openRefusals, openCall, eventRefusals, eventCall, questionRefusals, question, balanceCall, topUpDueCall}
+use Rattle.rules.specs.Calls.{openingRefusals, openCall, eventRefusals, eventCall, questionRefusals, question, balanceCall, topupDueCall}
 use Rattle.rules.proofs.PostingLaws.{post-refused, post-accepted}
-use Rattle.answering.proofs.AnswerLaws.{number-le}
+use Rattle.call_words.proofs.AnswerLaws.{number-le}
 
 small-first : (m n : ℕ) (a b : Bool) → m + n ≤ 14 → first ((m, a) ∷ (n, b) ∷ []) ≤ 14
 unfolding first
@@ -23,7 +23,7 @@ small-first m n false true h = omega arith
 small-first m n false false h = omega arith
 
 pub open-small : (t : Tables) (w : List ℤ) → openCall t w .number ≤ 14
-unfolding openCall openRefusals
+unfolding openCall openingRefusals
 open-small t w = small-first 1 2 _ _ (omega arith)
 
 question-small : (f : Book → ℕ → ℤ) (t : Tables) (a : ℤ) → question f t a .number ≤ 14
@@ -34,8 +34,8 @@ pub balance-small : (t : Tables) (a : ℤ) → balanceCall t a .number ≤ 14
 unfolding balanceCall
 balance-small t a = question-small _ t a
 
-pub due-small : (t : Tables) (a : ℤ) → topUpDueCall t a .number ≤ 14
-unfolding topUpDueCall
+pub due-small : (t : Tables) (a : ℤ) → topupDueCall t a .number ≤ 14
+unfolding topupDueCall
 due-small t a = question-small _ t a
 
 pub event-small : (t : Tables) (e w : List ℤ) → eventCall t e w .number ≤ 14

@@ -1,20 +1,19 @@
 // The calls that C hosts link: each thin over the call of the same name, its contract that call's own, with no `requires`. Every table is
-// a pointer and its length in words; include/toll_ledger.h declares them. Uses lists, records, rules, sound_passages, posting, opening,
-// batch_index, questions, answering, event_call and batch_call.
-use batch_call::begin_batch;
-use batch_call::post_record;
-use batch_index::SEAT_WORDS;
-use event_call::event_call;
-use opening::open_book;
-use questions::balance;
-use questions::top_up_due;
+// a pointer and its length in words; include/toll_ledger.h declares them.
+use batch_index::SLOT_WORDS;
+use call_batch::begin_batch;
+use call_batch::post_record;
+use call_event::event_call;
+use call_opening::open_book;
+use call_questions::balance;
+use call_questions::topup_due;
 use records::Event;
 use sound_passages::passages::CELLS;
 ghost use mathlib.Core.Path.{_≡_};
 ghost use lib.IntN.{pos};
-ghost use Rattle.rules.specs.Tables.{tablesAt};
-ghost use Rattle.rules.specs.Calls.{openCall, eventCall, balanceCall, topUpDueCall};
-ghost use Rattle.batch_call.specs.BatchCalls.{Batches};
+ghost use Rattle.rules.specs.Calls.{openCall, eventCall, balanceCall, topupDueCall};
+ghost use Rattle.call_batch.specs.BatchCalls.{Batches};
+ghost use Rattle.rules.specs.Lent.{atEntry, atExit};
 
 // Opens a book: eleven words, the first day and the schedule.
 #[no_mangle]
@@ -24,7 +23,9 @@ pub extern "C" fn toll_ledger_open(
     journal: &mut [i64],
     schedule: &[i64],
 ) -> i64
-    ensures { λ r. ⌜ (r ≡ pos (openCall (tablesAt (now (header .entry)) (now (accounts .entry)) (now (journal .entry))) (now (schedule .entry)) .number)) × (tablesAt (now (header .exit)) (now (accounts .exit)) (now (journal .exit)) ≡ openCall (tablesAt (now (header .entry)) (now (accounts .entry)) (now (journal .entry))) (now (schedule .entry)) .tables) ⌝ }
+    ensures { λ r. ⌜ (r ≡ pos (openCall (atEntry header accounts journal) (now (schedule .entry)) .number))
+        × (atExit header accounts journal
+        ≡ openCall (atEntry header accounts journal) (now (schedule .entry)) .tables) ⌝ }
 {
     open_book(header, accounts, journal, schedule) as i64
 }
@@ -38,7 +39,12 @@ pub extern "C" fn toll_ledger_event(
     event: &[i64],
     answer: &mut [i64],
 ) -> i64
-    ensures { λ r. ⌜ (r ≡ pos (eventCall (tablesAt (now (header .entry)) (now (accounts .entry)) (now (journal .entry))) (now (event .entry)) (now (answer .entry)) .number)) × (tablesAt (now (header .exit)) (now (accounts .exit)) (now (journal .exit)) ≡ eventCall (tablesAt (now (header .entry)) (now (accounts .entry)) (now (journal .entry))) (now (event .entry)) (now (answer .entry)) .tables) × (now (answer .exit) ≡ eventCall (tablesAt (now (header .entry)) (now (accounts .entry)) (now (journal .entry))) (now (event .entry)) (now (answer .entry)) .answers) ⌝ }
+    ensures { λ r. ⌜ (r
+        ≡ pos (eventCall (atEntry header accounts journal) (now (event .entry)) (now (answer .entry)) .number))
+        × (atExit header accounts journal
+        ≡ eventCall (atEntry header accounts journal) (now (event .entry)) (now (answer .entry)) .tables)
+        × (now (answer .exit)
+        ≡ eventCall (atEntry header accounts journal) (now (event .entry)) (now (answer .entry)) .answers) ⌝ }
 {
     event_call(header, accounts, journal, event, answer) as i64
 }
@@ -52,7 +58,8 @@ pub extern "C" fn toll_ledger_balance(
     account: i64,
     value: &mut i64,
 ) -> i64
-    ensures { λ r. ⌜ (r ≡ pos (balanceCall (tablesAt (now (header .entry)) (now (accounts .entry)) (now (journal .entry))) account .number)) × (now (value .exit) ≡ balanceCall (tablesAt (now (header .entry)) (now (accounts .entry)) (now (journal .entry))) account .value) ⌝ }
+    ensures { λ r. ⌜ (r ≡ pos (balanceCall (atEntry header accounts journal) account .number))
+        × (now (value .exit) ≡ balanceCall (atEntry header accounts journal) account .value) ⌝ }
 {
     let r = balance(header, accounts, journal, account);
     let v = r.value;
@@ -69,9 +76,10 @@ pub extern "C" fn toll_ledger_topup_due(
     account: i64,
     value: &mut i64,
 ) -> i64
-    ensures { λ r. ⌜ (r ≡ pos (topUpDueCall (tablesAt (now (header .entry)) (now (accounts .entry)) (now (journal .entry))) account .number)) × (now (value .exit) ≡ topUpDueCall (tablesAt (now (header .entry)) (now (accounts .entry)) (now (journal .entry))) account .value) ⌝ }
+    ensures { λ r. ⌜ (r ≡ pos (topupDueCall (atEntry header accounts journal) account .number))
+        × (now (value .exit) ≡ topupDueCall (atEntry header accounts journal) account .value) ⌝ }
 {
-    let r = top_up_due(header, accounts, journal, account);
+    let r = topup_due(header, accounts, journal, account);
     let v = r.value;
     *value = v;
     r.number as i64
@@ -86,10 +94,11 @@ pub extern "C" fn toll_ledger_batch(
     events: &[Event],
     answers: &mut [i64],
 ) -> u64
-    ensures { λ n. ⌜ Batches (tablesAt (now (header .entry)) (now (accounts .entry)) (now (journal .entry))) (tablesAt (now (header .exit)) (now (accounts .exit)) (now (journal .exit))) (now (events .entry)) (now (answers .entry)) (now (answers .exit)) n ⌝ }
+    ensures { λ n. ⌜ Batches (atEntry header accounts journal) (atExit header accounts journal) (now (events .entry))
+        (now (answers .entry)) (now (answers .exit)) n ⌝ }
 {
     let mut cells = [0u16; CELLS];
-    let mut seats = [0u64; SEAT_WORDS];
+    let mut slots = [0u64; SLOT_WORDS];
     let n = begin_batch(
         header,
         accounts,
@@ -97,7 +106,7 @@ pub extern "C" fn toll_ledger_batch(
         events.len(),
         answers,
         &mut cells,
-        &mut seats,
+        &mut slots,
     );
     if n != 0 {
         return n;
@@ -112,7 +121,7 @@ pub extern "C" fn toll_ledger_batch(
             i,
             events[i],
             &mut cells,
-            &mut seats,
+            &mut slots,
         );
         i += 1;
     }

@@ -1,7 +1,7 @@
 -- `add_debit` meets its contract: the row's shares are small, and so are the sums.
 use Rattle.account_sums.proofs.SumsLaws.{part-le}
 use Rattle.account_sums.specs.Columns.{withDebit}
-use Rattle.rules.specs.Limits.{highestRefund}
+use Rattle.records.specs.Limits.{highestRefund}
 use Rattle.rules.specs.Rows.{remaining}
 use mathlib.Core.Bool.{not}
 use native.Mathlib.Omega.{arith}
@@ -21,15 +21,15 @@ sub-left c = search needs
 part-requires : tie.Need-part-requires
 part-requires c κs = search needs
 
-raise-requires : tie.Need-raise-requires
-raise-requires c κs =
+add-at-requires : tie.Need-add-at-requires
+add-at-requires c κs =
     let s = c .before .before .before in
     let a = s .pre in
-    (omega (arith, a .seat), a .low, omega (arith, a .settled, a .amount), rw (c .part .ensures) (part-le (not (s .args .held)) (remaining (s .args .r)) highestRefund (omega (arith, a .amount))), omega (arith, a .amount))
+    (omega (arith, a .slot), a .low, omega (arith, a .settled, a .amount), rw (c .part .ensures) (part-le (not (s .args .held)) (remaining (s .args .r)) highestRefund (omega (arith, a .amount))), omega (arith, a .amount))
 
 returns : tie.Need-returns
 unfolding withDebit
-returns c = rw (c .raise .ensures, c .before .part .ensures)
+returns c = rw (c .add-at .ensures, c .before .part .ensures)
 
 pub add-debit-spec : {M : Type 1} → statement M
-add-debit-spec = tie.close (tie.spec mul-p add-p sub-left part-requires raise-requires returns)
+add-debit-spec = tie.close (tie.spec mul-p add-p sub-left part-requires add-at-requires returns)

@@ -1,5 +1,5 @@
 -- `add_amount` meets its contract: the sum of the row's side takes its amount, and the bounds keep it from wrapping.
-use Rattle.batch_index.proofs.SeatLaws.{sum-place, sum-fits, sum-added}
+use Rattle.batch_index.proofs.SlotLaws.{sum-place, sum-fits, sum-added}
 use native.Mathlib.Omega.{arith}
 use borrow.Author.Needs.{needs}
 use Rattle.batch_index.proofs.add_amount.Statement.{statement}
@@ -41,20 +41,20 @@ element-copy-out-old c =
     let s = d .before .before in
     sum-place _ _ _ _ (s .pre .1) (s .pre .0) _ (d .before .read-row .ensures) _ (d .side-of .ensures)
 
-add-seats : tie.Need-add-seats
-add-seats c =
+add-slots : tie.Need-add-slots
+add-slots c =
     let d = c .before .before in
     let s = d .before .before in
     omega (arith, sum-fits _ _ _ _ (s .pre .1) (s .pre .0) _ (d .before .read-row .ensures) _ (d .side-of .ensures))
 
-mul-seats : tie.Need-mul-seats
-mul-seats c =
+mul-slots : tie.Need-mul-slots
+mul-slots c =
     let d = c .before .before in
     let s = d .before .before in
     omega (arith, sum-place _ _ _ _ (s .pre .1) (s .pre .0) _ (d .before .read-row .ensures) _ (d .side-of .ensures))
 
-element-write-seats : tie.Need-element-write-seats
-element-write-seats c =
+element-write-slots : tie.Need-element-write-slots
+element-write-slots c =
     let d = c .before .before in
     let s = d .before .before in
     sum-place _ _ _ _ (s .pre .1) (s .pre .0) _ (d .before .read-row .ensures) _ (d .side-of .ensures)
@@ -76,7 +76,7 @@ add-amount-spec =
     add-at-2
     mul-old
     element-copy-out-old
-    add-seats
-    mul-seats
-    element-write-seats
+    add-slots
+    mul-slots
+    element-write-slots
     returns)

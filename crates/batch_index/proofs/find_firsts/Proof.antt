@@ -1,5 +1,5 @@
 -- `find_firsts` meets its contract: the first rows are right from row i on.
-use Rattle.batch_index.specs.Index.{Seated}
+use Rattle.batch_index.specs.Index.{SlotsHold}
 use Prim.Native.Nat.{_+_, _-_, _≤_}
 use native.Mathlib.Omega.{arith}
 use mathlib.Core.Path.{_≡_}
@@ -7,10 +7,10 @@ use Rattle.batch_index.proofs.find_firsts.Statement.{statement}
 use Rattle.batch_index.proofs.find_firsts.Tie as tie
 
 abbrev Inv-loop : tie.InvT-loop
-Inv-loop journal used seats₀ i₀ seats i = (i ≤ used) × Seated journal used i seats
+Inv-loop journal used slots₀ i₀ slots i = (i ≤ used) × SlotsHold journal used i slots
 
 abbrev μ-loop : tie.MeasureT-loop
-μ-loop journal used seats₀ i₀ seats i = i
+μ-loop journal used slots₀ i₀ slots i = i
 
 loop-holds : tie.Need-loop-holds Inv-loop μ-loop
 loop-holds c = (omega arith, c .pre .1)

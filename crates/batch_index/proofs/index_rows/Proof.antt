@@ -8,10 +8,10 @@ use Rattle.batch_index.proofs.index_rows.Statement.{statement}
 use Rattle.batch_index.proofs.index_rows.Tie as tie
 
 abbrev Inv-loop : tie.InvT-loop
-Inv-loop journal from used cells₀ seats₀ i₀ cells seats i = (i ≤ used) × IndexOf journal i cells seats
+Inv-loop journal from used cells₀ slots₀ i₀ cells slots i = (i ≤ used) × IndexOf journal i cells slots
 
 abbrev μ-loop : tie.MeasureT-loop
-μ-loop journal from used cells₀ seats₀ i₀ cells seats i = used - i
+μ-loop journal from used cells₀ slots₀ i₀ cells slots i = used - i
 
 loop-holds : tie.Need-loop-holds Inv-loop μ-loop
 loop-holds c = (omega arith, c .pre .2)
@@ -25,7 +25,7 @@ insert-requires c κs =
 add-amount-requires : tie.Need-add-amount-requires Inv-loop μ-loop
 add-amount-requires c κs =
     let a = c .before .before .before .before in
-    (countable-first _ _ _ (a .before .pre .0 .rows) (omega arith), a .loop .inv .1 .seated)
+    (countable-first _ _ _ (a .before .pre .0 .rows) (omega arith), a .loop .inv .1 .slots-hold)
 
 add-i : tie.Need-add-i Inv-loop μ-loop
 add-i c = omega arith
@@ -38,7 +38,7 @@ loop-again c = (
   omega arith,
   record {
     trees = inserted-trees _ _ _ _ _ (c .before .before .before .before .loop-test .taken) (c .before .before .before .before .before .before .pre .0 .differ) (c .before .before .insert .ensures);
-    seated = c .add-amount .ensures;
+    slots-hold = c .add-amount .ensures;
   },
 )
 

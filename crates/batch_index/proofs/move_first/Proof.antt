@@ -1,5 +1,5 @@
 -- `move_first` meets its contract.
-use Rattle.batch_index.proofs.SeatLaws.{first-moved}
+use Rattle.batch_index.proofs.SlotLaws.{first-moved}
 use borrow.Author.Needs.{needs}
 use Rattle.batch_index.proofs.move_first.Statement.{statement}
 use Rattle.batch_index.proofs.move_first.Tie as tie

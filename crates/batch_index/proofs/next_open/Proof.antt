@@ -1,6 +1,6 @@
 -- `next_open` meets its contract: of the rows passed nothing is left.
 use Rattle.batch_index.specs.Index.{ofSide}
-use Rattle.batch_index.proofs.SeatLaws.{passed-more}
+use Rattle.batch_index.proofs.SlotLaws.{passed-more}
 use Prim.Native.Nat.{ℕ, _-_, _≤_, _<_}
 use native.Mathlib.Omega.{arith}
 use mathlib.Core.Path.{_≡_, sym, _∙_}

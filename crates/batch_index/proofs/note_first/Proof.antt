@@ -1,5 +1,5 @@
 -- `note_first` meets its contract: a row of which nothing is left leaves the first rows, another is its side's first.
-use Rattle.batch_index.proofs.SeatLaws.{note-account, note-closed, note-open}
+use Rattle.batch_index.proofs.SlotLaws.{note-account, note-closed, note-open}
 use Rattle.batch_index.proofs.SideLaws.{side-low}
 use borrow.Author.Needs.{needs}
 use Rattle.batch_index.proofs.note_first.Statement.{statement}

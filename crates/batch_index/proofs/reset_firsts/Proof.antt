@@ -1,16 +1,17 @@
 -- `reset_firsts` meets its contract: the accounts passed have both first rows reset.
-use Rattle.batch_index.proofs.SeatLaws.{Resetting, resetting-none, resetting-more, resetting-all}
+use Rattle.batch_index.proofs.SlotLaws.{Resetting, resetting-none, resetting-more, resetting-all}
 use Prim.Native.Nat.{_-_, _≤_}
 use native.Mathlib.Omega.{arith}
 use mathlib.Core.Path.{_≡_}
 use Rattle.batch_index.proofs.reset_firsts.Statement.{statement}
 use Rattle.batch_index.proofs.reset_firsts.Tie as tie
+use Rattle.records.specs.Limits.{slotCount}
 
 abbrev Inv-loop : tie.InvT-loop
-Inv-loop used seats₀ a₀ seats a = (a ≤ 257) × Resetting used seats₀ seats a
+Inv-loop used slots₀ a₀ slots a = (a ≤ slotCount) × Resetting used slots₀ slots a
 
 abbrev μ-loop : tie.MeasureT-loop
-μ-loop used seats₀ a₀ seats a = 257 - a
+μ-loop used slots₀ a₀ slots a = slotCount - a
 
 loop-holds : tie.Need-loop-holds Inv-loop μ-loop
 loop-holds c = (omega arith, resetting-none _ _)
@@ -31,7 +32,7 @@ loop-again : tie.Need-loop-again Inv-loop μ-loop
 loop-again c = (omega arith, rw (c .put-first2 .ensures, c .before .before .put-first .ensures) (resetting-more _ _ _ _ (c .before .before .before .before .before .before .pre) (c .before .before .before .before .loop-test .taken) (c .before .before .before .before .before .loop .inv .1)))
 
 returns : tie.Need-returns Inv-loop μ-loop
-returns c = let e : c .before .loop .a ≡ 257 = omega arith in resetting-all _ _ _ (rw e at (c .before .loop .inv .1))
+returns c = let e : c .before .loop .a ≡ slotCount = omega arith in resetting-all _ _ _ (rw e at (c .before .loop .inv .1))
 
 pub reset-firsts-spec : {M : Type 1} → statement M
 reset-firsts-spec =

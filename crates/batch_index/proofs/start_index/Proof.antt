@@ -1,5 +1,5 @@
 -- `start_index` meets its contract: all rows go in, and then the first rows are looked for from the end.
-use Rattle.batch_index.proofs.SeatLaws.{reset-seated}
+use Rattle.batch_index.proofs.SlotLaws.{reset-slots-hold}
 use Rattle.batch_index.proofs.IndexLaws.{index-none, sound-indexable}
 use Rattle.rules.proofs.TableLaws.{header-length}
 use native.Mathlib.Omega.{arith}
@@ -22,12 +22,12 @@ find-firsts-requires : tie.Need-find-firsts-requires
 find-firsts-requires c κs =
     let x = c .before .before .before in
     let g = x .before .before .before in
-    (rw (g .get .ensures) (sound-indexable _ (g .before .pre .0) .rows), reset-seated _ _ _ _ (x .index-rows .ensures .seated) (c .before .reset-firsts .ensures))
+    (rw (g .get .ensures) (sound-indexable _ (g .before .pre .0) .rows), reset-slots-hold _ _ _ _ (x .index-rows .ensures .slots-hold) (c .before .reset-firsts .ensures))
 
 returns : tie.Need-returns
 returns c =
     let x = c .before .before .before .before in
-    rw (← x .before .before .before .get .ensures) (record { trees = x .index-rows .ensures .trees; seated = c .find-firsts .ensures })
+    rw (← x .before .before .before .get .ensures) (record { trees = x .index-rows .ensures .trees; slots-hold = c .find-firsts .ensures })
 
 pub start-index-spec : {M : Type 1} → statement M
 start-index-spec =

@@ -18,7 +18,7 @@ move-first-requires : tie.Need-move-first-requires
 move-first-requires c κs =
     let x = c .before .before in
     let g = x .before .before .before in
-    (rw (g .get .ensures) (sound-indexable _ (g .before .pre .0) .rows), c .before .if1 .taken, omega arith, x .index-rows .ensures .seated)
+    (rw (g .get .ensures) (sound-indexable _ (g .before .pre .0) .rows), c .before .if1 .taken, omega arith, x .index-rows .ensures .slots-hold)
 
 move-first-requires-2 : tie.Need-move-first-requires-2
 move-first-requires-2 c κs =
@@ -29,7 +29,7 @@ move-first-requires-2 c κs =
 returns : tie.Need-returns
 returns c =
     let x = c .before .before .before .before .before in
-    rw (← x .before .before .before .get .ensures) (record { trees = x .index-rows .ensures .trees; seated = c .move-first2 .ensures })
+    rw (← x .before .before .before .get .ensures) (record { trees = x .index-rows .ensures .trees; slots-hold = c .move-first2 .ensures })
 
 returns-2 : tie.Need-returns-2
 returns-2 c = let x = c .before in rw (← x .before .before .before .get .ensures) (x .index-rows .ensures)

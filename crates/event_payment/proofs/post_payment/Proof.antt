@@ -6,7 +6,7 @@ use mathlib.Core.Path.{refl, sym, _∙_}
 use lib.ListN.{length-set}
 use Rattle.rules.proofs.TableLaws.{header-length, journal-length}
 use Rattle.posting.proofs.BookLaws.{day-read, used-small}
-use Rattle.lookups.proofs.LastSourceLaws.{begun-last}
+use Rattle.event_lookups.proofs.LastSourceLaws.{begun-last}
 use Rattle.posting_laws.proofs.AddedLaws.{posts-refused, added-journal}
 use Rattle.event_payment.proofs.PaymentLaws.{payment-inside, payment-fits, payment-storable, payment-posts}
 use Rattle.event_payment.proofs.post_payment.Statement.{statement}

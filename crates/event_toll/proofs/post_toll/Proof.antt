@@ -6,7 +6,7 @@ use mathlib.Core.Path.{sym, _∙_}
 use lib.ListN.{length-set}
 use Rattle.rules.proofs.TableLaws.{header-length, journal-length}
 use Rattle.posting.proofs.BookLaws.{day-small, stage-small, used-small}
-use Rattle.lookups.proofs.LookupLaws.{begun-added}
+use Rattle.event_lookups.proofs.LookupLaws.{begun-added}
 use Rattle.posting_laws.proofs.AddedLaws.{posts-refused, added-journal}
 use Rattle.event_toll.proofs.TollLaws.{rate-applies, toll-fits, toll-storable, toll-read, toll-posts}
 use Rattle.event_toll.proofs.post_toll.Statement.{statement}

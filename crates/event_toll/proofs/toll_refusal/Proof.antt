@@ -34,7 +34,7 @@ returns-3 c =
 passage-refusal-requires : tie.Need-passage-refusal-requires
 passage-refusal-requires c κs =
     let s = c .before .before .before .before .before .before .before .pre .0 in
-    (header-length _ s, used-room _ s, day-within _ (sym (c .before .before .before .before .before .before .toll-form .ensures) ∙ not-false _ (c .before .before .before .before .before .if1 .left)), rw (← sound-rows _ s) (c .before .before .before .before .before .before .before .pre .2 .stands (c .before .before .before .before .before .before .before .pre .1)))
+    (header-length _ s, used-room _ s, day-within _ (sym (c .before .before .before .before .before .before .toll-form .ensures) ∙ not-false _ (c .before .before .before .before .before .if1 .left)), rw (← sound-rows _ s) (c .before .before .before .before .before .before .before .pre .2 .duplicate (c .before .before .before .before .before .before .before .pre .1)))
 
 returns-4 : tie.Need-returns-4
 returns-4 c =

@@ -24,8 +24,8 @@ hold-toll-requires c κs = search needs
 decide-requires : tie.Need-decide-requires
 decide-requires c κs = search needs
 
-top-up-result-requires : tie.Need-top-up-result-requires
-top-up-result-requires c κs = search needs
+topup-result-requires : tie.Need-topup-result-requires
+topup-result-requires c κs = search needs
 
 request-close-requires : tie.Need-request-close-requires
 request-close-requires c κs = search needs
@@ -159,7 +159,7 @@ post-known-spec =
     return-check-requires
     hold-toll-requires
     decide-requires
-    top-up-result-requires
+    topup-result-requires
     request-close-requires
     tick-requires
     refused-requires

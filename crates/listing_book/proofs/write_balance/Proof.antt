@@ -5,7 +5,7 @@ use mir.Syntax.{w64}
 use mir.Facts.{toZ-ofZ}
 use borrow.Author.Needs.{needs, sfits-of}
 use Rattle.decimal.specs.Decimal.{textOf}
-use Rattle.rules.specs.Book.{less}
+use Rattle.rules.specs.Book.{minus}
 use Rattle.listing_rules.specs.Texts.{line}
 use Rattle.balances.proofs.AmountLaws.{sums-fit}
 use Rattle.listing_text.proofs.PutsLaws.{puts-ended}
@@ -40,7 +40,7 @@ returns c =
     let a = s .before .before .args in
     let w = c .before .before .write-number in
     let m = c .before .before .before .minus in
-    let e = toZ-ofZ {w = w64} (sfits-of (m .ok)) ∙ m .ensures ∙ ap₂ less (s .sums-of .ensures .sources) (s .sums-of .ensures .debits) in
+    let e = toZ-ofZ {w = w64} (sfits-of (m .ok)) ∙ m .ensures ∙ ap₂ minus (s .sums-of .ensures .sources) (s .sums-of .ensures .debits) in
     (rw e at (puts-ended _ _ (a .at) (w .result) 10 (textOf _) (w .ensures .0 .0) (omega (arith, w .ensures .0 .1)) (w .ensures .1)), omega (arith, w .ensures .0 .1))
 
 pub write-balance-spec : {M : Type 1} → statement M

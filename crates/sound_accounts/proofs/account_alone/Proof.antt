@@ -35,13 +35,13 @@ returns-3 c =
     let e = sym (c .before .request-fits .ensures) ∙ not-true _ (c .if3 .taken) in
     simp (e, and-false)
 
-top-up-fits-requires : tie.Need-top-up-fits-requires
-top-up-fits-requires c κs = search needs
+topup-fits-requires : tie.Need-topup-fits-requires
+topup-fits-requires c κs = search needs
 
 returns-4 : tie.Need-returns-4
 unfolding accountAlone allOf
 returns-4 c =
-    let e = sym (c .before .top-up-fits .ensures) ∙ not-true _ (c .if4 .taken) in
+    let e = sym (c .before .topup-fits .ensures) ∙ not-true _ (c .if4 .taken) in
     simp (e, and-false)
 
 decline-fits-requires : tie.Need-decline-fits-requires
@@ -57,7 +57,7 @@ returns-5 c =
     let t1 = sym (e1 .before .state-fits .ensures) ∙ not-false _ (e1 .if1 .left) in
     let t2 = sym (e2 .before .unused-zero .ensures) ∙ not-false _ (e2 .if2 .left) in
     let t3 = sym (e3 .before .request-fits .ensures) ∙ not-false _ (e3 .if3 .left) in
-    let t4 = sym (e4 .before .top-up-fits .ensures) ∙ not-false _ (e4 .if4 .left) in
+    let t4 = sym (e4 .before .topup-fits .ensures) ∙ not-false _ (e4 .if4 .left) in
     rw (t1, t2, t3, t4, and-true) (c .decline-fits .ensures)
 
 pub account-alone-spec : {M : Type 1} → statement M
@@ -70,7 +70,7 @@ account-alone-spec =
     returns-2
     request-fits-requires
     returns-3
-    top-up-fits-requires
+    topup-fits-requires
     returns-4
     decline-fits-requires
     returns-5)

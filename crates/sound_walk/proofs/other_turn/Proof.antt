@@ -4,7 +4,7 @@ use Rattle.sound_walk.proofs.WalkLaws.{none-held, no-source, unfit-fees
 use Rattle.sound_passages.proofs.TreeLaws.{trees-skip}
 use Rattle.sound_fees.proofs.FeeLaws.{counted-skip}
 use Rattle.account_sums.proofs.ColumnLaws.{source-added, debit-added}
-use Rattle.sound_header.specs.Clauses.{standsIn}
+use Rattle.sound_header.specs.Clauses.{passesIn}
 use Rattle.records.specs.Encoding.{rowAt, rowsOf}
 use borrow.Author.Tests.{not-true, not-false}
 use mathlib.Core.Bool.{true, false}
@@ -15,22 +15,22 @@ use Rattle.sound_walk.proofs.other_turn.Statement.{statement}
 use Rattle.sound_walk.proofs.other_turn.Tie as tie
 
 -- it stands, and is the table's row
-stood : (e : tie.Else1) → standsIn (e .before .before .before .args .accounts .now) (e .before .before .before .args .journal .now) (e .before .before .before .args .f) (e .before .before .before .args .i + 1) (e .before .before .before .args .r) ≡ true
-stood e = sym (e .before .other-stands .ensures) ∙ not-false _ (e .if1 .left)
+stood : (e : tie.Else1) → passesIn (e .before .before .before .args .accounts .now) (e .before .before .before .args .journal .now) (e .before .before .before .args .f) (e .before .before .before .args .i + 1) (e .before .before .before .args .r) ≡ true
+stood e = sym (e .before .other-passes .ensures) ∙ not-false _ (e .if1 .left)
 
 same : (e : tie.Else1) → e .before .before .before .args .r ≡ rowAt (e .before .before .before .args .journal .now) (e .before .before .before .args .i)
 same e = let s = e .before .before .before in row-same (s .args .accounts .now) (s .args .journal .now) (s .args .f) (s .args .i) (s .args .r) (s .pre .0) (stood e)
 
-add-other-stands : tie.Need-add-other-stands
-add-other-stands c = search needs
+add-other-passes : tie.Need-add-other-passes
+add-other-passes c = search needs
 
-other-stands-requires : tie.Need-other-stands-requires
-other-stands-requires c κs = search needs
+other-passes-requires : tie.Need-other-passes-requires
+other-passes-requires c κs = search needs
 
 returns : tie.Need-returns
 returns c =
     let s = c .before .before .before in
-    λ cells w. walks-bad (s .args .accounts .now) (s .args .journal .now) (s .args .f) (row-unfit (s .args .accounts .now) (s .args .journal .now) (s .args .f) (s .args .i) (s .args .r) (s .pre .0) (sym (c .before .other-stands .ensures) ∙ not-true _ (c .if1 .taken)))
+    λ cells w. walks-bad (s .args .accounts .now) (s .args .journal .now) (s .args .f) (row-unfit (s .args .accounts .now) (s .args .journal .now) (s .args .f) (s .args .i) (s .args .r) (s .pre .0) (sym (c .before .other-passes .ensures) ∙ not-true _ (c .if1 .taken)))
 
 fee-turn-requires : tie.Need-fee-turn-requires
 fee-turn-requires c κs =
@@ -92,8 +92,8 @@ pub other-turn-spec : {M : Type 1} → statement M
 other-turn-spec =
     tie.close
     (tie.spec
-    add-other-stands
-    other-stands-requires
+    add-other-passes
+    other-passes-requires
     returns
     fee-turn-requires
     same-length

@@ -2,7 +2,7 @@
 use Rattle.sound_walk.proofs.WalkLaws.{toll-held, unfit-passage, walks-bad, row-unfit, row-same, row-addable, row-walks}
 use Rattle.sound_fees.proofs.FeeLaws.{counted-skip}
 use Rattle.account_sums.proofs.ColumnLaws.{debit-added}
-use Rattle.sound_header.specs.Clauses.{standsIn}
+use Rattle.sound_header.specs.Clauses.{passesIn}
 use Rattle.records.specs.Encoding.{rowAt, rowsOf}
 use borrow.Author.Tests.{not-true, not-false}
 use mathlib.Core.Bool.{true}
@@ -14,19 +14,19 @@ use Rattle.sound_walk.proofs.toll_turn.Statement.{statement}
 use Rattle.sound_walk.proofs.toll_turn.Tie as tie
 
 -- it stands, and is the table's row
-stood : (e : tie.Else1) → standsIn (e .before .before .before .args .accounts .now) (e .before .before .before .args .journal .now) (e .before .before .before .args .f) (e .before .before .before .args .i + 1) (e .before .before .before .args .r) ≡ true
-stood e = sym (e .before .toll-stands .ensures _ _) ∙ not-false _ (e .if1 .left)
+stood : (e : tie.Else1) → passesIn (e .before .before .before .args .accounts .now) (e .before .before .before .args .journal .now) (e .before .before .before .args .f) (e .before .before .before .args .i + 1) (e .before .before .before .args .r) ≡ true
+stood e = sym (e .before .toll-passes .ensures _ _) ∙ not-false _ (e .if1 .left)
 
 same : (e : tie.Else1) → e .before .before .before .args .r ≡ rowAt (e .before .before .before .args .journal .now) (e .before .before .before .args .i)
 same e = let s = e .before .before .before in row-same (s .args .accounts .now) (s .args .journal .now) (s .args .f) (s .args .i) (s .args .r) (s .pre .0) (stood e)
 
-toll-stands-requires : tie.Need-toll-stands-requires
-toll-stands-requires c κs = search needs
+toll-passes-requires : tie.Need-toll-passes-requires
+toll-passes-requires c κs = search needs
 
 returns : tie.Need-returns
 returns c =
     let s = c .before .before .before in
-    λ counts w. walks-bad (s .args .accounts .now) (s .args .journal .now) (s .args .f) (row-unfit (s .args .accounts .now) (s .args .journal .now) (s .args .f) (s .args .i) (s .args .r) (s .pre .0) (sym (c .before .toll-stands .ensures _ _) ∙ not-true _ (c .if1 .taken)))
+    λ counts w. walks-bad (s .args .accounts .now) (s .args .journal .now) (s .args .f) (row-unfit (s .args .accounts .now) (s .args .journal .now) (s .args .f) (s .args .i) (s .args .r) (s .pre .0) (sym (c .before .toll-passes .ensures _ _) ∙ not-true _ (c .if1 .taken)))
 
 insert-toll-requires : tie.Need-insert-toll-requires
 insert-toll-requires c κs =
@@ -69,7 +69,7 @@ pub toll-turn-spec : {M : Type 1} → statement M
 toll-turn-spec =
     tie.close
     (tie.spec
-    toll-stands-requires
+    toll-passes-requires
     returns
     insert-toll-requires
     same-length

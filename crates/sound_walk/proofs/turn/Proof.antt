@@ -4,7 +4,7 @@ use Rattle.sound_walk.specs.Walks.{Turn}
 use Rattle.sound_passages.proofs.TreeLaws.{trees-skip}
 use Rattle.sound_fees.proofs.FeeLaws.{counted-skip}
 use Rattle.account_sums.proofs.ColumnLaws.{source-added}
-use Rattle.sound_header.specs.Clauses.{standsIn}
+use Rattle.sound_header.specs.Clauses.{passesIn}
 use borrow.Author.Tests.{not-true, not-false}
 use lib.Dec.{eqb}
 use mathlib.Core.Bool.{true}
@@ -19,8 +19,8 @@ here : (p : tie.After-plain-row) → Turn (p .before .before .before .args .acco
 here p = record { bounds = p .before .before .before .pre .0; inside = p .before .before .before .pre .1; alike = p .plain-row .ensures }
 
 -- a payment that stands
-stood : (e : tie.Else3) → (let p = e .before .before .before .before .before .before in standsIn (p .before .before .before .args .accounts .now) (p .before .before .before .args .journal .now) (p .before .before .before .args .f) (p .before .before .before .args .i + 1) (p .plain-row .result) ≡ true)
-stood e = sym (e .before .payment-stands .ensures _ _) ∙ not-false _ (e .if3 .left)
+stood : (e : tie.Else3) → (let p = e .before .before .before .before .before .before in passesIn (p .before .before .before .args .accounts .now) (p .before .before .before .args .journal .now) (p .before .before .before .args .f) (p .before .before .before .args .i + 1) (p .plain-row .result) ≡ true)
+stood e = sym (e .before .payment-passes .ensures _ _) ∙ not-false _ (e .if3 .left)
 
 plain-row-requires : tie.Need-plain-row-requires
 plain-row-requires c κs = search needs
@@ -43,14 +43,14 @@ same-length-2 c = search needs
 returns-2 : tie.Need-returns-2
 returns-2 c = c .before .before .other-turn .ensures _ (c .before .before .before .before .before .before .before .before .before .before .before .before .pre .2)
 
-payment-stands-requires : tie.Need-payment-stands-requires
-payment-stands-requires c κs = search needs
+payment-passes-requires : tie.Need-payment-passes-requires
+payment-passes-requires c κs = search needs
 
 returns-3 : tie.Need-returns-3
 returns-3 c =
     let p = c .before .before .before .before .before .before in
     let s = p .before .before .before in
-    walks-bad (s .args .accounts .now) (s .args .journal .now) (s .args .f) (row-unfit (s .args .accounts .now) (s .args .journal .now) (s .args .f) (s .args .i) (p .plain-row .result) (here p) (sym (c .before .payment-stands .ensures _ _) ∙ not-true _ (c .if3 .taken)))
+    walks-bad (s .args .accounts .now) (s .args .journal .now) (s .args .f) (row-unfit (s .args .accounts .now) (s .args .journal .now) (s .args .f) (s .args .i) (p .plain-row .result) (here p) (sym (c .before .payment-passes .ensures _ _) ∙ not-true _ (c .if3 .taken)))
 
 add-source-requires : tie.Need-add-source-requires
 add-source-requires c κs =
@@ -83,7 +83,7 @@ turn-spec =
     other-turn-requires
     same-length-2
     returns-2
-    payment-stands-requires
+    payment-passes-requires
     returns-3
     add-source-requires
     returns-4)

@@ -8,14 +8,14 @@ use borrow.Author.Needs.{needs}
 use Rattle.soundness.proofs.few_stand.Statement.{statement}
 use Rattle.soundness.proofs.few_stand.Tie as tie
 
-slice-aggregate-stands-with : tie.Need-slice-aggregate-stands-with
-slice-aggregate-stands-with c = search needs
+slice-aggregate-passes-with : tie.Need-slice-aggregate-passes-with
+slice-aggregate-passes-with c = search needs
 
-slice-aggregate-stands-with-2 : tie.Need-slice-aggregate-stands-with-2
-slice-aggregate-stands-with-2 c = search needs
+slice-aggregate-passes-with-2 : tie.Need-slice-aggregate-passes-with-2
+slice-aggregate-passes-with-2 c = search needs
 
-stands-with-requires : tie.Need-stands-with-requires
-stands-with-requires c κs =
+passes-with-requires : tie.Need-passes-with-requires
+passes-with-requires c κs =
     let s = c .before .before in
     (bounds-space (s .args .accounts .now) (s .args .journal .now) (s .args .f) (s .pre .0) 1024 (s .pre .1), trees-none 1024 _ 4096 refl (omega arith) (omega arith), counted-none 1024 _ 1025 refl)
 
@@ -26,7 +26,7 @@ pub few-stand-spec : {M : Type 1} → statement M
 few-stand-spec =
     tie.close
     (tie.spec
-    slice-aggregate-stands-with
-    slice-aggregate-stands-with-2
-    stands-with-requires
+    slice-aggregate-passes-with
+    slice-aggregate-passes-with-2
+    passes-with-requires
     returns)

@@ -7,14 +7,14 @@ use borrow.Author.Needs.{needs}
 use Rattle.soundness.proofs.many_stand.Statement.{statement}
 use Rattle.soundness.proofs.many_stand.Tie as tie
 
-slice-aggregate-stands-with : tie.Need-slice-aggregate-stands-with
-slice-aggregate-stands-with c = search needs
+slice-aggregate-passes-with : tie.Need-slice-aggregate-passes-with
+slice-aggregate-passes-with c = search needs
 
-slice-aggregate-stands-with-2 : tie.Need-slice-aggregate-stands-with-2
-slice-aggregate-stands-with-2 c = search needs
+slice-aggregate-passes-with-2 : tie.Need-slice-aggregate-passes-with-2
+slice-aggregate-passes-with-2 c = search needs
 
-stands-with-requires : tie.Need-stands-with-requires
-stands-with-requires c κs =
+passes-with-requires : tie.Need-passes-with-requires
+passes-with-requires c κs =
     let s = c .before .before in
     (s .pre .0, rw (s .pre .1) (trees-none 8192 _ 32768 refl (omega arith) (omega arith)), rw (s .pre .1) (counted-none 8192 _ 8193 refl))
 
@@ -25,7 +25,7 @@ pub many-stand-spec : {M : Type 1} → statement M
 many-stand-spec =
     tie.close
     (tie.spec
-    slice-aggregate-stands-with
-    slice-aggregate-stands-with-2
-    stands-with-requires
+    slice-aggregate-passes-with
+    slice-aggregate-passes-with-2
+    passes-with-requires
     returns)

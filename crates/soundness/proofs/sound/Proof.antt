@@ -1,4 +1,4 @@
--- `sound` meets its contract: the first test that fails decides, and behind the lengths and the header the rest is book_stands.
+-- `sound` meets its contract: the first test that fails decides, and behind the lengths and the header the rest is book_passes.
 use Rattle.soundness.proofs.SoundParts.{unfit-lengths, unfit-used, unfit-later, unfit-day, unfit-schedule, Fit, fit-sound, fit-bounds}
 use Rattle.sound_header.specs.Clauses.{tablesAt, restZero}
 use Rattle.sound_header.proofs.LengthLaws.{Lengths, lengths-known}
@@ -90,15 +90,15 @@ add-get c = search needs
 get-requires-3 : tie.Need-get-requires-3
 get-requires-3 c κs = omega (arith, lengths (c .before .before .before .before .before .before .before .before .before) .words)
 
-book-stands-requires : tie.Need-book-stands-requires
-book-stands-requires c κs =
+book-passes-requires : tie.Need-book-passes-requires
+book-passes-requires c κs =
     let s = c .before .before .before .before .before .before .before .before .before .before .before .before in
     (fit-bounds (s .args .header .now) (s .args .accounts .now) (s .args .journal .now) _ _ _ (fit c), refl)
 
 returns-6 : tie.Need-returns-6
 returns-6 c =
     let s = c .before .before .before .before .before .before .before .before .before .before .before .before .before in
-    c .book-stands .ensures ∙ fit-sound (s .args .header .now) (s .args .accounts .now) (s .args .journal .now) _ _ _ (fit (c .before))
+    c .book-passes .ensures ∙ fit-sound (s .args .header .now) (s .args .accounts .now) (s .args .journal .now) _ _ _ (fit (c .before))
 
 pub sound-spec : {M : Type 1} → statement M
 sound-spec =
@@ -117,5 +117,5 @@ sound-spec =
     returns-5
     add-get
     get-requires-3
-    book-stands-requires
+    book-passes-requires
     returns-6)

@@ -8,6 +8,7 @@ use Rattle.tick_base.proofs.MidwayLaws.{midway-header, midway-countable}
 use Rattle.tick_close.proofs.ClosedBookLaws.{none-closed, rows-usable, all-closable, closed-written}
 use Rattle.tick_close.proofs.close_accounts.Statement.{statement}
 use Rattle.tick_close.proofs.close_accounts.Tie as tie
+use Rattle.records.specs.Limits.{slotCount}
 
 returns : tie.Need-returns
 returns c = none-closed _ (c .before .pre .midway) (c .before .pre .quiet (not-true _ (c .if1 .taken)))
@@ -21,7 +22,7 @@ get-requires-2 c κs = omega (arith, midway-header _ _ (c .before .before .befor
 add-remainders-requires : tie.Need-add-remainders-requires
 add-remainders-requires c κs =
     let u = c .before .before .before .before .before in
-    (rw (u .get .ensures) (midway-countable _ _ (u .before .before .before .pre .midway)), record { moneys = tallied-none moneyOf 257 _; owings = tallied-none owedOf 257 _ })
+    (rw (u .get .ensures) (midway-countable _ _ (u .before .before .before .pre .midway)), record { moneys = tallied-none moneyOf slotCount _; owings = tallied-none owedOf slotCount _ })
 
 use-rows-requires : tie.Need-use-rows-requires
 use-rows-requires c κs =

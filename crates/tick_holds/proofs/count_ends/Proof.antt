@@ -6,9 +6,10 @@ use Rattle.account_sums.specs.Tallies.{Tallied}
 use Rattle.tick_holds.specs.Holds.{endsOf}
 use Rattle.tick_holds.proofs.count_ends.Statement.{statement}
 use Rattle.tick_holds.proofs.count_ends.Tie as tie
+use Rattle.records.specs.Limits.{slotCount}
 
 abbrev Inv-loop : tie.InvT-loop
-Inv-loop journal used today ends₀ i₀ ends i = (i ≤ used) × Tallied (endsOf today) 257 journal ends i
+Inv-loop journal used today ends₀ i₀ ends i = (i ≤ used) × Tallied (endsOf today) slotCount journal ends i
 
 abbrev μ-loop : tie.MeasureT-loop
 μ-loop journal used today ends₀ i₀ ends i = used - i

@@ -10,6 +10,7 @@ use Rattle.tick_holds.proofs.HoldLaws.{sound-ending, mapped-journal, un
 use borrow.Author.Needs.{needs}
 use Rattle.tick_holds.proofs.free_and_settle.Statement.{statement}
 use Rattle.tick_holds.proofs.free_and_settle.Tie as tie
+use Rattle.records.specs.Limits.{slotCount}
 
 returns : tie.Need-returns
 returns c = unraised-same _ _ (c .before .pre) (not-true _ (c .if1 .taken))
@@ -24,7 +25,7 @@ add-today : tie.Need-add-today
 add-today c = omega (arith, c .get2 .ensures, day-small _ (c .before .before .before .pre .sound))
 
 count-ends-requires : tie.Need-count-ends-requires
-count-ends-requires c κs = (rw (c .before .before .before .get .ensures) (midway-countable _ _ (sound-midway _ (c .before .before .before .before .before .pre .sound))), tallied-none (endsOf _) 257 _)
+count-ends-requires c κs = (rw (c .before .before .before .get .ensures) (midway-countable _ _ (sound-midway _ (c .before .before .before .before .before .pre .sound))), tallied-none (endsOf _) slotCount _)
 
 end-holds-requires : tie.Need-end-holds-requires
 end-holds-requires c κs = rw (c .before .before .before .before .before .get .ensures, c .before .before .before .before .get2 .ensures) (sound-ending _ (c .before .before .before .before .before .before .before .pre .sound))

@@ -10,6 +10,7 @@ use Rattle.tick_plan.specs.Plans.{staysOf}
 use Rattle.tick_plan.proofs.CountLaws.{quiet-planned, added-few, tick-planned}
 use Rattle.tick_plan.proofs.plan_tick.Statement.{statement}
 use Rattle.tick_plan.proofs.plan_tick.Tie as tie
+use Rattle.records.specs.Limits.{slotCount}
 
 get-requires : tie.Need-get-requires
 get-requires c κs = omega (arith, header-length _ (c .pre))
@@ -26,8 +27,8 @@ count-rows-requires c κs =
     let s = u .before .pre in (
       omega (arith, header-length _ s),
       rw (u .get .ensures) (midway-countable _ _ (sound-midway _ s)),
-      record { moneys = tallied-none moneyOf 257 _; owings = tallied-none owedOf 257 _ },
-      tallied-none (staysOf _) 257 _,
+      record { moneys = tallied-none moneyOf slotCount _; owings = tallied-none owedOf slotCount _ },
+      tallied-none (staysOf _) slotCount _,
     )
 
 -- ---- after the pass over the rows

@@ -4,7 +4,7 @@ use native.Mathlib.Omega.{arith}
 use mathlib.Core.Path.{_≡_}
 use Rattle.records.specs.Layout.{usedPlace}
 use Rattle.records.specs.Encoding.{word}
-use Rattle.rules.specs.Limits.{mostRows}
+use Rattle.records.specs.Limits.{mostRows}
 use Rattle.posting.specs.Posts.{tablesAt}
 use Rattle.tick_base.proofs.MidwayLaws.{midway-header}
 use Rattle.tick_raise.proofs.RaisingLaws.{Turns, turns-none, turn-raisable, turns-more, turns-few, turns-counted, turns-written}

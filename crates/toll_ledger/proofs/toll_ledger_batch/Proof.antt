@@ -69,19 +69,19 @@ use borrow.Table.Typed.{inLoop₀, inBlock₀, withNext, Mo, Tf, TF, Outs, Typed
 use Rattle.records.proofs.Event as T
 use Rattle.records.proofs.Event.Laws as T′
 use Rattle.posting.specs.Posts.{tablesAt}
-use Rattle.batch_index.specs.Index.{Indexed}
-use Rattle.batch_call.specs.BatchCalls.{Batches}
-use Rattle.batch_call.proofs.BatchCallLaws.{noEvent, taken, batch-refused, After, after-none, after-sound, after-room, after-more, after-all}
-use Rattle.batch_call.proofs.begin_batch.Kinds as begin-kinds
-use Rattle.batch_call.proofs.begin_batch.Reads as begin-reads
-use Rattle.batch_call.proofs.begin_batch.Symbol as begin-def
-use Rattle.batch_call.proofs.begin_batch.Symbol.{name as #begin·batch}
-use Rattle.batch_call.proofs.begin_batch.Met as begin-thm
-use Rattle.batch_call.proofs.post_record.Kinds as record-kinds
-use Rattle.batch_call.proofs.post_record.Reads as record-reads
-use Rattle.batch_call.proofs.post_record.Symbol as record-def
-use Rattle.batch_call.proofs.post_record.Symbol.{name as #post·record}
-use Rattle.batch_call.proofs.post_record.Met as record-thm
+use Rattle.batch_index.specs.Index.{Indexed, indexSize}
+use Rattle.call_batch.specs.BatchCalls.{Batches}
+use Rattle.call_batch.proofs.BatchCallLaws.{noEvent, taken, batch-refused, After, after-none, after-sound, after-room, after-more, after-all}
+use Rattle.call_batch.proofs.begin_batch.Kinds as begin-kinds
+use Rattle.call_batch.proofs.begin_batch.Reads as begin-reads
+use Rattle.call_batch.proofs.begin_batch.Symbol as begin-def
+use Rattle.call_batch.proofs.begin_batch.Symbol.{name as #begin·batch}
+use Rattle.call_batch.proofs.begin_batch.Met as begin-thm
+use Rattle.call_batch.proofs.post_record.Kinds as record-kinds
+use Rattle.call_batch.proofs.post_record.Reads as record-reads
+use Rattle.call_batch.proofs.post_record.Symbol as record-def
+use Rattle.call_batch.proofs.post_record.Symbol.{name as #post·record}
+use Rattle.call_batch.proofs.post_record.Met as record-thm
 use Rattle.toll_ledger.proofs.toll_ledger_batch as f
 use Rattle.toll_ledger.proofs.toll_ledger_batch.Statement as stated
 use Rattle.toll_ledger.proofs.toll_ledger_batch.Code as code
@@ -124,20 +124,20 @@ U w = rtF (fInt w)
 abbrev Cells : RattleType
 Cells = Array (U w16) 32768
 
-abbrev Seats : RattleType
-Seats = Array (U w64) 1028
+abbrev Slots : RattleType
+Slots = Array (U w64) indexSize
 
 abbrev cells : Ty
 cells = tyArray (tyInt w16) 32768
 
-abbrev seats : Ty
-seats = tyArray num 1028
+abbrev slots : Ty
+slots = tyArray num indexSize
 
 abbrev toCells : Ty
 toCells = tyRef erased mut cells
 
-abbrev toSeats : Ty
-toSeats = tyRef erased mut seats
+abbrev toSlots : Ty
+toSlots = tyRef erased mut slots
 
 -- ---- the signature, the other locals' types, and the contract
 abbrev ps : List (PK 5)
@@ -149,9 +149,9 @@ r = rNum w64
 -- the two arrays; n; i; the four that are shown to the beginning, with the count, and the arrays lent to it; its test; a length, then a
 -- distance; the loop's test; what a turn returns; the four that are lent to a turn; the record's place; the record; the arrays lent
 abbrev xs : List Ty
-xs = cells ∷ seats ∷ num ∷ num ∷ shown ∷ sliceTy shown ∷ shown ∷ sliceTy shown ∷ shown ∷ sliceTy shown ∷ num ∷ shown ∷ sliceTy shown ∷ toCells ∷ toSeats
+xs = cells ∷ slots ∷ num ∷ num ∷ shown ∷ sliceTy shown ∷ shown ∷ sliceTy shown ∷ shown ∷ sliceTy shown ∷ num ∷ shown ∷ sliceTy shown ∷ toCells ∷ toSlots
     ∷ tyBool ∷ num ∷ tyBool ∷ tyUnit
-    ∷ lent ∷ sliceTy lent ∷ lent ∷ sliceTy lent ∷ lent ∷ sliceTy lent ∷ lent ∷ sliceTy lent ∷ tyPtr ∷ T′.mir ∷ toCells ∷ toSeats ∷ []
+    ∷ lent ∷ sliceTy lent ∷ lent ∷ sliceTy lent ∷ lent ∷ sliceTy lent ∷ lent ∷ sliceTy lent ∷ tyPtr ∷ T′.mir ∷ toCells ∷ toSlots ∷ []
 
 -- where each local lives: the arrays in memory, since they are lent
 abbrev homes : List Home
@@ -169,11 +169,11 @@ Post κs a n e =
 
 -- the locals once the arrays are there, n and i there or not yet
 abbrev locals : Row → Row → List Entry
-locals number counter = rowsFrom 0 (any-gone num ∷ mslice I (to 0) 0 ∷ mslice I (to 1) 1 ∷ mslice I (to 2) 2 ∷ sslice Ev of 3 ∷ mslice I (to 4) 4 ∷ arrF (U w16) 32768 0 ∷ arrF (U w64) 1028 0 ∷ number ∷ counter
+locals number counter = rowsFrom 0 (any-gone num ∷ mslice I (to 0) 0 ∷ mslice I (to 1) 1 ∷ mslice I (to 2) 2 ∷ sslice Ev of 3 ∷ mslice I (to 4) 4 ∷ arrF (U w16) 32768 0 ∷ arrF (U w64) indexSize 0 ∷ number ∷ counter
     ∷ any-gone shown ∷ any-gone (sliceTy shown) ∷ any-gone shown ∷ any-gone (sliceTy shown) ∷ any-gone shown ∷ any-gone (sliceTy shown) ∷ any-gone num ∷ any-gone shown ∷ any-gone (sliceTy shown)
-    ∷ any-gone toCells ∷ any-gone toSeats ∷ any-gone tyBool ∷ any-gone num ∷ any-gone tyBool ∷ any-gone tyUnit
+    ∷ any-gone toCells ∷ any-gone toSlots ∷ any-gone tyBool ∷ any-gone num ∷ any-gone tyBool ∷ any-gone tyUnit
     ∷ any-gone lent ∷ any-gone (sliceTy lent) ∷ any-gone lent ∷ any-gone (sliceTy lent) ∷ any-gone lent ∷ any-gone (sliceTy lent) ∷ any-gone lent ∷ any-gone (sliceTy lent)
-    ∷ any-gone tyPtr ∷ any-gone T′.mir ∷ any-gone toCells ∷ any-gone toSeats ∷ [])
+    ∷ any-gone tyPtr ∷ any-gone T′.mir ∷ any-gone toCells ∷ any-gone toSlots ∷ [])
 
 abbrev Vars : Type 0
 Vars = List ℤ × List ℤ × List ℤ × List ℤ × List ℕ × List ℕ × ℕ
@@ -302,10 +302,10 @@ module _ {M : Type 1} (𝓤 : URA M) (H : Heap 𝓤) (A : Atoms 𝓤) (W : Given
               begin _ 9 _ ▹
               borrow _ 6 35 9 Cells toCells (λ x. x) (mem-arr 𝓤 H A W (U w16) 32768) (gone toCells) refl (λ b o. tt) ▸
               begin _ 10 _ ▹
-              borrow _ 7 36 10 Seats toSeats (λ x. x) (mem-arr 𝓤 H A W (U w64) 1028) (gone toSeats) refl (λ b o. tt) ▸
+              borrow _ 7 36 10 Slots toSlots (λ x. x) (mem-arr 𝓤 H A W (U w64) indexSize) (gone toSlots) refl (λ b o. tt) ▸
               -- its posting
               t-call-plain 𝓤 H A W 𝓣 6 record-kinds.ps record-kinds.r record-reads.Asked record-reads.Learnt #post·record records E (λ pos β. β) _
-              (record { pos = 26; ty = lent; ref = λ x. x }, (record { pos = 28; ty = lent; ref = λ x. x }, (record { pos = 30; ty = lent; ref = λ x. x }, (record { pos = 32; ty = lent; ref = λ x. x }, (vAt 9 (λ x. x), (record { pos = 34; st = []; d = 0; at = λ x. x }, (record { pos = 35; ty = toCells; ref = λ x. x }, (record { pos = 36; ty = toSeats; ref = λ x. x }, tt)))))))) 24 (5 ∷ 6 ∷ 7 ∷ 8 ∷ 9 ∷ 10 ∷ []) (sub-id 𝓤 H A W _) (
+              (record { pos = 26; ty = lent; ref = λ x. x }, (record { pos = 28; ty = lent; ref = λ x. x }, (record { pos = 30; ty = lent; ref = λ x. x }, (record { pos = 32; ty = lent; ref = λ x. x }, (vAt 9 (λ x. x), (record { pos = 34; st = []; d = 0; at = λ x. x }, (record { pos = 35; ty = toCells; ref = λ x. x }, (record { pos = 36; ty = toSlots; ref = λ x. x }, tt)))))))) 24 (5 ∷ 6 ∷ 7 ∷ 8 ∷ 9 ∷ 10 ∷ []) (sub-id 𝓤 H A W _) (
                 same (mslice I lent 5),
                 reads-mslice 𝓤 H A W I lent 5,
                 refl,
@@ -329,7 +329,7 @@ module _ {M : Type 1} (𝓤 : URA M) (H : Heap 𝓤) (A : Atoms 𝓤) (W : Given
                             same (mref Cells toCells 9),
                             reads-mref 𝓤 H A W Cells toCells 9,
                             refl,
-                            (same (mref Seats toSeats 10), reads-mref 𝓤 H A W Seats toSeats 10, refl, tt),
+                            (same (mref Slots toSlots 10), reads-mref 𝓤 H A W Slots toSlots 10, refl, tt),
                           ),
                         ),
                       ),
@@ -348,7 +348,7 @@ module _ {M : Type 1} (𝓤 : URA M) (H : Heap 𝓤) (A : Atoms 𝓤) (W : Given
               end _ 7 refl ▹ back _ 30 3 2 7 (to 2) lent (k₂ κs qs) (λ x. x) (λ x. x) (same (msleft I lent)) (same (mslice-owed I (to 2) 2 7 (k₂ κs qs))) refl refl ▹ forget _ 7 dead refl ▹
               end _ 8 refl ▹ back _ 32 5 4 8 (to 4) lent (k₄ κs qs) (λ x. x) (λ x. x) (same (msleft I lent)) (same (mslice-owed I (to 4) 4 8 (k₄ κs qs))) refl refl ▹ forget _ 8 dead refl ▹
               end _ 9 refl ▹ unborrow _ 35 6 9 Cells toCells (arrF (U w16) 32768 0) (λ x. x) (λ x. x) (λ x. x) (same (mleft Cells toCells)) (same (sc-owed Cells 9)) (arr-mem 𝓤 H A W (U w16) 32768 tt) refl ▹ forget _ 9 dead refl ▹
-              end _ 10 refl ▹ unborrow _ 36 7 10 Seats toSeats (arrF (U w64) 1028 0) (λ x. x) (λ x. x) (λ x. x) (same (mleft Seats toSeats)) (same (sc-owed Seats 10)) (arr-mem 𝓤 H A W (U w64) 1028 tt) refl ▹ forget _ 10 dead refl ▹
+              end _ 10 refl ▹ unborrow _ 36 7 10 Slots toSlots (arrF (U w64) indexSize 0) (λ x. x) (λ x. x) (λ x. x) (same (mleft Slots toSlots)) (same (sc-owed Slots 10)) (arr-mem 𝓤 H A W (U w64) indexSize tt) refl ▹ forget _ 10 dead refl ▹
               s-typed 𝓤 H A W 𝓣 E _ _ (Turn κs qs) _ tt (op2 _ (add unsigned) (oAt 9 num i) (oInt w64 _) 9 N num i (sInt w64 .of) (has, refl) tt (full (sInt w64)) hold refl (λ u. refl) (λ u. tt))),
         )
 
@@ -362,7 +362,7 @@ module _ {M : Type 1} (𝓤 : URA M) (H : Heap 𝓤) (A : Atoms 𝓤) (W : Given
               t-seq 𝓤 H A W 𝓣 E (Hd κs qs) (Hd κs qs) _ _ (Ends κs qs) _ _ (t-block 𝓤 H A W 𝓣 E (Hd κs qs) _ _ _ (t-loop-by 𝓤 H A W 𝓣 E (Hd κs qs) _ _ (put κs qs) (Inv κs qs) (μ κs qs) _ (turn .1)))
               (set _ (oInt w64 _) 0 N num i (sInt w64 .of) tt (gone num) hold refl (λ u. refl) (λ u. tt) ▸
               room _ 6 cells (room-arr 𝓤 H A W (U w16) 32768 0 32768 refl) ▹
-              room _ 7 seats (room-arr 𝓤 H A W (U w64) 1028 0 1028 refl) ▹
+              room _ 7 slots (room-arr 𝓤 H A W (U w64) indexSize 0 indexSize refl) ▹
               room _ 8 num (full (sInt w64)) ▹
               room _ 9 num (full (sInt w64)) ▹
               t-return 𝓤 H A W 𝓣 E (Ends κs qs) tt),
@@ -378,7 +378,7 @@ module _ {M : Type 1} (𝓤 : URA M) (H : Heap 𝓤) (A : Atoms 𝓤) (W : Given
           op2 _ ne (oAt 8 num i) (oInt w64 _) 21 (sc-here sBool) tyBool (valS sBool) (sBool .of) (has, refl) tt (gone tyBool) (holds-sc 𝓤 H A W sBool) refl (λ u. refl) (λ u. tt) ▸
               t-seq 𝓤 H A W 𝓣 E _ (Going κs qs) _ _ (Ends κs qs) _ _ (t-cond 𝓤 H A W E 𝓣 _ 21 (λ x. x) _ _ _ _ _ (reads-sc 𝓤 H A W sBool) refl
               (room _ 21 tyBool (full sBool) ▹ set _ (oAt 8 num i) 0 N num i (sInt w64 .of) (has, refl) (gone num) hold refl (λ u. refl) (λ u. tt) ▸
-              room _ 6 cells (room-arr 𝓤 H A W (U w16) 32768 0 32768 refl) ▹ room _ 7 seats (room-arr 𝓤 H A W (U w64) 1028 0 1028 refl) ▹ room _ 8 num (full (sInt w64)) ▹
+              room _ 6 cells (room-arr 𝓤 H A W (U w16) 32768 0 32768 refl) ▹ room _ 7 slots (room-arr 𝓤 H A W (U w64) indexSize 0 indexSize refl) ▹ room _ 8 num (full (sInt w64)) ▹
               t-return 𝓤 H A W 𝓣 E (withNext (some (Going κs qs)) (Ends κs qs)) tt)
               (room _ 21 tyBool (full sBool) ▹ t-skip 𝓤 H A W 𝓣 E (withNext (some (Going κs qs)) (Ends κs qs)) tt)) (going .1),
         )
@@ -413,10 +413,10 @@ module _ {M : Type 1} (𝓤 : URA M) (H : Heap 𝓤) (A : Atoms 𝓤) (W : Given
               begin _ 9 _ ▹
               borrow _ 6 19 9 Cells toCells (λ x. x) (mem-arr 𝓤 H A W (U w16) 32768) (gone toCells) refl (λ b o. tt) ▸
               begin _ 10 _ ▹
-              borrow _ 7 20 10 Seats toSeats (λ x. x) (mem-arr 𝓤 H A W (U w64) 1028) (gone toSeats) refl (λ b o. tt) ▸
+              borrow _ 7 20 10 Slots toSlots (λ x. x) (mem-arr 𝓤 H A W (U w64) indexSize) (gone toSlots) refl (λ b o. tt) ▸
               -- the beginning
               t-call-plain 𝓤 H A W 𝓣 6 begin-kinds.ps begin-kinds.r begin-reads.Asked begin-reads.Learnt #begin·batch beginning E (λ pos β. β) _
-              (record { pos = 11; ty = shown; ref = λ x. x }, (record { pos = 13; ty = shown; ref = λ x. x }, (record { pos = 15; ty = shown; ref = λ x. x }, (vAt 16 (λ x. x), (record { pos = 18; ty = shown; ref = λ x. x }, (record { pos = 19; ty = toCells; ref = λ x. x }, (record { pos = 20; ty = toSeats; ref = λ x. x }, tt))))))) 8 (5 ∷ 6 ∷ 7 ∷ 8 ∷ 9 ∷ 10 ∷ []) (sub-id 𝓤 H A W _) (
+              (record { pos = 11; ty = shown; ref = λ x. x }, (record { pos = 13; ty = shown; ref = λ x. x }, (record { pos = 15; ty = shown; ref = λ x. x }, (vAt 16 (λ x. x), (record { pos = 18; ty = shown; ref = λ x. x }, (record { pos = 19; ty = toCells; ref = λ x. x }, (record { pos = 20; ty = toSlots; ref = λ x. x }, tt))))))) 8 (5 ∷ 6 ∷ 7 ∷ 8 ∷ 9 ∷ 10 ∷ []) (sub-id 𝓤 H A W _) (
                 spares-sslice 𝓤 H A W I shown 5,
                 reads-sslice 𝓤 H A W I shown 5,
                 refl,
@@ -438,7 +438,7 @@ module _ {M : Type 1} (𝓤 : URA M) (H : Heap 𝓤) (A : Atoms 𝓤) (W : Given
                           same (mref Cells toCells 9),
                           reads-mref 𝓤 H A W Cells toCells 9,
                           refl,
-                          (same (mref Seats toSeats 10), reads-mref 𝓤 H A W Seats toSeats 10, refl, tt),
+                          (same (mref Slots toSlots 10), reads-mref 𝓤 H A W Slots toSlots 10, refl, tt),
                         ),
                       ),
                     ),
@@ -456,7 +456,7 @@ module _ {M : Type 1} (𝓤 : URA M) (H : Heap 𝓤) (A : Atoms 𝓤) (W : Given
               end _ 7 refl ▹ unshare _ 3 2 7 (to 2) (k₂ κs qs) (λ x. x) (same (mslice-owedS I (to 2) 2 7 (k₂ κs qs))) refl refl ▹ forget _ 7 dead refl ▹
               end _ 8 refl ▹ unshare _ 5 4 8 (to 4) (k₄ κs qs) (λ x. x) (same (mslice-owedS I (to 4) 4 8 (k₄ κs qs))) refl refl ▹ forget _ 8 dead refl ▹
               end _ 9 refl ▹ unborrow _ 19 6 9 Cells toCells (arrF (U w16) 32768 0) (λ x. x) (λ x. x) (λ x. x) (same (mleft Cells toCells)) (same (sc-owed Cells 9)) (arr-mem 𝓤 H A W (U w16) 32768 tt) refl ▹ forget _ 9 dead refl ▹
-              end _ 10 refl ▹ unborrow _ 20 7 10 Seats toSeats (arrF (U w64) 1028 0) (λ x. x) (λ x. x) (λ x. x) (same (mleft Seats toSeats)) (same (sc-owed Seats 10)) (arr-mem 𝓤 H A W (U w64) 1028 tt) refl ▹ forget _ 10 dead refl ▹
+              end _ 10 refl ▹ unborrow _ 20 7 10 Slots toSlots (arrF (U w64) indexSize 0) (λ x. x) (λ x. x) (λ x. x) (same (mleft Slots toSlots)) (same (sc-owed Slots 10)) (arr-mem 𝓤 H A W (U w64) indexSize tt) refl ▹ forget _ 10 dead refl ▹
               judged .1,
         )
 
@@ -467,8 +467,8 @@ module _ {M : Type 1} (𝓤 : URA M) (H : Heap 𝓤) (A : Atoms 𝓤) (W : Given
           _,
           t-repeat 𝓤 H A W E 𝓣 (U w16) (uint-lawful 𝓤 H A W w16) (cRf (fInt w16) .copy 𝓤 H A W) (uint-makes 𝓤 H A W w16) 32768 _ 6 (oInt w16 _) (λ m. 0) (gone cells) tt refl (λ m wa. (refl, lit< tt)) ▸
               g-as-by 𝓤 H A W E (λ ρ. Unit {0}) _ 6 (arrF (U w16) 32768 0) (λ x. x) (told-none 𝓤 H A _) (λ ρ told. whole-arr 𝓤 H A W (U w16) 32768 tt ρ) ▹
-              t-repeat 𝓤 H A W E 𝓣 (U w64) (uint-lawful 𝓤 H A W w64) (cRf (fInt w64) .copy 𝓤 H A W) (uint-makes 𝓤 H A W w64) 1028 _ 7 (oInt w64 _) (λ m. 0) (gone seats) tt refl (λ m wa. (refl, lit< tt)) ▸
-              g-as-by 𝓤 H A W E (λ ρ. Unit {0}) _ 7 (arrF (U w64) 1028 0) (λ x. x) (told-none 𝓤 H A _) (λ ρ told. whole-arr 𝓤 H A W (U w64) 1028 tt ρ) ▹
+              t-repeat 𝓤 H A W E 𝓣 (U w64) (uint-lawful 𝓤 H A W w64) (cRf (fInt w64) .copy 𝓤 H A W) (uint-makes 𝓤 H A W w64) indexSize _ 7 (oInt w64 _) (λ m. 0) (gone slots) tt refl (λ m wa. (refl, lit< tt)) ▸
+              g-as-by 𝓤 H A W E (λ ρ. Unit {0}) _ 7 (arrF (U w64) indexSize 0) (λ x. x) (told-none 𝓤 H A _) (λ ρ told. whole-arr 𝓤 H A W (U w64) indexSize tt ρ) ▹
               begun .1,
         )
 
@@ -487,7 +487,7 @@ module _ {M : Type 1} (𝓤 : URA M) (H : Heap 𝓤) (A : Atoms 𝓤) (W : Given
             λ γ₄. (
               refl,
               λ γ₅ γ₆. (
-                (λ _. record { no-cell = refl; no-seat = refl }),
+                (λ _. record { no-cell = refl; no-slot = refl }),
                 λ c. (
                   refl,
                   (

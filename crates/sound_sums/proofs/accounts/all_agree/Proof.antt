@@ -1,6 +1,6 @@
 -- `all_agree` meets its contract: the invariant is that every account passed stands; the measure is the accounts left.
 use borrow.Author.Needs.{needs}
-use Rattle.sound_sums.specs.Accounts.{accountStands, sumsAt, allAgree}
+use Rattle.sound_sums.specs.Accounts.{accountPasses, sumsAt, allAgree}
 use Rattle.lists.proofs.ListLaws.{every-tabulate, every-fails}
 use Rattle.records.specs.Encoding.{accountAt}
 use borrow.Author.Tests.{not-true, not-false}
@@ -13,7 +13,7 @@ use Rattle.sound_sums.proofs.accounts.all_agree.Statement.{statement}
 use Rattle.sound_sums.proofs.accounts.all_agree.Tie as tie
 
 abbrev Inv-loop : tie.InvT-loop
-Inv-loop accounts count today sums i₀ i = (i ≤ count) × ((k : ℕ) → k < i → accountStands today (sumsAt sums (k + 1)) (accountAt accounts k) ≡ true)
+Inv-loop accounts count today sums i₀ i = (i ≤ count) × ((k : ℕ) → k < i → accountPasses today (sumsAt sums (k + 1)) (accountAt accounts k) ≡ true)
 
 abbrev μ-loop : tie.MeasureT-loop
 μ-loop accounts count today sums i₀ i = count - i
@@ -21,8 +21,8 @@ abbrev μ-loop : tie.MeasureT-loop
 loop-holds : tie.Need-loop-holds Inv-loop μ-loop
 loop-holds c = (omega arith, λ k h. absurd (omega arith))
 
-account-stands-requires : tie.Need-account-stands-requires Inv-loop μ-loop
-account-stands-requires c κs =
+account-passes-requires : tie.Need-account-passes-requires Inv-loop μ-loop
+account-passes-requires c κs =
     let s = c .before .before in
     (omega arith, omega arith, s .pre .2, s .pre .3)
 
@@ -30,7 +30,7 @@ returns : tie.Need-returns Inv-loop μ-loop
 unfolding allAgree
 returns c =
     let n = c .before in
-    sym (every-fails _ (accountAt _) _ _ (n .before .loop-test .taken) (sym (n .account-stands .ensures) ∙ not-true _ (c .if1 .taken)))
+    sym (every-fails _ (accountAt _) _ _ (n .before .loop-test .taken) (sym (n .account-passes .ensures) ∙ not-true _ (c .if1 .taken)))
 
 add-i : tie.Need-add-i Inv-loop μ-loop
 add-i c = search needs
@@ -41,7 +41,7 @@ loop-less c = search needs
 loop-again : tie.Need-loop-again Inv-loop μ-loop
 loop-again c =
     let n = c .before in
-    (omega arith, below-more _ _ (n .before .before .loop .inv .1) (sym (n .account-stands .ensures) ∙ not-false _ (c .if1 .left)))
+    (omega arith, below-more _ _ (n .before .before .loop .inv .1) (sym (n .account-passes .ensures) ∙ not-false _ (c .if1 .left)))
 
 returns-2 : tie.Need-returns-2 Inv-loop μ-loop
 unfolding allAgree
@@ -56,7 +56,7 @@ all-agree-spec =
     Inv-loop
     μ-loop
     loop-holds
-    account-stands-requires
+    account-passes-requires
     returns
     add-i
     loop-less

@@ -1,6 +1,6 @@
 -- `minus` meets its contract: the difference of two numbers that a word holds fits a word.
 use Rattle.tables.proofs.WordLaws.{difference-fits}
-use Rattle.rules.specs.Book.{less}
+use Rattle.rules.specs.Book.{minus}
 use mir.Facts.{toZ-ofZ}
 use mir.ValLaws.{toZ-pos}
 use mir.Syntax.{w64}
@@ -19,7 +19,7 @@ sub-result : tie.Need-sub-result
 sub-result c = rw (toZ-pos w64 (c .args .a) (c .pre .0), toZ-pos w64 (c .args .b) (c .pre .1)) (difference-fits (c .args .a) (c .args .b) (c .pre .0) (c .pre .1))
 
 returns : tie.Need-returns
-unfolding less
+unfolding minus
 returns c = toZ-ofZ (sub-result c) ∙ rw (toZ-pos w64 (c .args .a) (c .pre .0), toZ-pos w64 (c .args .b) (c .pre .1))
 
 pub minus-spec : {M : Type 1} → statement M

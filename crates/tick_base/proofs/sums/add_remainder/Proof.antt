@@ -5,7 +5,7 @@ use mathlib.Core.Path.{_≡_, _∙_}
 use Rattle.records.specs.Encoding.{rowAt}
 use Rattle.rules.specs.Rows.{remaining, source, debit}
 use Rattle.account_sums.specs.Tallies.{moneyOf, owedOf}
-use Rattle.account_sums.proofs.SumsLaws.{share-money, share-owed, remaining-small, account-plain, amount-plain, settled-plain, seat-asked, seat-added}
+use Rattle.account_sums.proofs.SumsLaws.{share-money, share-owed, remaining-small, account-plain, amount-plain, settled-plain, slot-asked, slot-added}
 use Rattle.tick_base.proofs.StageLaws.{not-source}
 use Rattle.tick_base.proofs.sums.add_remainder.Statement.{statement}
 use Rattle.tick_base.proofs.sums.add_remainder.Tie as tie
@@ -37,7 +37,7 @@ add-requires c κs =
     let a = c .before .before .before .before .before in
     let w : c .part .result ≡ cond (source (rowAt (s .args .journal .now) (s .args .i))) (remaining (rowAt (s .args .journal .now) (s .args .i))) 0 =
     c .part .ensures ∙ rw (k .kind-at .ensures, k .before .small-settled .ensures, k .before .before .small-amount .ensures) in
-    seat-asked moneyOf source remaining share-money (s .args .journal .now) (s .args .money .now) (s .args .i) (s .pre .2 .moneys) (s .args .used) (s .pre .0) (s .pre .1)
+    slot-asked moneyOf source remaining share-money (s .args .journal .now) (s .args .money .now) (s .args .i) (s .pre .2 .moneys) (s .args .used) (s .pre .0) (s .pre .1)
     (a .small-account .result) (a .small-account .ensures) (c .part .result) w (remaining-small (s .args .journal .now) (s .args .used) (s .pre .0))
 
 part-requires-2 : tie.Need-part-requires-2
@@ -50,7 +50,7 @@ add-requires-2 c κs =
     let a = c .before .before .before .before .before .before .before .before in
     let w : c .part2 .result ≡ cond (debit (rowAt (s .args .journal .now) (s .args .i))) (remaining (rowAt (s .args .journal .now) (s .args .i))) 0 =
     c .part2 .ensures ∙ rw (k .kind-at .ensures, k .before .small-settled .ensures, k .before .before .small-amount .ensures, not-source (rowAt (s .args .journal .now) (s .args .i)) (s .pre .0 .kind (s .args .i) (s .pre .1))) in
-    seat-asked owedOf debit remaining share-owed (s .args .journal .now) (s .args .owed .now) (s .args .i) (s .pre .2 .owings) (s .args .used) (s .pre .0) (s .pre .1)
+    slot-asked owedOf debit remaining share-owed (s .args .journal .now) (s .args .owed .now) (s .args .i) (s .pre .2 .owings) (s .args .used) (s .pre .0) (s .pre .1)
     (a .small-account .result) (a .small-account .ensures) (c .part2 .result) w (remaining-small (s .args .journal .now) (s .args .used) (s .pre .0))
 
 returns : tie.Need-returns
@@ -63,9 +63,9 @@ returns c =
     let o : c .before .part2 .result ≡ cond (debit (rowAt (s .args .journal .now) (s .args .i))) (remaining (rowAt (s .args .journal .now) (s .args .i))) 0 =
     c .before .part2 .ensures ∙ rw (k .kind-at .ensures, k .before .small-settled .ensures, k .before .before .small-amount .ensures, not-source (rowAt (s .args .journal .now) (s .args .i)) (s .pre .0 .kind (s .args .i) (s .pre .1))) in
     record {
-      moneys = seat-added moneyOf source remaining share-money (s .args .journal .now) (s .args .money .now) (s .args .i) (s .pre .2 .moneys) (s .args .used) (s .pre .0) (s .pre .1)
+      moneys = slot-added moneyOf source remaining share-money (s .args .journal .now) (s .args .money .now) (s .args .i) (s .pre .2 .moneys) (s .args .used) (s .pre .0) (s .pre .1)
           (a .small-account .result) (a .small-account .ensures) (c .before .before .before .before .part .result) m _ (c .before .before .before .add .ensures);
-      owings = seat-added owedOf debit remaining share-owed (s .args .journal .now) (s .args .owed .now) (s .args .i) (s .pre .2 .owings) (s .args .used) (s .pre .0) (s .pre .1)
+      owings = slot-added owedOf debit remaining share-owed (s .args .journal .now) (s .args .owed .now) (s .args .i) (s .pre .2 .owings) (s .args .used) (s .pre .0) (s .pre .1)
           (a .small-account .result) (a .small-account .ensures) (c .before .part2 .result) o _ (c .add2 .ensures);
     }
 

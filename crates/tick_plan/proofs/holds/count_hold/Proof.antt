@@ -1,7 +1,7 @@
 -- `holds::count_hold` meets its contract: the count takes the row's share.
 use mathlib.Core.Path.{_≡_, sym, _∙_}
 use mathlib.Core.Bool.{not, cond, _&&_}
-use Rattle.rules.specs.Rows.{Held, heldToll}
+use Rattle.rules.specs.Rows.{DisputeHeld, heldToll}
 use Rattle.rules.specs.Tick.{holdEnds}
 use Rattle.account_sums.proofs.SumsLaws.{one-small, share-skipped, share-asked, share-added}
 use Rattle.records.specs.Encoding.{rowAt}
@@ -18,7 +18,7 @@ dispute-at-requires c κs = search needs
 returns : tie.Need-returns
 returns c =
     let s = c .before .before in
-    let n : rowAt (s .args .journal .now) (s .args .i) .dispute ≡ Held → ⊥ = λ e. c .if1 .taken (c .before .dispute-at .ensures ∙ e) in (
+    let n : rowAt (s .args .journal .now) (s .args .i) .dispute ≡ DisputeHeld → ⊥ = λ e. c .if1 .taken (c .before .dispute-at .ensures ∙ e) in (
       share-skipped (staysOf (s .args .today)) (λ r. heldToll r && not (holdEnds (s .args .today) r)) (λ r. 1) (share-stays (s .args .today)) (s .args .journal .now) (s .args .stays .now) (s .args .i) (s .pre .2)
           (rw (not-held (rowAt (s .args .journal .now) (s .args .i)) n)),
       sym (no-end (s .args .today) (rowAt (s .args .journal .now) (s .args .i)) n),

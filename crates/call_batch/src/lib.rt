@@ -1,0 +1,69 @@
+// A batch of event records on tables of any lengths and contents: soundness and the lengths once, then each event posted in order and its
+// answer written.
+use batch_index::SLOT_WORDS;
+use batch_index::look_up_indexed;
+use batch_index::start_index;
+use batch_index::update_index;
+use call_refusals::batch::batch_refusal;
+use call_words::event_of;
+use call_words::write_answer;
+use events::post_known;
+use records::Event;
+use records::layout::USED_PLACE;
+use sound_passages::passages::CELLS;
+use tables::words::get;
+ghost use mathlib.Core.Path.{_≡_};
+ghost use mathlib.Core.Bool.{true};
+ghost use Rattle.rules.specs.Tables.{soundTables};
+ghost use Rattle.batch_index.specs.Index.{Indexed, Empty};
+ghost use Rattle.call_words.specs.Answers.{AnswerIn};
+ghost use Rattle.call_batch.specs.BatchCalls.{Begins, RecordPosted};
+ghost use Rattle.rules.specs.Lent.{lent, atEntry, atExit};
+
+// Begins a batch: the number of its refusal, or 0, and then the two arrays, all 0 before, hold the index of the journal.
+pub fn begin_batch(
+    header: &[i64],
+    accounts: &[i64],
+    journal: &[i64],
+    count: usize,
+    answers: &[i64],
+    cells: &mut [u16; CELLS],
+    slots: &mut [u64; SLOT_WORDS],
+) -> u64
+    requires { ⌜ Empty (now cells) (now slots) ⌝ }
+    ensures { λ n. ⌜ Begins (atEntry header accounts journal) count (now (answers .entry)) (now (cells .exit))
+        (now (slots .exit)) n ⌝ }
+{
+    let n = batch_refusal(header, accounts, journal, count, answers);
+    if n != 0 {
+        return n;
+    }
+    start_index(header, accounts, journal, cells, slots);
+    0
+}
+
+// One record of the batch: its event posted, answer i written, and the index brought up to the journal.
+pub fn post_record(
+    header: &mut [i64],
+    accounts: &mut [i64],
+    journal: &mut [i64],
+    answers: &mut [i64],
+    i: usize,
+    x: Event,
+    cells: &mut [u16; CELLS],
+    slots: &mut [u64; SLOT_WORDS],
+)
+    requires { ⌜ (soundTables (lent header accounts journal) ≡ true)
+        × AnswerIn (now answers) i
+        × Indexed (lent header accounts journal) (now cells) (now slots) ⌝ }
+    ensures { λ _. ⌜ RecordPosted (atEntry header accounts journal) (atExit header accounts journal) (now (answers .entry))
+        (now (answers .exit)) i x
+        × Indexed (atExit header accounts journal) (now (cells .exit)) (now (slots .exit)) ⌝ }
+{
+    let e = event_of(x);
+    let before = get(header, USED_PLACE) as usize;
+    let k = look_up_indexed(header, accounts, journal, cells, slots, e);
+    let r = post_known(header, accounts, journal, e, k);
+    update_index(header, accounts, journal, before, e.account, cells, slots);
+    write_answer(answers, i, r);
+}

@@ -1,0 +1,57 @@
+-- `event_of` meets its contract: each of the seven words as a number.
+use Rattle.records.specs.Encoding.{instructionOf}
+use borrow.Author.Needs.{needs}
+use mathlib.Core.Path.{_≡_}
+use mir.Syntax.{w64}
+use mir.Val.{toZ, ofZ}
+use mir.ValLaws.{toZ-ofZ}
+use Rattle.call_words.proofs.event_of.Statement.{statement}
+use Rattle.call_words.proofs.event_of.Tie as tie
+
+natural-requires : tie.Need-natural-requires
+natural-requires c κs = search needs
+
+natural-requires-2 : tie.Need-natural-requires-2
+natural-requires-2 c κs = search needs
+
+natural-requires-3 : tie.Need-natural-requires-3
+natural-requires-3 c κs = search needs
+
+natural-requires-4 : tie.Need-natural-requires-4
+natural-requires-4 c κs = search needs
+
+natural-requires-5 : tie.Need-natural-requires-5
+natural-requires-5 c κs = search needs
+
+natural-requires-6 : tie.Need-natural-requires-6
+natural-requires-6 c κs = search needs
+
+natural-requires-7 : tie.Need-natural-requires-7
+natural-requires-7 c κs = search needs
+
+returns : tie.Need-returns
+unfolding instructionOf
+returns c =
+    let x = c .before .before .before .before .before .before .before .before .before .before .before .before .before .before .args .x in
+    let g = c .before .struct-told7 .given in
+    let w1 : toZ w64 (ofZ w64 (x .kind)) ≡ x .kind = toZ-ofZ w64 (x .kind) (record { sfits = g .0 .1 }) in
+    let w2 : toZ w64 (ofZ w64 (x .account)) ≡ x .account = toZ-ofZ w64 (x .account) (record { sfits = g .1 .0 .1 }) in
+    let w3 : toZ w64 (ofZ w64 (x .a)) ≡ x .a = toZ-ofZ w64 (x .a) (record { sfits = g .1 .1 .0 .1 }) in
+    let w4 : toZ w64 (ofZ w64 (x .b)) ≡ x .b = toZ-ofZ w64 (x .b) (record { sfits = g .1 .1 .1 .0 .1 }) in
+    let w5 : toZ w64 (ofZ w64 (x .c)) ≡ x .c = toZ-ofZ w64 (x .c) (record { sfits = g .1 .1 .1 .1 .0 .1 }) in
+    let w6 : toZ w64 (ofZ w64 (x .d)) ≡ x .d = toZ-ofZ w64 (x .d) (record { sfits = g .1 .1 .1 .1 .1 .0 .1 }) in
+    let w7 : toZ w64 (ofZ w64 (x .e)) ≡ x .e = toZ-ofZ w64 (x .e) (record { sfits = g .1 .1 .1 .1 .1 .1 .0 .1 }) in
+    rw (c .before .before .before .before .before .before .before .before .before .before .before .before .natural .ensures, c .before .before .before .before .before .before .before .before .before .before .natural2 .ensures, c .before .before .before .before .before .before .before .before .natural3 .ensures, c .before .before .before .before .before .before .natural4 .ensures, c .before .before .before .before .natural5 .ensures, c .before .before .natural6 .ensures, c .natural7 .ensures, w1, w2, w3, w4, w5, w6, w7)
+
+pub event-of-spec : {M : Type 1} → statement M
+event-of-spec =
+    tie.close
+    (tie.spec
+    natural-requires
+    natural-requires-2
+    natural-requires-3
+    natural-requires-4
+    natural-requires-5
+    natural-requires-6
+    natural-requires-7
+    returns)
