@@ -5,8 +5,8 @@
 PREFIX = /usr/local
 INCLUDEDIR = $(PREFIX)/include
 LIBDIR = $(PREFIX)/lib
-# Of the interface: rises with every change of the header.
-VERSION = 1.0.0
+# Of the interface, as the header says it.
+VERSION := $(shell awk '/define TOLL_LEDGER_VERSION_/ {v = v dot $$3; dot = "."} END {print v}' include/toll_ledger.h)
 RT = rt
 CC = cc
 CFLAGS = -O2 -std=c11 -Wall -Wextra -Wpedantic -Wconversion
@@ -15,15 +15,17 @@ LISTING = target/bin/listing
 # What `make list` lists.
 FILE = examples/listing.csv
 
+# What library and program are made of: newer than they, and they are proved and built again.
+SOURCES := crates.txt $(shell find crates -name '*.rt' -o -name '*.antt')
+
 .PHONY: build install uninstall host listing list test times bench clean
 
-build:
-	$(RT) check toll_ledger
-	$(RT) staticlib toll_ledger
+build: $(LIBRARY)
 
-$(LIBRARY):
+$(LIBRARY): $(SOURCES)
 	$(RT) check toll_ledger
 	$(RT) staticlib toll_ledger
+	@touch $@
 
 # The example host, against the library as it stands here.
 host: target/host
@@ -34,8 +36,9 @@ target/host: examples/host.c include/toll_ledger.h $(LIBRARY)
 # The listing program, and the listing of a file by it.
 listing: $(LISTING)
 
-$(LISTING):
+$(LISTING): $(SOURCES)
 	$(RT) check listing
+	@touch $@
 
 list: $(LISTING)
 	@$(LISTING) < $(FILE)

@@ -12,8 +12,8 @@
  * tables as they were.
  *
  * The host sees to it that
- *   - each table is at least as long as its length says, aligned for int64_t, and not null, not even
- *     where its length is 0;
+ *   - each table is at least as long as its length says, aligned for int64_t, and not null, not
+ *     even where its length is 0;
  *   - tables handed to one call don't overlap, nor the value of a question any of them;
  *   - no other thread writes a table during a call that is lent it, nor reads one that the call may
  *     write. Calls on different books may run at once;
@@ -24,6 +24,19 @@
 
 #include <stddef.h>
 #include <stdint.h>
+
+/* The version of this interface: the first number rises where a host must change or its stored
+ * books no longer fit, the second where something is added, the third where neither is. */
+#define TOLL_LEDGER_VERSION_MAJOR 1
+#define TOLL_LEDGER_VERSION_MINOR 1
+#define TOLL_LEDGER_VERSION_PATCH 0
+
+/* For compilers that can warn: a call's number must not be ignored, and no pointer may be null. */
+#if defined(__GNUC__) || defined(__clang__)
+#define TOLL_LEDGER_CALL __attribute__((warn_unused_result, nonnull))
+#else
+#define TOLL_LEDGER_CALL
+#endif
 
 #ifdef __cplusplus
 extern "C" {
@@ -65,8 +78,8 @@ enum toll_ledger_number {
                                    due; 8: the account is pending */
     TOLL_LEDGER_LAST_DAY = 12,  /* event 9 on day 36,525 */
     TOLL_LEDGER_FULL = 13,      /* the journal has fewer free rows than the event adds */
-    TOLL_LEDGER_CEILING = 14    /* event 9: a refund above 10,649,600,000. No book has so much money:
-                                   a host need not expect it */
+    TOLL_LEDGER_CEILING = 14    /* event 9: a refund above 10,649,600,000. No book has so much
+                                   money: a host need not expect it */
 };
 
 /* The words of a header, all kept by the ledger. */
@@ -110,7 +123,7 @@ enum toll_ledger_row_word {
     TOLL_LEDGER_ROW_ACCOUNT = 1,
     TOLL_LEDGER_ROW_DAY = 2,        /* of posting */
     TOLL_LEDGER_ROW_AMOUNT = 3,
-    TOLL_LEDGER_ROW_SETTLED = 4,    /* of a debit: how much is paid; of a source: how much is used */
+    TOLL_LEDGER_ROW_SETTLED = 4,    /* of a debit: how much is paid; of a source: how much used */
     TOLL_LEDGER_ROW_MARK = 5,       /* a toll's stage, 0 to 4; a payment's method */
     TOLL_LEDGER_ROW_DUE_DAY = 6,    /* of a toll: when it rises a stage if unsettled and unheld */
     TOLL_LEDGER_ROW_DISPUTE = 7,    /* of a toll: enum toll_ledger_dispute */
@@ -149,11 +162,11 @@ enum toll_ledger_dispute {
  * that aren't held, each in row order. An event but the tick changes its own account alone.
  */
 enum toll_ledger_event_kind {
-    /* a threshold, b top-up amount: 0 to 1,000,000 each, a is 0 if b is. Opens an unused account. */
+    /* a threshold, b top-up amount: 0 to 1,000,000 each, a 0 if b is. Opens an unused account. */
     TOLL_LEDGER_EVENT_OPEN = 1,
-    /* a passage number 1 to 1,000,000,000, b passage day 1 to 36,525, c axles 1 to 99, d height 0 to
-     * 999 inches, e mode. Adds a toll at the rate of its class and mode, due in L days. Class 1: up
-     * to 2 axles, at most 90 inches; 2: 2 axles above 90, 3 and 4 axles; 3: 5 axles or more. */
+    /* a passage number 1 to 1,000,000,000, b passage day 1 to 36,525, c axles 1 to 99, d height 0
+     * to 999 inches, e mode. Adds a toll at the rate of its class and mode, due in L days. Class 1:
+     * up to 2 axles, at most 90 inches; 2: 2 axles above 90, 3 and 4 axles; 3: 5 axles or more. */
     TOLL_LEDGER_EVENT_TOLL = 2,
     /* a amount 1 to 1,000,000, b method: card, cash or check. Adds a payment. */
     TOLL_LEDGER_EVENT_PAYMENT = 3,
@@ -168,10 +181,11 @@ enum toll_ledger_event_kind {
     /* b 1 paid, 0 declined. Paid: adds a card payment of the top-up amount. The third decline in a
      * row removes the top-up. */
     TOLL_LEDGER_EVENT_TOPUP_RESULT = 7,
-    /* The account is pending from today; a tick closes it 15 days on or later, once nothing is owed. */
+    /* The account is pending from today; a tick closes it 15 days on or later, once nothing is
+     * owed. */
     TOLL_LEDGER_EVENT_CLOSE_REQUEST = 8,
-    /* Account 0. The day rises by 1: holds of 30 days end, tolls due rise a stage and from stage 2 on
-     * add a fee, pending accounts close and what is left of their money leaves as a refund. */
+    /* Account 0. The day rises by 1: holds of 30 days end, tolls due rise a stage and from stage 2
+     * on add a fee, pending accounts close and what is left of their money leaves as a refund. */
     TOLL_LEDGER_EVENT_TICK = 9
 };
 
@@ -209,30 +223,31 @@ enum toll_ledger_answer_word {
 };
 
 /*
- * A sound book. The tables have the lengths above, and the header the ranges above, day 1 to 36,525.
- * The first "rows used" rows have kinds 1 to 6; later rows and unused accounts are all 0. The
- * request day is 0 in state open, in pending and closed from 1 to today; returned checks are the
- * account's payments with mark 4; threshold and top-up amount lie in 0 to 1,000,000, declines in 0
- * to 2, last decline in 0 to today, declines and last decline are 0 together, all four 0 where the
- * amount is. Rows name used accounts, days 1 to today, and references of the right kind in an
+ * A sound book. The tables have the lengths above, and the header the ranges above, day 1 to
+ * 36,525. The first "rows used" rows have kinds 1 to 6; later rows and unused accounts are all 0.
+ * The request day is 0 in state open, in pending and closed from 1 to today; returned checks are
+ * the account's payments with mark 4; threshold and top-up amount lie in 0 to 1,000,000, declines
+ * in 0 to 2, last decline in 0 to today, declines and last decline are 0 together, all four 0 where
+ * the amount is. Rows name used accounts, days 1 to today, and references of the right kind in an
  * earlier row of the same account. Amounts are at least 1 and at most 1,000,000 (toll, reversal,
  * payment), 100,000 (fee), 1,300,000 (credit), 10,649,600,000 (refund); settled is 0 to amount, a
- * refund's all of it. Passage numbers differ. A toll of stage k is named by at most k - 1 fees (none
- * at 0). An unsettled toll under stage 4 that isn't held is due after today and by today + L, other
- * tolls from 1 to today + L. Hold start is 0 but for a held toll, then from today - 29 to today and
- * at least 1, the toll unsettled, due by hold start + L and, under stage 4, after hold start. Per
- * account, used sources = settled debits, no unused source stands beside an unsettled debit that
- * isn't held, and a closed account has nothing unused or unsettled.
+ * refund's all of it. Passage numbers differ. A toll of stage k is named by at most k - 1 fees
+ * (none at 0). An unsettled toll under stage 4 that isn't held is due after today and by today + L,
+ * other tolls from 1 to today + L. Hold start is 0 but for a held toll, then from today - 29 to
+ * today and at least 1, the toll unsettled, due by hold start + L and, under stage 4, after hold
+ * start. Per account, used sources = settled debits, no unused source stands beside an unsettled
+ * debit that isn't held, and a closed account has nothing unused or unsettled.
  *
  * Opening makes a sound book, and every call leaves a sound book sound. So a host meets "unsound"
  * only where something else wrote the tables, or where their lengths changed.
  */
 
 /*
- * Opens a book in tables of any contents: schedule is first day, L, fees 2 to 4 and six rates in the
- * header's order, 11 words; all other words become 0. Gives 0, else 1 (lengths unfit) or 2 (schedule
- * of another length or out of range), nothing written.
+ * Opens a book in tables of any contents: schedule is first day, L, fees 2 to 4 and six rates in
+ * the header's order, 11 words; all other words become 0. Gives 0, else 1 (lengths unfit) or 2
+ * (schedule of another length or out of range), nothing written.
  */
+TOLL_LEDGER_CALL
 int64_t toll_ledger_open(int64_t *header, size_t header_words,
                          int64_t *accounts, size_t accounts_words,
                          int64_t *journal, size_t journal_words,
@@ -243,6 +258,7 @@ int64_t toll_ledger_open(int64_t *header, size_t header_words,
  * start of answer wherever it has room for five; past them nothing is written. With less room the
  * event is malformed and nothing is written.
  */
+TOLL_LEDGER_CALL
 int64_t toll_ledger_event(int64_t *header, size_t header_words,
                           int64_t *accounts, size_t accounts_words,
                           int64_t *journal, size_t journal_words,
@@ -253,8 +269,10 @@ int64_t toll_ledger_event(int64_t *header, size_t header_words,
  * Posts count events in order, at most 4,096, and goes on after a refused one. Gives 0 when it has
  * run, and then event i's answer (i from 0) is the five words of answers from 5 * i on, words past
  * the answers unchanged. Else gives 1 (unsound) or 2 (more than 4,096 events, or fewer than
- * 5 * count words of answers), nothing written. A batch of no events asks whether the book is sound.
+ * 5 * count words of answers), nothing written. A batch of no events asks whether the book is
+ * sound.
  */
+TOLL_LEDGER_CALL
 int64_t toll_ledger_batch(int64_t *header, size_t header_words,
                           int64_t *accounts, size_t accounts_words,
                           int64_t *journal, size_t journal_words,
@@ -265,16 +283,18 @@ int64_t toll_ledger_batch(int64_t *header, size_t header_words,
  * The account's balance: sum of sources less sum of debits, held ones included; negative where the
  * account owes. Gives 0, else 1 or 3, and writes the balance, 0 where refused, to value.
  */
+TOLL_LEDGER_CALL
 int64_t toll_ledger_balance(const int64_t *header, size_t header_words,
                             const int64_t *accounts, size_t accounts_words,
                             const int64_t *journal, size_t journal_words,
                             int64_t account, int64_t *value);
 
 /*
- * Whether the account's top-up is due: it is open, its top-up amount is above 0, its last decline is
- * not today and its balance is at most the threshold. Gives 0, else 1 or 3, and writes 1 for yes, 0
- * for no and where refused, to value.
+ * Whether the account's top-up is due: it is open, its top-up amount is above 0, its last decline
+ * is not today and its balance is at most the threshold. Gives 0, else 1 or 3, and writes 1 for
+ * yes, 0 for no and where refused, to value.
  */
+TOLL_LEDGER_CALL
 int64_t toll_ledger_topup_due(const int64_t *header, size_t header_words,
                               const int64_t *accounts, size_t accounts_words,
                               const int64_t *journal, size_t journal_words,

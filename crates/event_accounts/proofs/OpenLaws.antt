@@ -24,7 +24,8 @@ use Rattle.preservation.proofs.Accepted.{accepted}
 use Rattle.tables.specs.Changes.{AccountChanged}
 use Rattle.posting.specs.Posts.{tablesAt, acceptanceOf, Posts}
 use Rattle.posting.proofs.BookLaws.{count-read}
-use Rattle.posting_laws.proofs.RefusalLaws.{ofKind, at-kind}
+use Rattle.records.specs.Updates.{ofKind}
+use Rattle.posting_laws.proofs.RefusalLaws.{at-kind}
 use Rattle.posting_laws.proofs.AccountEventLaws.{rows-fit, never-full, never-above, account-posts}
 use Rattle.event_accounts.specs.AccountEvents.{openRefusals}
 

@@ -21,7 +21,8 @@ use Rattle.rules.proofs.TableLaws.{sound-book}
 use Rattle.tables.specs.Changes.{AccountChanged}
 use Rattle.posting.specs.Posts.{tablesAt, acceptanceOf, Posts}
 use Rattle.posting.proofs.BookLaws.{account-holds}
-use Rattle.posting_laws.proofs.RefusalLaws.{ofKind, at-kind, unknown-unused}
+use Rattle.records.specs.Updates.{ofKind}
+use Rattle.posting_laws.proofs.RefusalLaws.{at-kind, unknown-unused}
 use Rattle.posting_laws.proofs.AccountEventLaws.{rows-fit, never-full, never-above, account-posts}
 use Rattle.event_accounts.specs.AccountEvents.{requestRefusals}
 

@@ -18,7 +18,8 @@ use Rattle.rules.specs.Refusals.{changeOf, after, decisionForm, formOf, wellFor
 use Rattle.rules.specs.Tables.{Tables, roomIn, rowsUsed, bookOf, soundTables}
 use Rattle.rules.proofs.TableLaws.{used-le}
 use Rattle.posting.proofs.BookLaws.{used-read, room-read}
-use Rattle.posting_laws.proofs.RefusalLaws.{ofKind, at-kind, unknown-unused, length-after, no-ceiling, rows-suffice}
+use Rattle.records.specs.Updates.{ofKind}
+use Rattle.posting_laws.proofs.RefusalLaws.{at-kind, unknown-unused, length-after, no-ceiling, rows-suffice}
 use Rattle.posting_laws.proofs.PutRowLaws.{length-put, no-ceiling-put}
 use Rattle.event_decision.specs.Decision.{decisionRefusals, part, tollAndFees, feeSettled, upheldToll, creditFor}
 

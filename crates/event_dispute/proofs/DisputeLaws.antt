@@ -28,7 +28,8 @@ use Rattle.event_lookups.specs.Lookups.{LooksUp}
 use Rattle.event_lookups.proofs.LookupLaws.{still-before, still-put, begun-still, row-at}
 use Rattle.posting.specs.Posts.{tablesAt, acceptanceOf, Posts}
 use Rattle.posting.proofs.BookLaws.{day-read, row-holds}
-use Rattle.posting_laws.proofs.RefusalLaws.{ofKind, at-kind, unknown-unused, rows-suffice}
+use Rattle.records.specs.Updates.{ofKind}
+use Rattle.posting_laws.proofs.RefusalLaws.{at-kind, unknown-unused, rows-suffice}
 use Rattle.posting_laws.proofs.PutRowLaws.{row-used, row-read-by, length-put, no-ceiling-put, put-settles, put-posts}
 use Rattle.event_dispute.specs.Dispute.{disputeRefusals}
 

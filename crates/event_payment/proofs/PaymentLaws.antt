@@ -30,7 +30,8 @@ use Rattle.preservation.proofs.NamedLaws.{after-named}
 use Rattle.settlement.specs.Settling.{Settled}
 use Rattle.posting.specs.Posts.{tablesAt, acceptanceOf, RowAdded, Posts}
 use Rattle.posting.proofs.BookLaws.{used-read, room-read}
-use Rattle.posting_laws.proofs.RefusalLaws.{ofKind, at-kind, unknown-unused, length-after, no-ceiling}
+use Rattle.records.specs.Updates.{ofKind}
+use Rattle.posting_laws.proofs.RefusalLaws.{at-kind, unknown-unused, length-after, no-ceiling}
 use Rattle.posting_laws.proofs.AddedLaws.{acceptance-plain, posts-accepted, row-written}
 use Rattle.posting_laws.proofs.EventLaws.{known-inside}
 use Rattle.event_payment.specs.Payment.{paymentRefusals}

@@ -42,7 +42,8 @@ use Rattle.event_lookups.proofs.LookupLaws.{still-before, still-put, still-add,
 use Rattle.posting.specs.Posts.{tablesAt, acceptanceOf, RowRoom, RowAdded, Posts}
 use Rattle.posting.proofs.BookLaws.{account-read, row-read, day-read, used-read, room-read, count-read, used-small, used-room, row-holds, account-holds}
 use Rattle.posting_laws.proofs.EventLaws.{known-inside}
-use Rattle.posting_laws.proofs.RefusalLaws.{ofKind, at-kind, unknown-unused, length-after, no-ceiling}
+use Rattle.records.specs.Updates.{ofKind}
+use Rattle.posting_laws.proofs.RefusalLaws.{at-kind, unknown-unused, length-after, no-ceiling}
 use Rattle.posting_laws.proofs.AddedLaws.{acceptance-plain, posts-accepted}
 use Rattle.posting.specs.Written.{UsedRows}
 use Rattle.posting_laws.proofs.UsedRowsLaws.{used-rows-before, rows-put, used-rows-add, rows-settle, rows-written, used-rows-room, rows-day, used-rows-settles, SmallAmounts, small-before, small-put, small-add}

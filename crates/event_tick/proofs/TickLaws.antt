@@ -19,7 +19,8 @@ use Rattle.rules.specs.SoundFacts.{Near, Sound}
 use Rattle.tick_rules.specs.Ticks.{feesAdded, refundsAdded}
 use Rattle.tick_rules.proofs.CountLaws.{rows-after, tick-low}
 use Rattle.posting.proofs.BookLaws.{used-read, room-read}
-use Rattle.posting_laws.proofs.RefusalLaws.{ofKind, at-kind}
+use Rattle.records.specs.Updates.{ofKind}
+use Rattle.posting_laws.proofs.RefusalLaws.{at-kind}
 use Rattle.posting.specs.Written.{Written}
 use Rattle.tick_base.specs.Midway.{Midway}
 use Rattle.event_tick.specs.declared.Judged.{Judged}

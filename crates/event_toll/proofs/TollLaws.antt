@@ -35,7 +35,8 @@ use Rattle.settlement.specs.Settling.{Settled}
 use Rattle.posting.specs.Posts.{tablesAt, acceptanceOf, RowAdded, Posts}
 use Rattle.posting.proofs.BookLaws.{day-read, used-read, room-read}
 use Rattle.posting_laws.proofs.EventLaws.{known-inside}
-use Rattle.posting_laws.proofs.RefusalLaws.{ofKind, at-kind, unknown-unused, length-after, no-ceiling}
+use Rattle.records.specs.Updates.{ofKind}
+use Rattle.posting_laws.proofs.RefusalLaws.{at-kind, unknown-unused, length-after, no-ceiling}
 use Rattle.posting_laws.proofs.AddedLaws.{acceptance-plain, posts-accepted, row-written}
 use Rattle.event_toll.specs.Toll.{passageRefusals, tollRefusals}
 

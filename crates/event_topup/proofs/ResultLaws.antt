@@ -16,7 +16,8 @@ use Rattle.rules.specs.Book.{Instruction, StateUnused, StateClosed, Book, accou
 use Rattle.rules.specs.Events.{payTopup, declineTopup, topupResult}
 use Rattle.rules.specs.Refusals.{changeOf, resultForm, formOf, wellFormed, unknown, taken, onClosed, unclassed, misdated, duplicate, barred, noRow, untimely, lastDay, full, ceiling, refusals, answerNumber}
 use Rattle.rules.specs.Tables.{Tables, roomIn, rowsUsed, bookOf, soundTables}
-use Rattle.posting_laws.proofs.RefusalLaws.{ofKind, at-kind, unknown-unused, length-after, no-ceiling, rows-lack, rows-suffice}
+use Rattle.records.specs.Updates.{ofKind}
+use Rattle.posting_laws.proofs.RefusalLaws.{at-kind, unknown-unused, length-after, no-ceiling, rows-lack, rows-suffice}
 use Rattle.posting_laws.proofs.AccountEventLaws.{rows-fit, never-full, never-above}
 use Rattle.event_topup.specs.TopupResult.{resultRefusals}
 

@@ -3,8 +3,10 @@ use mathlib.Core.Path.{_≡_, refl, sym, _∙_}
 use mathlib.Core.Bool.{Bool, true, false, not, cond, _&&_, _||_, false≢true, true≢false, and-true, and-assoc}
 use Prim.Native.Nat.{ℕ, zero, suc, _<_}
 use native.Mathlib.Omega.{arith}
-use mathlib.Core.List.{List, [], _∷_}
+use mathlib.Core.List.{List, [], _∷_, map}
 use lib.ListN.{length, getD}
+use lib.Dec.{eqb, ltb}
+use borrow.Author.Tests.{ltb-true}
 use Rattle.lists.specs.Tests.{_implies_, allOf, Cases, first}
 
 -- ---- _&&_
@@ -94,3 +96,20 @@ pub first-fails : (cs : Cases) → ((k : ℕ) → k < length cs → 0 < getD cs 
 first-fails [] f e k = refl
 first-fails (c ∷ cs) f e zero = first-none c cs (f 0 (omega arith)) e .0
 first-fails (c ∷ cs) f e (suc k) = first-fails cs (λ j h. f (suc j) (omega arith)) (first-none c cs (f 0 (omega arith)) e .1) k
+
+-- the test of the case that a table has under the number n, false where it has none
+unfoldable pub caseOf : Cases → ℕ → Bool
+caseOf [] n = false
+caseOf (c ∷ cs) n = cond (eqb (c .0) n) (c .1) (caseOf cs n)
+
+-- where every number is above 0 and no case is the first to hold, none holds
+pub first-zero : (cs : Cases) → allOf (map (λ c. ltb 0 (c .0)) cs) ≡ true → first cs ≡ 0 → (n : ℕ) → caseOf cs n ≡ false
+unfolding caseOf allOf
+first-zero [] a e n = refl
+first-zero (c ∷ cs) a e n =
+    let q = first-none c cs (ltb-true 0 (c .0) (and-left (ltb 0 (c .0)) _ a)) e in
+    go (eqb (c .0) n) (q .0) (first-zero cs (and-right (ltb 0 (c .0)) _ a) (q .1) n)
+  where
+    go : (t : Bool) → c .1 ≡ false → caseOf cs n ≡ false → cond t (c .1) (caseOf cs n) ≡ false
+    go true x y = x
+    go false x y = y

@@ -8,6 +8,7 @@ use lib.ListN.{length, drop, length-append}
 use lib.Seq.{drop-at}
 use lib.Dec.{ltb}
 use borrow.Author.Tests.{le-leb, lt-ltb, le-ltb}
+use Rattle.records.specs.Updates.{ofKind}
 use Rattle.lists.specs.Tests.{_is_, _from_to_}
 use Rattle.lists.specs.Lists.{sumBy, count, exists}
 use Rattle.lists.proofs.SumLaws.{sumBy-ext, sumBy-map}
@@ -23,9 +24,6 @@ use Rattle.rules.proofs.StorableLaws.{used-inside}
 use Rattle.posting.proofs.BookLaws.{used-read, room-read}
 
 -- ---- an event of a known kind: its laws are stated at that number, at which the tests on the kind compute
-
-abbrev pub ofKind : ℕ → Instruction → Instruction
-ofKind k e = record { kind = k; account = e .account; a = e .a; b = e .b; c = e .c; d = e .d; e = e .e }
 
 pub at-kind : (P : Instruction → Type 0) (e : Instruction) (k : ℕ) → e .kind ≡ k → P (ofKind k e) → P e
 at-kind P e k q p = subst (λ (n : ℕ). P (ofKind n e)) (sym q) p

@@ -1,13 +1,10 @@
 -- What an accepted event is known to be: each refusal of the table fails.
-use mathlib.Core.Path.{_≡_, refl, sym, _∙_}
-use mathlib.Core.Bool.{Bool, false, not}
-use Prim.Native.Nat.{ℕ, _<_}
-use mathlib.Core.List.{map}
-use lib.ListN.{length, getD, List·getD-map}
-use lib.Dec.{ltb}
-use borrow.Author.Tests.{ltb-true}
+use mathlib.Core.Path.{_≡_, refl}
+use mathlib.Core.Bool.{false, not}
+use Prim.Native.Nat.{ℕ}
 use Rattle.lists.specs.Tests.{allOf}
-use Rattle.lists.proofs.TestLaws.{allOf-at, first-fails}
+use Rattle.lists.proofs.TestLaws.{caseOf, first-zero}
+use Rattle.records.specs.Numbers.{Malformed, Unknown, Taken, Closed, Unclassed, Misdated, Duplicate, Barred, NoRow, Untimely, LastDay, Full, Ceiling}
 use Rattle.rules.specs.Book.{Instruction, Book}
 use Rattle.rules.specs.Refusals.{wellFormed, unknown, taken, onClosed, unclassed, misdated, duplicate, barred, noRow, untimely, lastDay, full, ceiling, refusals, answerNumber}
 
@@ -27,28 +24,21 @@ pub record Accepted (b : Book) (e : Instruction) : Type 0 where
   pub low : ceiling b e ≡ false
 
 pub accepted : (b : Book) (e : Instruction) → answerNumber b e ≡ 0 → Accepted b e
-unfolding answerNumber refusals
+unfolding answerNumber refusals caseOf allOf
 accepted b e q =
-    let p = first-fails (refusals b e) positive q in
+    let fails : (n : ℕ) → caseOf (refusals b e) n ≡ false = first-zero (refusals b e) refl q in
     record {
-      formed = p 0;
-      known = p 1;
-      free = p 2;
-      unclosed = p 3;
-      classed = p 4;
-      dated = p 5;
-      new = p 6;
-      allowed = p 7;
-      named = p 8;
-      timely = p 9;
-      later = p 10;
-      fits = p 11;
-      low = p 12;
+      formed = fails Malformed;
+      known = fails Unknown;
+      free = fails Taken;
+      unclosed = fails Closed;
+      classed = fails Unclassed;
+      dated = fails Misdated;
+      new = fails Duplicate;
+      allowed = fails Barred;
+      named = fails NoRow;
+      timely = fails Untimely;
+      later = fails LastDay;
+      fits = fails Full;
+      low = fails Ceiling;
     }
-  where
-    above : ℕ × Bool → Bool
-    above c = ltb 0 (c .0)
-
-    positive : (k : ℕ) → k < length (refusals b e) → 0 < getD (refusals b e) k (1, false) .0
-    positive k h = unfold allOf in
-        (ltb-true 0 (getD (refusals b e) k (1, false) .0) (sym (List·getD-map above (refusals b e) k (1, false)) ∙ allOf-at (map above (refusals b e)) refl k))

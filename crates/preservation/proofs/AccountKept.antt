@@ -6,6 +6,7 @@ use native.Mathlib.Omega.{arith}
 use lib.ListN.{length}
 use lib.Dec.{eqb, leb}
 use borrow.Author.Tests.{le-leb, eqb-true, not-false}
+use Rattle.records.specs.Updates.{ofKind}
 use Rattle.records.specs.Codes.{EventOpen, EventCloseRequest}
 use Rattle.records.specs.AccountOperations.{opened, closeRequestedOn}
 use Rattle.lists.specs.Tests.{_is_, _from_to_, _implies_}
@@ -21,24 +22,24 @@ use Rattle.preservation.proofs.LookupLaws.{today-fits, standing-of, cou
 
 -- ---- event 1
 
-module _ (b : Book) (n a m c d x : ℕ) where
+module _ (b : Book) (i : Instruction) where
   abbrev event1 : Instruction
-  event1 = record { kind = 1; account = n; a = a; b = m; c = c; d = d; e = x }
+  event1 = ofKind EventOpen i
 
   module _ (s : Near (b .day) b) (q : Accepted b event1) where
-    in-table : n from 1 to length (b .accounts) ≡ true
+    in-table : i .account from 1 to length (b .accounts) ≡ true
     unfolding unknown
-    in-table = inside n (length (b .accounts)) false (q .known)
+    in-table = inside (i .account) (length (b .accounts)) false (q .known)
 
-    was-unused : account b n .state ≡ 0
+    was-unused : account b (i .account) .state ≡ 0
     unfolding taken
-    was-unused = eqb-true (account b n .state) 0 (not-false (eqb (account b n .state) 0) (q .free))
+    was-unused = eqb-true (account b (i .account) .state) 0 (not-false (eqb (account b (i .account) .state) 0) (q .free))
 
-    was-zero : account b n .returned ≡ 0
+    was-zero : account b (i .account) .returned ≡ 0
     unfolding unusedZero
     was-zero =
-        let y : Account = account b n in
-        let z : y .request is 0 && y .returned is 0 && y .threshold is 0 && y .topup is 0 && y .declines is 0 && y .declined is 0 ≡ true = rw was-unused at (standing-of (b .day) b s n in-table .zero) in
+        let y : Account = account b (i .account) in
+        let z : y .request is 0 && y .returned is 0 && y .threshold is 0 && y .topup is 0 && y .declines is 0 && y .declined is 0 ≡ true = rw was-unused at (standing-of (b .day) b s (i .account) in-table .zero) in
         let p1 : Bool = y .request is 0 in
         let p2 : Bool = y .returned is 0 in
         let p3 : Bool = y .threshold is 0 in
@@ -46,46 +47,46 @@ module _ (b : Book) (n a m c d x : ℕ) where
         let p5 : Bool = y .declines is 0 in
         eqb-true (y .returned) 0 (and-right p1 p2 (and-left (p1 && p2) p3 (and-left (p1 && p2 && p3) p4 (and-left (p1 && p2 && p3 && p4) p5 (and-left (p1 && p2 && p3 && p4 && p5) (y .declined is 0) z)))))
 
-    standing : Standing (b .day) (opened a m)
+    standing : Standing (b .day) (opened (i .a) (i .b))
     unfolding stateFits unusedZero requestFits topupFits declineFits wellFormed formOf openForm
     standing =
-        let p1 : Bool = leb a highestTopup in
-        let p2 : Bool = leb m highestTopup in
-        let p3 : Bool = m is 0 implies a is 0 in
+        let p1 : Bool = leb (i .a) highestTopup in
+        let p2 : Bool = leb (i .b) highestTopup in
+        let p3 : Bool = i .b is 0 implies i .a is 0 in
         let form = and-left (p1 && p2 && p3) _ (not-false _ (q .formed)) in
         let two = and-left (p1 && p2) p3 form in
         record {
           state = refl;
           zero = refl;
           request = refl;
-          topup = rw (and-left p1 p2 two, and-right p1 p2 two) (together (eqb m 0) (and-right (p1 && p2) p3 form));
+          topup = rw (and-left p1 p2 two, and-right p1 p2 two) (together (eqb (i .b) 0) (and-right (p1 && p2) p3 form));
           decline = le-leb 0 (b .day) (omega arith);
         }
       where
-        together : (t : Bool) → t implies a is 0 ≡ true → t implies a is 0 && true ≡ true
+        together : (t : Bool) → t implies i .a is 0 ≡ true → t implies i .a is 0 && true ≡ true
         together true e = rw e
         together false e = refl
 
-    counted : SumsFit (b .rows) n (opened a m)
+    counted : SumsFit (b .rows) (i .account) (opened (i .a) (i .b))
     unfolding returnedFits usedIsPaid closedClear
-    counted = let v = counted-of (b .day) b s n in-table in record { returned = rw was-zero at (v .returned); used-is-paid = v .used-is-paid; clear = refl }
+    counted = let v = counted-of (b .day) b s (i .account) in-table in record { returned = rw was-zero at (v .returned); used-is-paid = v .used-is-paid; clear = refl }
 
     pub openAccount-near : Near (b .day) (changeOf EventOpen b event1)
     unfolding changeOf openAccount
-    openAccount-near = near-putAccount (b .day) b s n (opened a m) in-table refl standing counted
+    openAccount-near = near-putAccount (b .day) b s (i .account) (opened (i .a) (i .b)) in-table refl standing counted
 
 -- ---- event 8
 
-module _ (b : Book) (n a m c d x : ℕ) where
+module _ (b : Book) (i : Instruction) where
   abbrev event8 : Instruction
-  event8 = record { kind = 8; account = n; a = a; b = m; c = c; d = d; e = x }
+  event8 = ofKind EventCloseRequest i
 
   pub requestClose-near : Near (b .day) b → Accepted b event8 → Near (b .day) (changeOf EventCloseRequest b event8)
   unfolding changeOf requestClose unknown stateFits unusedZero requestFits topupFits declineFits returnedFits usedIsPaid closedClear
   requestClose-near s q =
-      let in-table : n from 1 to length (b .accounts) ≡ true = inside n (length (b .accounts)) _ (q .known) in
-      let v = standing-of (b .day) b s n in-table in
-      let w = counted-of (b .day) b s n in-table in
-      near-putAccount (b .day) b s n (closeRequestedOn (b .day) (account b n)) in-table refl
+      let in-table : i .account from 1 to length (b .accounts) ≡ true = inside (i .account) (length (b .accounts)) _ (q .known) in
+      let v = standing-of (b .day) b s (i .account) in-table in
+      let w = counted-of (b .day) b s (i .account) in-table in
+      near-putAccount (b .day) b s (i .account) (closeRequestedOn (b .day) (account b (i .account))) in-table refl
       (record { state = refl; zero = refl; request = today-fits (b .day) b s; topup = v .topup; decline = v .decline })
       (record { returned = w .returned; used-is-paid = w .used-is-paid; clear = refl })

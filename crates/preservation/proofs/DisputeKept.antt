@@ -6,7 +6,8 @@ use native.Mathlib.Omega.{arith}
 use mathlib.Core.List.{List}
 use lib.Dec.{eqb, leb, ltb}
 use borrow.Author.Tests.{leb-true, le-leb, ltb-true, lt-ltb, eqb-true, not-false}
-use Rattle.records.specs.Codes.{EventDispute}
+use Rattle.records.specs.Updates.{ofKind}
+use Rattle.records.specs.Codes.{EventDispute, EventDecision}
 use Rattle.lists.specs.Tests.{_implies_}
 use Rattle.lists.proofs.TestLaws.{and-left, and-right, or-left, or-right}
 use Rattle.rules.specs.Rows.{Row, KindToll, heldToll, unsettled}
@@ -20,17 +21,17 @@ use Rattle.preservation.proofs.LookupLaws.{day-from, shape-of, live-of,
 
 -- ---- event 5
 
-module _ (b : Book) (n a c d x y : ℕ) where
+module _ (b : Book) (i : Instruction) where
   abbrev event5 : Instruction
-  event5 = record { kind = 5; account = n; a = a; b = c; c = d; d = x; e = y }
+  event5 = ofKind EventDispute i
 
   module _ (s : Near (b .day) b) (q : Accepted b event5) where
     abbrev it : Row
-    it = row b a
+    it = row b (i .a)
 
     is-toll : it .kind ≡ KindToll
     unfolding noRow
-    is-toll = named-kind b a n 1 (q .named)
+    is-toll = named-kind b (i .a) (i .account) 1 (q .named)
 
     has-kind : 0 < it .kind
     has-kind = omega (arith, is-toll)
@@ -48,7 +49,7 @@ module _ (b : Book) (n a c d x y : ℕ) where
     -- what its due day was known to be
     due-was : leb (it .due) (b .day + b .schedule .stage) && cond (ltb (it .mark) 4) (ltb (b .day) (it .due)) (leb 1 (it .due)) ≡ true
     unfolding dueWithin
-    due-was = rw (is-toll, never, still-open) at (live-of (b .day) b s a has-kind .due)
+    due-was = rw (is-toll, never, still-open) at (live-of (b .day) b s (i .a) has-kind .due)
 
     live : Live (b .day) (b .day) (b .schedule .stage) (holdFrom (b .day) it)
     unfolding holdFrom settledFits dueWithin holdFits
@@ -60,22 +61,22 @@ module _ (b : Book) (n a c d x y : ℕ) where
         let day2 : leb (b .day) (b .day + 29) ≡ true = le-leb (b .day) (b .day + 29) (omega arith) in
         let day3 : leb (b .day) (b .day) ≡ true = le-leb (b .day) (b .day) (omega arith) in
         record {
-          settled = live-of (b .day) b s a has-kind .settled;
+          settled = live-of (b .day) b s (i .a) has-kind .settled;
           due = rw (is-toll, still-open, due-by) (from-one (ltb (it .mark) 4) due-from);
           hold = rw (is-toll, day1, day2, day3, still-open, due-by) (after-today (ltb (it .mark) 4) due-from);
         }
       where
-        from-one : (t : Bool) → cond t (ltb (b .day) (row b a .due)) (leb 1 (row b a .due)) ≡ true → leb 1 (row b a .due) ≡ true
-        from-one true e = le-leb 1 (row b a .due) (omega (arith, ltb-true (b .day) (row b a .due) e))
+        from-one : (t : Bool) → cond t (ltb (b .day) (row b (i .a) .due)) (leb 1 (row b (i .a) .due)) ≡ true → leb 1 (row b (i .a) .due) ≡ true
+        from-one true e = le-leb 1 (row b (i .a) .due) (omega (arith, ltb-true (b .day) (row b (i .a) .due) e))
         from-one false e = e
 
-        after-today : (t : Bool) → cond t (ltb (b .day) (row b a .due)) (leb 1 (row b a .due)) ≡ true → t implies ltb (b .day) (row b a .due) ≡ true
+        after-today : (t : Bool) → cond t (ltb (b .day) (row b (i .a) .due)) (leb 1 (row b (i .a) .due)) ≡ true → t implies ltb (b .day) (row b (i .a) .due) ≡ true
         after-today true e = e
         after-today false e = refl
 
-    shape : Shape (b .day) (b .accounts) (b .rows) a (holdFrom (b .day) it)
+    shape : Shape (b .day) (b .accounts) (b .rows) (i .a) (holdFrom (b .day) it)
     unfolding holdFrom kindFits amountFits markFits tollWordsFit noReference rowDayFits accountUsed referenceFits passageOnce feesFit names
-    shape = let v = shape-of (b .day) b s a has-kind in record {
+    shape = let v = shape-of (b .day) b s (i .a) has-kind in record {
       kind = v .kind;
       amount = v .amount;
       mark = v .mark;
@@ -90,7 +91,7 @@ module _ (b : Book) (n a c d x y : ℕ) where
 
     pub holdToll-near : Near (b .day) (changeOf EventDispute b event5)
     unfolding changeOf holdToll holdFrom
-    holdToll-near = near-putRow (b .day) b s a (holdFrom (b .day) it) has-kind refl shape live
+    holdToll-near = near-putRow (b .day) b s (i .a) (holdFrom (b .day) it) has-kind refl shape live
 
 -- ---- a held toll
 
@@ -167,28 +168,28 @@ shape-released today now xs rows n r k s = record {
 
 -- ---- event 6
 
-module _ (b : Book) (n a m c d x : ℕ) where
+module _ (b : Book) (i : Instruction) where
   abbrev pub event6 : Instruction
-  event6 = record { kind = 6; account = n; a = a; b = m; c = c; d = d; e = x }
+  event6 = ofKind EventDecision i
 
   -- the row that it names
   pub record Decided : Type 0 where
-    pub toll : row b a .kind ≡ KindToll
-    pub account : row b a .account ≡ n
-    pub held : row b a .dispute ≡ 1
+    pub toll : row b (i .a) .kind ≡ KindToll
+    pub account : row b (i .a) .account ≡ i .account
+    pub held : row b (i .a) .dispute ≡ 1
 
   pub decided : Accepted b event6 → Decided
   unfolding noRow untimely
   decided q =
-      let it : Row = row b a in
+      let it : Row = row b (i .a) in
       let is-held = not-false (heldToll it) (or-left _ false (or-left _ false (q .timely))) in
-      record { toll = named-kind b a n 1 (q .named); account = named-account b a n 1 (q .named); held = eqb-true (it .dispute) 1 (and-right (eqb (it .kind) 1) _ is-held) }
+      record { toll = named-kind b (i .a) (i .account) 1 (q .named); account = named-account b (i .a) (i .account) 1 (q .named); held = eqb-true (it .dispute) 1 (and-right (eqb (it .kind) 1) _ is-held) }
 
   pub reject-near : Near (b .day) b → Accepted b event6 → Near (b .day) (reject b event6)
   unfolding reject release
   reject-near s q =
-      let t : row b a .kind ≡ KindToll = decided q .toll in
-      let h : 0 < row b a .kind = omega arith in
-      near-putRow (b .day) b s a (release (b .day) (row b a)) h refl
-      (shape-released (b .day) (b .day) (b .accounts) (b .rows) a (row b a) t (shape-of (b .day) b s a h))
-      (live-released (b .day) (b .day) (b .day) (b .day) (b .schedule .stage) (row b a) t (decided q .held) (omega arith) (omega arith) (live-of (b .day) b s a h))
+      let t : row b (i .a) .kind ≡ KindToll = decided q .toll in
+      let h : 0 < row b (i .a) .kind = omega arith in
+      near-putRow (b .day) b s (i .a) (release (b .day) (row b (i .a))) h refl
+      (shape-released (b .day) (b .day) (b .accounts) (b .rows) (i .a) (row b (i .a)) t (shape-of (b .day) b s (i .a) h))
+      (live-released (b .day) (b .day) (b .day) (b .day) (b .schedule .stage) (row b (i .a)) t (decided q .held) (omega arith) (omega arith) (live-of (b .day) b s (i .a) h))

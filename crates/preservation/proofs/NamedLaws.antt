@@ -49,4 +49,4 @@ pub after-named : (b : Book) (e : Instruction) → Sound b → e .kind ≢ Event
 unfolding after
 after-named b e s ne q l h z =
     settled-named b (changeOf (e .kind) b e) s (e .account)
-    (change-others b (e .kind) (e .account) (e .a) (e .b) (e .c) (e .d) (e .e) (s .near) ne q) z l h
+    (change-others b e (e .kind) (s .near) ne q) z l h

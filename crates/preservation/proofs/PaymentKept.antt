@@ -9,7 +9,7 @@ use lib.Dec.{eqb, leb, ltb}
 use borrow.Author.Tests.{leb-true, leb-false, le-leb, ltb-true, eqb-true, ne-eqb, not-false}
 use Rattle.records.specs.Codes.{EventPayment, EventTopupResult}
 use Rattle.records.specs.AccountOperations.{topupPaid, declinedOn}
-use Rattle.records.specs.Updates.{withTopup, withDeclines}
+use Rattle.records.specs.Updates.{withTopup, withDeclines, ofKind}
 use Rattle.lists.specs.Tests.{_from_to_, _implies_}
 use Rattle.lists.proofs.TestLaws.{and-left, and-right, and-both, or-left}
 use Rattle.records.specs.Limits.{highestPayment, highestTopup, mostDeclines}
@@ -61,18 +61,18 @@ module _ (b : Book) (n amount method : ℕ) where
 
 -- ---- event 3
 
-module _ (b : Book) (n a m c d x : ℕ) where
+module _ (b : Book) (i : Instruction) where
   abbrev event3 : Instruction
-  event3 = record { kind = 3; account = n; a = a; b = m; c = c; d = d; e = x }
+  event3 = ofKind EventPayment i
 
   pub postPayment-near : Near (b .day) b → Accepted b event3 → Near (b .day) (changeOf EventPayment b event3)
   unfolding changeOf postPayment wellFormed formOf paymentForm unknown onClosed
   postPayment-near s q =
-      let amounts : Bool = a from 1 to highestPayment in
-      let methods : Bool = m from 1 to 3 in
+      let amounts : Bool = i .a from 1 to highestPayment in
+      let methods : Bool = i .b from 1 to 3 in
       let form = and-left (amounts && methods) _ (not-false _ (q .formed)) in
-      near-payment b n a m s (omega (arith, after-fits b event3 (q .fits), length-append (b .rows) (payment b n a m ∷ [])))
-      (and-left amounts methods form) (and-right amounts methods form) (used-state n (length (b .accounts)) _ (q .known)) (q .unclosed)
+      near-payment b (i .account) (i .a) (i .b) s (omega (arith, after-fits b event3 (q .fits), length-append (b .rows) (payment b (i .account) (i .a) (i .b) ∷ [])))
+      (and-left amounts methods form) (and-right amounts methods form) (used-state (i .account) (length (b .accounts)) _ (q .known)) (q .unclosed)
 
 -- ---- event 7
 
@@ -93,28 +93,28 @@ topup-parts x e =
     let c = and-left (p && q && d) f (and-left (p && q && d && f) g (and-left (p && q && d && f && g) h e)) in
     record { threshold = and-left p q (and-left (p && q) d c); topup = and-right p q (and-left (p && q) d c); declines = and-right (p && q) d c }
 
-module _ (b : Book) (n a m c d x : ℕ) where
+module _ (b : Book) (i : Instruction) where
   abbrev event7 : Instruction
-  event7 = record { kind = 7; account = n; a = a; b = m; c = c; d = d; e = x }
+  event7 = ofKind EventTopupResult i
 
   module _ (s : Near (b .day) b) (q : Accepted b event7) where
     abbrev it : Account
-    it = account b n
+    it = account b (i .account)
 
-    in-table : n from 1 to length (b .accounts) ≡ true
+    in-table : i .account from 1 to length (b .accounts) ≡ true
     unfolding unknown
-    in-table = inside n (length (b .accounts)) _ (q .known)
+    in-table = inside (i .account) (length (b .accounts)) _ (q .known)
 
-    due : topupDue b n ≡ true
+    due : topupDue b (i .account) ≡ true
     unfolding untimely
-    due = not-false (topupDue b n) (or-left (not (topupDue b n)) false (q .timely))
+    due = not-false (topupDue b (i .account)) (or-left (not (topupDue b (i .account))) false (q .timely))
 
     first-two : eqb (it .state) 1 && ltb 0 (it .topup) ≡ true
     unfolding topupDue
     first-two =
         let p : Bool = eqb (it .state) 1 && ltb 0 (it .topup) in
         let o : Bool = not (eqb (it .declined) (b .day)) in
-        and-left p o (and-left (p && o) (lowBalance b n) due)
+        and-left p o (and-left (p && o) (lowBalance b (i .account)) due)
 
     is-open : it .state ≡ 1
     is-open = eqb-true (it .state) 1 (and-left (eqb (it .state) 1) _ first-two)
@@ -126,11 +126,11 @@ module _ (b : Book) (n a m c d x : ℕ) where
     some-amount = ne-eqb (it .topup) 0 (λ e. omega (arith, has-amount))
 
     parts : TopupParts it
-    parts = topup-parts it (standing-of (b .day) b s n in-table .topup)
+    parts = topup-parts it (standing-of (b .day) b s (i .account) in-table .topup)
 
     paid-standing : Standing (b .day) (topupPaid it)
     unfolding stateFits unusedZero requestFits topupFits declineFits
-    paid-standing = let v = standing-of (b .day) b s n in-table in record {
+    paid-standing = let v = standing-of (b .day) b s (i .account) in-table in record {
       state = v .state;
       zero = rw is-open;
       request = v .request;
@@ -138,28 +138,28 @@ module _ (b : Book) (n a m c d x : ℕ) where
       decline = le-leb 0 (b .day) (omega arith);
     }
 
-    paid-counted : SumsFit (b .rows) n (topupPaid it)
+    paid-counted : SumsFit (b .rows) (i .account) (topupPaid it)
     unfolding returnedFits usedIsPaid closedClear
-    paid-counted = let v = counted-of (b .day) b s n in-table in record { returned = v .returned; used-is-paid = v .used-is-paid; clear = v .clear }
+    paid-counted = let v = counted-of (b .day) b s (i .account) in-table in record { returned = v .returned; used-is-paid = v .used-is-paid; clear = v .clear }
 
     payTopup-near : length (payTopup b event7 .rows) ≤ b .room → Near (b .day) (payTopup b event7)
     unfolding payTopup
     payTopup-near room =
-        let e : account (putAccount n (topupPaid it) b) n ≡ topupPaid it = account-put (b .day) b s n (topupPaid it) in-table in
-        near-payment (putAccount n (topupPaid it) b) n (it .topup) 1
-        (near-putAccount (b .day) b s n (topupPaid it) in-table (rw is-open) paid-standing paid-counted)
-        (omega (arith, length-append (b .rows) (payment b n (it .topup) 1 ∷ [])))
+        let e : account (putAccount (i .account) (topupPaid it) b) (i .account) ≡ topupPaid it = account-put (b .day) b s (i .account) (topupPaid it) in-table in
+        near-payment (putAccount (i .account) (topupPaid it) b) (i .account) (it .topup) 1
+        (near-putAccount (b .day) b s (i .account) (topupPaid it) in-table (rw is-open) paid-standing paid-counted)
+        (omega (arith, length-append (b .rows) (payment b (i .account) (it .topup) 1 ∷ [])))
         (and-both (leb 1 (it .topup)) _ (le-leb 1 (it .topup) has-amount) (parts .topup)) refl (rw (e, is-open)) (rw (e, is-open))
 
     declined-standing : Standing (b .day) (declinedOn (b .day) it)
     unfolding declinedOn stateFits unusedZero requestFits topupFits declineFits
     declined-standing = go (leb 2 (it .declines)) refl
       where
-        v : Standing (b .day) (account b n)
-        v = standing-of (b .day) b s n in-table
+        v : Standing (b .day) (account b (i .account))
+        v = standing-of (b .day) b s (i .account) in-table
 
-        go : (t : Bool) → leb 2 (account b n .declines) ≡ t
-            → Standing (b .day) (cond t (withDeclines 0 0 (withTopup 0 0 (account b n))) (withDeclines (account b n .declines + 1) (b .day) (account b n)))
+        go : (t : Bool) → leb 2 (account b (i .account) .declines) ≡ t
+            → Standing (b .day) (cond t (withDeclines 0 0 (withTopup 0 0 (account b (i .account)))) (withDeclines (account b (i .account) .declines + 1) (b .day) (account b (i .account))))
         go true e = record { state = v .state; zero = rw is-open; request = v .request; topup = refl; decline = le-leb 0 (b .day) (omega arith) }
         go false e = record {
           state = v .state;
@@ -177,14 +177,14 @@ module _ (b : Book) (n a m c d x : ℕ) where
           decline = le-leb (b .day) (b .day) (omega arith);
         }
 
-    declined-counted : SumsFit (b .rows) n (declinedOn (b .day) it)
+    declined-counted : SumsFit (b .rows) (i .account) (declinedOn (b .day) it)
     unfolding declinedOn returnedFits usedIsPaid closedClear
     declined-counted = go (leb 2 (it .declines))
       where
-        v : SumsFit (b .rows) n (account b n)
-        v = counted-of (b .day) b s n in-table
+        v : SumsFit (b .rows) (i .account) (account b (i .account))
+        v = counted-of (b .day) b s (i .account) in-table
 
-        go : (t : Bool) → SumsFit (b .rows) n (cond t (withDeclines 0 0 (withTopup 0 0 (account b n))) (withDeclines (account b n .declines + 1) (b .day) (account b n)))
+        go : (t : Bool) → SumsFit (b .rows) (i .account) (cond t (withDeclines 0 0 (withTopup 0 0 (account b (i .account)))) (withDeclines (account b (i .account) .declines + 1) (b .day) (account b (i .account))))
         go true = record { returned = v .returned; used-is-paid = v .used-is-paid; clear = v .clear }
         go false = record { returned = v .returned; used-is-paid = v .used-is-paid; clear = v .clear }
 
@@ -192,17 +192,17 @@ module _ (b : Book) (n a m c d x : ℕ) where
     unfolding declinedOn
     declined-used = go (leb 2 (it .declines))
       where
-        go : (t : Bool) → eqb (cond t (withDeclines 0 0 (withTopup 0 0 (account b n))) (withDeclines (account b n .declines + 1) (b .day) (account b n)) .state) 0 ≡ false
+        go : (t : Bool) → eqb (cond t (withDeclines 0 0 (withTopup 0 0 (account b (i .account)))) (withDeclines (account b (i .account) .declines + 1) (b .day) (account b (i .account))) .state) 0 ≡ false
         go true = rw is-open
         go false = rw is-open
 
     declineTopup-near : Near (b .day) (declineTopup b event7)
     unfolding declineTopup
-    declineTopup-near = near-putAccount (b .day) b s n (declinedOn (b .day) it) in-table declined-used declined-standing declined-counted
+    declineTopup-near = near-putAccount (b .day) b s (i .account) (declinedOn (b .day) it) in-table declined-used declined-standing declined-counted
 
     pub topupResult-near : Near (b .day) (changeOf EventTopupResult b event7)
     unfolding changeOf topupResult
-    topupResult-near = go (eqb m 1) (after-fits b event7 (q .fits))
+    topupResult-near = go (eqb (i .b) 1) (after-fits b event7 (q .fits))
       where
         go : (t : Bool) → length (cond t (payTopup b event7) (declineTopup b event7) .rows) ≤ b .room → Near (b .day) (cond t (payTopup b event7) (declineTopup b event7))
         go true room = payTopup-near room

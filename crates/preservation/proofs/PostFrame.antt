@@ -81,7 +81,7 @@ row-no-idle-money b s i l = go (getD (b .rows) i blank .account) (not-true _ (s 
 
 module _ (b : Book) (e : Instruction) (s : Sound b) (ne : e .kind ≢ EventTick) (q : Accepted b e) where
   changed : Others (e .account) (b .rows) (changeOf (e .kind) b e .rows)
-  changed = change-others b (e .kind) (e .account) (e .a) (e .b) (e .c) (e .d) (e .e) (s .near) ne q
+  changed = change-others b e (e .kind) (s .near) ne q
 
   after-row : (k : ℕ) → k < length (b .rows) → getD (b .rows) k blank .account ≢ e .account → getD (after b e .rows) k blank ≡ getD (b .rows) k blank
   unfolding after settled moved
@@ -101,7 +101,7 @@ module _ (b : Book) (e : Instruction) (s : Sound b) (ne : e .kind ≢ EventTick)
 
   after-account : (n : ℕ) → n ≢ e .account → account (after b e) n ≡ account b n
   unfolding after settled
-  after-account n w = change-account b (e .kind) (e .account) (e .a) (e .b) (e .c) (e .d) (e .e) ne q n w
+  after-account n w = change-account b e (e .kind) ne q n w
 
 -- ---- post
 

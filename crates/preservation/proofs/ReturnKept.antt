@@ -10,7 +10,7 @@ use lib.Seq.{getD-set-same, getD-set-other}
 use lib.Dec.{eqb, leb}
 use borrow.Author.Tests.{leb-true, le-leb, lt-ltb, eqb-true, eq-eqb, ne-eqb, not-false}
 use Rattle.records.specs.Codes.{KindPayment, EventReturnedCheck}
-use Rattle.records.specs.Updates.{withState, withReturned}
+use Rattle.records.specs.Updates.{withState, withReturned, ofKind, onAccount, onRow}
 use Rattle.records.specs.AccountOperations.{checkReturned}
 use Rattle.lists.specs.Tests.{_from_to_}
 use Rattle.lists.specs.Lists.{only, count}
@@ -79,9 +79,9 @@ named-payment rows y j l e k a =
 
 -- ---- event 4
 
-module _ (b : Book) (k j m c d x : ℕ) where
+module _ (b : Book) (k j : ℕ) (i : Instruction) where
   abbrev event4 : Instruction
-  event4 = record { kind = 4; account = suc k; a = suc j; b = m; c = c; d = d; e = x }
+  event4 = ofKind EventReturnedCheck (onAccount (suc k) (onRow (suc j) i))
 
   abbrev it : Row
   it = getD (b .rows) j blank
@@ -103,7 +103,7 @@ module _ (b : Book) (k j m c d x : ℕ) where
   reversal = withReference (suc j) (newRow KindReversal (suc k) (b .day) (it .amount))
 
   abbrev fee : Row
-  fee = withReference (suc j) (newRow KindFee (suc k) (b .day) (m + returnFee))
+  fee = withReference (suc j) (newRow KindFee (suc k) (b .day) (i .b + returnFee))
 
   module _ (s : Near (b .day) b) (q : Accepted b event4) where
     is-payment : it .kind ≡ KindPayment
@@ -129,9 +129,9 @@ module _ (b : Book) (k j m c d x : ℕ) where
     unfolding unknown
     account-used = used-state (suc k) (length (b .accounts)) (eqb (holder .state) 0) (q .known)
 
-    charge-le : m ≤ highestCharge
+    charge-le : i .b ≤ highestCharge
     unfolding wellFormed formOf returnForm
-    charge-le = leb-true m highestCharge (and-left (leb m highestCharge) _ (not-false _ (q .formed)))
+    charge-le = leb-true (i .b) highestCharge (and-left (leb (i .b) highestCharge) _ (not-false _ (q .formed)))
 
     -- the marked row
 
@@ -247,7 +247,7 @@ module _ (b : Book) (k j m c d x : ℕ) where
         (unfold passage feeNaming in record { passage = λ p e. absurd (false≢true e); fee = no-toll })
         (unfold returnedOf in record { returned = λ p. rw (and-false (eqb (suc k) p)); settled = refl; state = now-unclosed })
         shape
-        (unfold settledFits dueWithin holdFits in record { settled = and-both (leb 0 (m + returnFee)) _ (le-leb 0 (m + returnFee) (omega arith)) refl; due = refl; hold = refl })
+        (unfold settledFits dueWithin holdFits in record { settled = and-both (leb 0 (i .b + returnFee)) _ (le-leb 0 (i .b + returnFee) (omega arith)) refl; due = refl; hold = refl })
       where
         kind-there : getD rows₂ j blank .kind ≡ KindPayment
         kind-there = ap (λ (r : Row). r .kind) reversed-row ∙ is-payment
@@ -264,7 +264,7 @@ module _ (b : Book) (k j m c d x : ℕ) where
         shape : Shape (b .day) accounts₁ (grown rows₂ fee) (suc (length rows₂)) fee
         shape = unfold kindFits amountFits mostOf markFits tollWordsFit noReference rowDayFits accountUsed referenceFits passageOnce feesFit in record {
           kind = refl;
-          amount = and-both (leb 1 (m + returnFee)) _ (le-leb 1 (m + returnFee) (omega arith)) (le-leb (m + returnFee) highestFee (omega (arith, charge-le)));
+          amount = and-both (leb 1 (i .b + returnFee)) _ (le-leb 1 (i .b + returnFee) (omega arith)) (le-leb (i .b + returnFee) highestFee (omega (arith, charge-le)));
           mark = refl;
           words = refl;
           none = refl;
@@ -275,13 +275,19 @@ module _ (b : Book) (k j m c d x : ℕ) where
           fees = refl;
         }
 
-pub returnCheck-near : (b : Book) (n a m c d x : ℕ) → Near (b .day) b → Accepted b (record { kind = 4; account = n; a = a; b = m; c = c; d = d; e = x })
-    → Near (b .day) (changeOf EventReturnedCheck b (record { kind = 4; account = n; a = a; b = m; c = c; d = d; e = x }))
+pub returnCheck-near : (b : Book) (i : Instruction) → Near (b .day) b → Accepted b (ofKind EventReturnedCheck i)
+    → Near (b .day) (changeOf EventReturnedCheck b (ofKind EventReturnedCheck i))
 unfolding changeOf returnCheck unknown noRow
-returnCheck-near b zero a m c d x s q = absurd (true≢false (q .known))
-returnCheck-near b (suc k) zero m c d x s q = absurd (true≢false (q .named))
-returnCheck-near b (suc k) (suc j) m c d x s q =
-    let z : suc k - 1 ≡ k = omega arith in
-    let w : suc j - 1 ≡ j = omega arith in
-    let f : length (grown (rows₂ b k j m c d x s q) (fee b k j m c d x)) ≤ b .room = rw (z, w) at (after-fits b (event4 b k j m c d x) (q .fits)) in
-    rw (z, w) (fee-near b k j m c d x s q (omega (arith, length-append (rows₂ b k j m c d x s q) (fee b k j m c d x ∷ []))))
+returnCheck-near b i s q = go (i .account) (i .a) q
+  where
+    at : ℕ → ℕ → Instruction
+    at n a = ofKind EventReturnedCheck (onAccount n (onRow a i))
+
+    go : (n a : ℕ) → Accepted b (at n a) → Near (b .day) (changeOf EventReturnedCheck b (at n a))
+    go zero a q = absurd (true≢false (q .known))
+    go (suc k) zero q = absurd (true≢false (q .named))
+    go (suc k) (suc j) q =
+        let z : suc k - 1 ≡ k = omega arith in
+        let w : suc j - 1 ≡ j = omega arith in
+        let f : length (grown (rows₂ b k j i s q) (fee b k j i)) ≤ b .room = rw (z, w) at (after-fits b (event4 b k j i) (q .fits)) in
+        rw (z, w) (fee-near b k j i s q (omega (arith, length-append (rows₂ b k j i s q) (fee b k j i ∷ []))))

@@ -10,7 +10,8 @@ use lib.ListN.{length, getD, set, length-append, length-map, length-set, List·g
 use lib.Seq.{getD-set-same, getD-set-other}
 use lib.Dec.{eqb}
 use borrow.Author.Tests.{eqb-true}
-use Rattle.records.specs.Codes.{MethodCheckReturned, DisputeUpheld, KindToll, KindPayment}
+use Rattle.records.specs.Updates.{ofKind}
+use Rattle.records.specs.Codes.{MethodCheckReturned, DisputeUpheld, KindToll, KindPayment, EventReturnedCheck, EventDispute, EventDecision, EventTopupResult, EventTick}
 use Rattle.rules.specs.Rows.{Row, blank, withMark, withHoldStart, withDispute, remaining, settleWhole, feeNaming, source}
 use Rattle.rules.specs.Settlement.{settle, settleAccounts}
 use Rattle.rules.specs.Book.{Instruction, Book, account, row, settled}
@@ -20,6 +21,7 @@ use Rattle.rules.specs.Refusals.{changeOf, after, answerNumber, noRow}
 use Rattle.rules.specs.Posting.{post}
 use Rattle.rules.proofs.SettlementLaws.{settle-row, length-settle}
 use Rattle.rules.proofs.PostingLaws.{post-refused, post-accepted}
+use Rattle.rules.proofs.KindLaws.{by-kind}
 use Rattle.preservation.proofs.Accepted.{Accepted, accepted}
 use Rattle.preservation.proofs.LookupLaws.{named-kind}
 use Rattle.preservation.proofs.DisputeKept.{event6, decided}
@@ -124,43 +126,44 @@ put-kept b (suc j) r h p = let z : suc j - 1 ≡ j = omega arith in rw z (rows-s
 
 -- ---- events 4 to 7
 
-return-kept : (b : Book) (n a m c d x : ℕ) → Accepted b (record { kind = 4; account = n; a = a; b = m; c = c; d = d; e = x })
-    → RowsKept (b .rows) (returnCheck b (record { kind = 4; account = n; a = a; b = m; c = c; d = d; e = x }) .rows)
+return-kept : (b : Book) (e : Instruction) → Accepted b (ofKind EventReturnedCheck e) → RowsKept (b .rows) (returnCheck b e .rows)
 unfolding returnCheck noRow
-return-kept b n a m c d x q =
-    let k : row b a .kind ≡ KindPayment = named-kind b a n 4 (q .named) in
-    let r : Row = withMark MethodCheckReturned (row b a) in
-    let xs : List Row = set (b .rows) (a - 1) (withMark MethodCheckReturned (row b a)) in
+return-kept b e q =
+    let k : row b (e .a) .kind ≡ KindPayment = named-kind b (e .a) (e .account) KindPayment (q .named) in
+    let r : Row = withMark MethodCheckReturned (row b (e .a)) in
+    let xs : List Row = set (b .rows) (e .a - 1) (withMark MethodCheckReturned (row b (e .a))) in
     rows-kept (b .rows) xs _
-    (put-kept b a r (omega arith) (record { kind = refl; account = refl; amount = refl; reference = refl; left = omega arith }))
+    (put-kept b (e .a) r (omega arith) (record { kind = refl; account = refl; amount = refl; reference = refl; left = omega arith }))
     (rows-kept xs _ _ (rows-add xs _) (rows-add _ _))
 
-hold-kept : (b : Book) (n a m c d x : ℕ) → Accepted b (record { kind = 5; account = n; a = a; b = m; c = c; d = d; e = x })
-    → RowsKept (b .rows) (holdToll b (record { kind = 5; account = n; a = a; b = m; c = c; d = d; e = x }) .rows)
+hold-kept : (b : Book) (e : Instruction) → Accepted b (ofKind EventDispute e) → RowsKept (b .rows) (holdToll b e .rows)
 unfolding holdToll holdFrom noRow
-hold-kept b n a m c d x q =
-    let k : row b a .kind ≡ KindToll = named-kind b a n 1 (q .named) in
-    put-kept b a (holdFrom (b .day) (row b a)) (omega arith) (record { kind = refl; account = refl; amount = refl; reference = refl; left = omega arith })
+hold-kept b e q =
+    let k : row b (e .a) .kind ≡ KindToll = named-kind b (e .a) (e .account) KindToll (q .named) in
+    put-kept b (e .a) (holdFrom (b .day) (row b (e .a))) (omega arith) (record { kind = refl; account = refl; amount = refl; reference = refl; left = omega arith })
 
-module _ (b : Book) (n a m c d x : ℕ) (q : Accepted b (event6 b n a m c d x)) where
-  there : 0 < row b a .kind
-  there = let k : row b a .kind ≡ KindToll = decided b n a m c d x q .toll in omega arith
+module _ (b : Book) (e : Instruction) (q : Accepted b (event6 b e)) where
+  abbrev it : Row
+  it = row b (e .a)
 
-  uphold-kept : RowsKept (b .rows) (uphold b (event6 b n a m c d x) .rows)
+  there : 0 < it .kind
+  there = let k : it .kind ≡ KindToll = decided b e q .toll in omega arith
+
+  uphold-kept : RowsKept (b .rows) (uphold b e .rows)
   unfolding uphold feeNaming
   uphold-kept =
-      let r : Row = settleWhole (withHoldStart 0 (withDispute DisputeUpheld (row b a))) in
-      let xs : List Row = set (b .rows) (a - 1) (settleWhole (withHoldStart 0 (withDispute DisputeUpheld (row b a)))) in
-      rows-kept (b .rows) xs _ (put-kept b a r there (record { kind = refl; account = refl; amount = refl; reference = refl; left = omega arith }))
-      (rows-kept xs _ _ (rows-map (λ y. cond (feeNaming a y) (settleWhole y) y) refl (λ y. row-cond (feeNaming a y) y (settleWhole y) (row-whole y)) xs) (rows-add _ _))
+      let r : Row = settleWhole (withHoldStart 0 (withDispute DisputeUpheld it)) in
+      let xs : List Row = set (b .rows) (e .a - 1) (settleWhole (withHoldStart 0 (withDispute DisputeUpheld it))) in
+      rows-kept (b .rows) xs _ (put-kept b (e .a) r there (record { kind = refl; account = refl; amount = refl; reference = refl; left = omega arith }))
+      (rows-kept xs _ _ (rows-map (λ y. cond (feeNaming (e .a) y) (settleWhole y) y) refl (λ y. row-cond (feeNaming (e .a) y) y (settleWhole y) (row-whole y)) xs) (rows-add _ _))
 
-  decide-kept : RowsKept (b .rows) (decide b (event6 b n a m c d x) .rows)
+  decide-kept : RowsKept (b .rows) (decide b e .rows)
   unfolding decide reject
-  decide-kept = go (eqb m 1)
+  decide-kept = go (eqb (e .b) 1)
     where
-      go : (t : Bool) → RowsKept (b .rows) (cond t (uphold b (event6 b n a m c d x)) (reject b (event6 b n a m c d x)) .rows)
+      go : (t : Bool) → RowsKept (b .rows) (cond t (uphold b e) (reject b e) .rows)
       go true = uphold-kept
-      go false = put-kept b a (release (b .day) (row b a)) there (row-released (b .day) (row b a))
+      go false = put-kept b (e .a) (release (b .day) it) there (row-released (b .day) it)
 
 topup-kept : (b : Book) (e : Instruction) → RowsKept (b .rows) (topupResult b e .rows)
 unfolding topupResult payTopup declineTopup
@@ -198,25 +201,28 @@ tick-kept b e =
 
 -- ---- every event
 
-change-kept : (b : Book) (k n a m c d x : ℕ) → Accepted b (record { kind = k; account = n; a = a; b = m; c = c; d = d; e = x })
-    → RowsKept (b .rows) (changeOf k b (record { kind = k; account = n; a = a; b = m; c = c; d = d; e = x }) .rows)
+change-kept : (b : Book) (e : Instruction) (k : ℕ) → Accepted b (ofKind k e) → RowsKept (b .rows) (changeOf k b (ofKind k e) .rows)
 unfolding changeOf openAccount postToll postPayment requestClose
-change-kept b zero n a m c d x q = rows-same (b .rows)
-change-kept b (suc zero) n a m c d x q = rows-same (b .rows)
-change-kept b (suc (suc zero)) n a m c d x q = rows-add (b .rows) _
-change-kept b (suc (suc (suc zero))) n a m c d x q = rows-add (b .rows) _
-change-kept b (suc (suc (suc (suc zero)))) n a m c d x q = return-kept b n a m c d x q
-change-kept b (suc (suc (suc (suc (suc zero))))) n a m c d x q = hold-kept b n a m c d x q
-change-kept b (suc (suc (suc (suc (suc (suc zero)))))) n a m c d x q = decide-kept b n a m c d x q
-change-kept b (suc (suc (suc (suc (suc (suc (suc zero))))))) n a m c d x q = topup-kept b (record { kind = 7; account = n; a = a; b = m; c = c; d = d; e = x })
-change-kept b (suc (suc (suc (suc (suc (suc (suc (suc zero)))))))) n a m c d x q = rows-same (b .rows)
-change-kept b (suc (suc (suc (suc (suc (suc (suc (suc (suc zero))))))))) n a m c d x q = tick-kept b (record { kind = 9; account = n; a = a; b = m; c = c; d = d; e = x })
-change-kept b (suc (suc (suc (suc (suc (suc (suc (suc (suc (suc k)))))))))) n a m c d x q = rows-same (b .rows)
+change-kept b e k q =
+    by-kind (λ k. Accepted b (ofKind k e) → RowsKept (b .rows) (changeOf k b (ofKind k e) .rows))
+    (record {
+      opened = λ q. rows-same (b .rows);
+      toll = λ q. rows-add (b .rows) _;
+      payment = λ q. rows-add (b .rows) _;
+      returned-check = return-kept b (ofKind EventReturnedCheck e);
+      dispute = hold-kept b (ofKind EventDispute e);
+      decision = decide-kept b (ofKind EventDecision e);
+      topup-result = λ q. topup-kept b (ofKind EventTopupResult e);
+      close-request = λ q. rows-same (b .rows);
+      tick = λ q. tick-kept b (ofKind EventTick e);
+      none = λ q. rows-same (b .rows);
+      past = λ k q. rows-same (b .rows);
+    }) k q
 
 after-kept : (b : Book) (e : Instruction) → Accepted b e → RowsKept (b .rows) (after b e .rows)
 unfolding after
 after-kept b e q =
-    rows-kept (b .rows) (changeOf (e .kind) b e .rows) _ (change-kept b (e .kind) (e .account) (e .a) (e .b) (e .c) (e .d) (e .e) q) (settled-keeps-rows (changeOf (e .kind) b e))
+    rows-kept (b .rows) (changeOf (e .kind) b e .rows) _ (change-kept b e (e .kind) q) (settled-keeps-rows (changeOf (e .kind) b e))
 
 pub post-keeps-rows : (b : Book) (e : Instruction) → RowsKept (b .rows) (post b e .book .rows)
 post-keeps-rows b e = go (eqb (answerNumber b e) 0) refl

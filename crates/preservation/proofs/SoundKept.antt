@@ -5,6 +5,8 @@ use Prim.Native.Nat.{ℕ, zero, suc}
 use mathlib.Core.List.{List, [], _∷_}
 use lib.Dec.{eqb}
 use borrow.Author.Tests.{eqb-true}
+use Rattle.records.specs.Codes.{EventDecision, EventTopupResult}
+use Rattle.records.specs.Updates.{ofKind}
 use Rattle.rules.specs.Book.{Instruction, Book}
 use Rattle.rules.specs.Events.{openAccount, postToll, postPayment, returnCheck, holdToll, decide, uphold, reject, topupResult, payTopup, declineTopup, requestClose}
 use Rattle.rules.specs.Soundness.{sound}
@@ -13,6 +15,7 @@ use Rattle.rules.specs.Posting.{post, bookAfter}
 use Rattle.rules.proofs.PostingLaws.{post-refused, post-accepted}
 use Rattle.rules.specs.SoundFacts.{Near, Sound}
 use Rattle.rules.proofs.SoundnessLaws.{sound-facts, facts-sound}
+use Rattle.rules.proofs.KindLaws.{by-kind}
 use Rattle.preservation.proofs.Accepted.{Accepted, accepted}
 use Rattle.preservation.proofs.SettledLaws.{settled-sound}
 use Rattle.preservation.proofs.AccountKept.{openAccount-near, requestClose-near}
@@ -43,26 +46,30 @@ module _ (b : Book) (e : Instruction) where
       go true = refl
       go false = refl
 
-change-near : (b : Book) (k n a m c d x : ℕ) → Near (b .day) b → Accepted b (record { kind = k; account = n; a = a; b = m; c = c; d = d; e = x })
-    → Near (changeOf k b (record { kind = k; account = n; a = a; b = m; c = c; d = d; e = x }) .day) (changeOf k b (record { kind = k; account = n; a = a; b = m; c = c; d = d; e = x }))
+change-near : (b : Book) (e : Instruction) (k : ℕ) → Near (b .day) b → Accepted b (ofKind k e)
+    → Near (changeOf k b (ofKind k e) .day) (changeOf k b (ofKind k e))
 unfolding changeOf openAccount postToll postPayment returnCheck holdToll decide topupResult requestClose wellFormed formOf
-change-near b zero n a m c d x s q = absurd (true≢false (q .formed))
-change-near b (suc zero) n a m c d x s q = openAccount-near b n a m c d x s q
-change-near b (suc (suc zero)) n a m c d x s q = postToll-near b n a m c d x s q
-change-near b (suc (suc (suc zero))) n a m c d x s q = postPayment-near b n a m c d x s q
-change-near b (suc (suc (suc (suc zero)))) n a m c d x s q = returnCheck-near b n a m c d x s q
-change-near b (suc (suc (suc (suc (suc zero))))) n a m c d x s q = holdToll-near b n a m c d x s q
-change-near b (suc (suc (suc (suc (suc (suc zero)))))) n a m c d x s q = rw (day-decide b (record { kind = 6; account = n; a = a; b = m; c = c; d = d; e = x })) (decide-near b n a m c d x s q)
-change-near b (suc (suc (suc (suc (suc (suc (suc zero))))))) n a m c d x s q = rw (day-topupResult b (record { kind = 7; account = n; a = a; b = m; c = c; d = d; e = x })) (topupResult-near b n a m c d x s q)
-change-near b (suc (suc (suc (suc (suc (suc (suc (suc zero)))))))) n a m c d x s q = requestClose-near b n a m c d x s q
-change-near b (suc (suc (suc (suc (suc (suc (suc (suc (suc zero))))))))) n a m c d x s q = tick-near b n a m c d x s q
-change-near b (suc (suc (suc (suc (suc (suc (suc (suc (suc (suc k)))))))))) n a m c d x s q = absurd (true≢false (q .formed))
+change-near b e k s q =
+    by-kind (λ k. Accepted b (ofKind k e) → Near (changeOf k b (ofKind k e) .day) (changeOf k b (ofKind k e)))
+    (record {
+      opened = openAccount-near b e s;
+      toll = postToll-near b e s;
+      payment = postPayment-near b e s;
+      returned-check = returnCheck-near b e s;
+      dispute = holdToll-near b e s;
+      decision = λ q. rw (day-decide b (ofKind EventDecision e)) (decide-near b e s q);
+      topup-result = λ q. rw (day-topupResult b (ofKind EventTopupResult e)) (topupResult-near b e s q);
+      close-request = requestClose-near b e s;
+      tick = tick-near b e s;
+      none = λ q. absurd (true≢false (q .formed));
+      past = λ k q. absurd (true≢false (q .formed));
+    }) k q
 
 -- ---- after
 
 pub after-sound : (b : Book) (e : Instruction) → Sound b → Accepted b e → Sound (after b e)
 unfolding after
-after-sound b e s q = settled-sound (changeOf (e .kind) b e) (change-near b (e .kind) (e .account) (e .a) (e .b) (e .c) (e .d) (e .e) (s .near) q)
+after-sound b e s q = settled-sound (changeOf (e .kind) b e) (change-near b e (e .kind) (s .near) q)
 
 pub after-keeps-sound : (b : Book) (e : Instruction) → sound b ≡ true → answerNumber b e ≡ 0 → sound (after b e) ≡ true
 after-keeps-sound b e s q = facts-sound (after b e) (after-sound b e (sound-facts b s) (accepted b e q))

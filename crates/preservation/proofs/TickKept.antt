@@ -9,6 +9,7 @@ use lib.ListN.{length, getD, drop, length-append, length-map, length-drop}
 use lib.Seq.{getD-drop, drop-append-le}
 use lib.Dec.{eqb, ltb}
 use borrow.Author.Tests.{ltb-false, eq-eqb}
+use Rattle.records.specs.Updates.{ofKind}
 use Rattle.records.specs.Codes.{EventTick}
 use Rattle.lists.specs.Lists.{sumBy, count, exists, one, gather}
 use Rattle.lists.proofs.SumLaws.{sumBy-append, sumBy-longer}
@@ -44,9 +45,9 @@ count-later t s a n rows =
     same : (i : ℕ) → t (getD (settleAccounts a rows) i blank) ≡ t (getD rows i blank)
     same i = sym (s (getD (settleAccounts a rows) i blank)) ∙ ap t (settleAccounts-row a rows i .kept) ∙ s (getD rows i blank)
 
-module _ (b : Book) (n a m c d x : ℕ) where
+module _ (b : Book) (i : Instruction) where
   abbrev event9 : Instruction
-  event9 = record { kind = 9; account = n; a = a; b = m; c = c; d = d; e = x }
+  event9 = ofKind EventTick i
 
   -- the book in which accounts are about to close
   abbrev late : Book

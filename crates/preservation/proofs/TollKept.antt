@@ -7,6 +7,7 @@ use mathlib.Core.List.{[], _∷_}
 use lib.ListN.{length, length-append}
 use lib.Dec.{eqb, leb}
 use borrow.Author.Tests.{leb-true, le-leb, lt-ltb, ltb-false, eqb-true, eq-eqb, not-false}
+use Rattle.records.specs.Updates.{ofKind}
 use Rattle.records.specs.Codes.{EventToll}
 use Rattle.lists.specs.Tests.{_from_to_}
 use Rattle.lists.specs.Lists.{count, exists}
@@ -24,58 +25,58 @@ use Rattle.preservation.proofs.KeepingLaws.{grown, Distinct, Quiet, cou
 use Rattle.preservation.proofs.LookupLaws.{today-fits, used-state, after-fits}
 use Rattle.preservation.proofs.FeeLaws.{fees-none, schedule-parts, rate-fits}
 
-module _ (b : Book) (n a m c d x : ℕ) where
+module _ (b : Book) (i : Instruction) where
   abbrev event2 : Instruction
-  event2 = record { kind = 2; account = n; a = a; b = m; c = c; d = d; e = x }
+  event2 = ofKind EventToll i
 
   abbrev it : Row
-  it = withReference a (withDue (b .day + b .schedule .stage) (newRow KindToll n (b .day) (tollRate (b .schedule) event2)))
+  it = withReference (i .a) (withDue (b .day + b .schedule .stage) (newRow KindToll (i .account) (b .day) (tollRate (b .schedule) event2)))
 
   module _ (s : Near (b .day) b) (q : Accepted b event2) where
     abbrev p1 : Bool
-    p1 = a from 1 to highestPassage
+    p1 = i .a from 1 to highestPassage
 
     abbrev p2 : Bool
-    p2 = m from 1 to finalDay
+    p2 = i .b from 1 to finalDay
 
     abbrev p3 : Bool
-    p3 = c from 1 to mostAxles
+    p3 = i .c from 1 to mostAxles
 
     abbrev p4 : Bool
-    p4 = leb d highestHeight
+    p4 = leb (i .d) highestHeight
 
-    form : p1 && p2 && p3 && p4 && x from 1 to 2 ≡ true
+    form : p1 && p2 && p3 && p4 && i .e from 1 to 2 ≡ true
     unfolding wellFormed formOf tollForm
     form = not-false _ (q .formed)
 
-    passage-in : a from 1 to highestPassage ≡ true
-    passage-in = and-left p1 p2 (and-left (p1 && p2) p3 (and-left (p1 && p2 && p3) p4 (and-left (p1 && p2 && p3 && p4) (x from 1 to 2) form)))
+    passage-in : i .a from 1 to highestPassage ≡ true
+    passage-in = and-left p1 p2 (and-left (p1 && p2) p3 (and-left (p1 && p2 && p3) p4 (and-left (p1 && p2 && p3 && p4) (i .e from 1 to 2) form)))
 
     amount-in : tollRate (b .schedule) event2 from 1 to highestRate ≡ true
     unfolding tollRate
     amount-in =
-        rate-fits (b .schedule .rates) (schedule-parts (b .schedule) (s .schedule) .rates) c d x
-        (leb-true x 2 (and-right (leb 1 x) (leb x 2) (and-right (p1 && p2 && p3 && p4) (x from 1 to 2) form)))
+        rate-fits (b .schedule .rates) (schedule-parts (b .schedule) (s .schedule) .rates) (i .c) (i .d) (i .e)
+        (leb-true (i .e) 2 (and-right (leb 1 (i .e)) (leb (i .e) 2) (and-right (p1 && p2 && p3 && p4) (i .e from 1 to 2) form)))
 
     amount-least : 1 ≤ tollRate (b .schedule) event2
     amount-least = leb-true 1 (tollRate (b .schedule) event2) (and-left (leb 1 (tollRate (b .schedule) event2)) _ amount-in)
 
     -- "passage number in the journal": there is none
-    fresh : count (passage a) (b .rows) ≡ 0
+    fresh : count (passage (i .a)) (b .rows) ≡ 0
     unfolding duplicate exists passage
-    fresh = omega (arith, ltb-false 0 (count (λ r. eqb (r .kind) 1 && eqb (r .reference) a) (b .rows)) (q .new))
+    fresh = omega (arith, ltb-false 0 (count (λ r. eqb (r .kind) 1 && eqb (r .reference) (i .a)) (b .rows)) (q .new))
 
     distinct : Distinct (b .rows) it
     unfolding passage feeNaming
-    distinct = record { passage = λ p e. rw (eqb-true a p e) at fresh; fee = λ k h t. refl }
+    distinct = record { passage = λ p e. rw (eqb-true (i .a) p e) at fresh; fee = λ k h t. refl }
 
     quiet : Quiet (b .accounts) it
     unfolding returnedOf onClosed
-    quiet = record { returned = λ p. rw (and-false (eqb n p)); settled = refl; state = q .unclosed }
+    quiet = record { returned = λ p. rw (and-false (eqb (i .account) p)); settled = refl; state = q .unclosed }
 
-    once : count (passage a) (grown (b .rows) it) ≡ 1
+    once : count (passage (i .a)) (grown (b .rows) it) ≡ 1
     unfolding count passage
-    once = sumBy-snoc (λ r. cond (passage a r) 1 0) (b .rows) it ∙ rw (eq-eqb a a refl) (omega (arith, fresh))
+    once = sumBy-snoc (λ r. cond (passage (i .a) r) 1 0) (b .rows) it ∙ rw (eq-eqb (i .a) (i .a) refl) (omega (arith, fresh))
 
     unnamed : count (feeNaming (suc (length (b .rows)))) (grown (b .rows) it) ≡ 0
     unfolding feeNaming
@@ -90,9 +91,9 @@ module _ (b : Book) (n a m c d x : ℕ) where
       words = passage-in;
       none = refl;
       day = today-fits (b .day) b s;
-      account = rw (used-state n (length (b .accounts)) (eqb (account b n .state) 0) (q .known));
+      account = rw (used-state (i .account) (length (b .accounts)) (eqb (account b (i .account) .state) 0) (q .known));
       reference = refl;
-      passage = eq-eqb (count (passage a) (grown (b .rows) it)) 1 once;
+      passage = eq-eqb (count (passage (i .a)) (grown (b .rows) it)) 1 once;
       fees = le-leb (count (feeNaming (suc (length (b .rows)))) (grown (b .rows) it)) 0 (omega (arith, unnamed));
     }
 

@@ -11,6 +11,7 @@ use lib.ListN.{length, getD, set, length-append, length-set, length-map}
 use lib.Seq.{getD-set-same}
 use lib.Dec.{eqb, leb}
 use borrow.Author.Tests.{leb-true, le-leb, ltb-true, le-ltb, lt-ltb, eqb-true, eq-eqb}
+use Rattle.records.specs.Updates.{onRow}
 use Rattle.records.specs.Codes.{KindToll, KindFee, EventDecision}
 use Rattle.lists.specs.Tests.{_from_to_}
 use Rattle.lists.specs.Lists.{sumBy, only, count}
@@ -34,9 +35,9 @@ use Rattle.preservation.proofs.ForgiveLaws.{forgive, forgive-keeps, nam
 use Rattle.preservation.proofs.LookupLaws.{there, today-fits, counted-of, inside, used-state, after-fits}
 use Rattle.preservation.proofs.DisputeKept.{HeldToll, held-is, held-due, event6, decided, reject-near}
 
--- ---- event 6, verdict 1, on toll row j of account n
+-- ---- event 6, verdict 1, on toll row j of the account named
 
-module _ (b : Book) (n j m c d x : ℕ) where
+module _ (b : Book) (j : ℕ) (i : Instruction) where
   abbrev it : Row
   it = getD (b .rows) j blank
 
@@ -50,20 +51,20 @@ module _ (b : Book) (n j m c d x : ℕ) where
   rows₂ = map (forgive (suc j)) rows₁
 
   abbrev credit : Row
-  credit = withReference (suc j) (withSettled (withFees b (suc j) remaining) (newRow KindCredit n (b .day) (withFees b (suc j) (λ r. r .amount))))
+  credit = withReference (suc j) (withSettled (withFees b (suc j) remaining) (newRow KindCredit (i .account) (b .day) (withFees b (suc j) (λ r. r .amount))))
 
   abbrev rows₃ : List Row
   rows₃ = grown rows₂ credit
 
-  module _ (s : Near (b .day) b) (q : Accepted b (event6 b n (suc j) m c d x)) where
+  module _ (s : Near (b .day) b) (q : Accepted b (event6 b (onRow (suc j) i))) where
     is-toll : it .kind ≡ KindToll
-    is-toll = decided b n (suc j) m c d x q .toll
+    is-toll = decided b (onRow (suc j) i) q .toll
 
-    its-account : it .account ≡ n
-    its-account = decided b n (suc j) m c d x q .account
+    its-account : it .account ≡ i .account
+    its-account = decided b (onRow (suc j) i) q .account
 
     is-held : it .dispute ≡ 1
-    is-held = decided b n (suc j) m c d x q .held
+    is-held = decided b (onRow (suc j) i) q .held
 
     row-there : j < length (b .rows)
     row-there = there (b .day) b s j (omega (arith, is-toll))
@@ -73,8 +74,8 @@ module _ (b : Book) (n j m c d x : ℕ) where
 
     -- ---- the three lists of rows
 
-    others₁ : Others n (b .rows) rows₁
-    others₁ = others-set n (b .rows) j upheld its-account its-account
+    others₁ : Others (i .account) (b .rows) rows₁
+    others₁ = others-set (i .account) (b .rows) j upheld its-account its-account
 
     upheld-shape : Shape (b .day) (b .accounts) (b .rows) (suc j) upheld
     unfolding kindFits amountFits markFits tollWordsFit noReference rowDayFits accountUsed referenceFits passageOnce feesFit names
@@ -124,12 +125,12 @@ module _ (b : Book) (n j m c d x : ℕ) where
 
     -- ---- the toll's fees: of its account, and few
 
-    fee-facts : (k : ℕ) → k < length rows₁ → feeNaming (suc j) (getD rows₁ k blank) ≡ true → (getD rows₁ k blank .kind ≡ KindFee) × (getD rows₁ k blank .account ≡ n)
+    fee-facts : (k : ℕ) → k < length rows₁ → feeNaming (suc j) (getD rows₁ k blank) ≡ true → (getD rows₁ k blank .kind ≡ KindFee) × (getD rows₁ k blank .account ≡ i .account)
     fee-facts k l e =
         let r : Row = getD rows₁ k blank in
         let f = naming-fee (suc j) r e in
         let g : Named rows₁ (suc k) r = fee-names rows₁ (suc k) r (f .0) (framed₁ .shape k l .reference) in
-        let u : getD rows₁ j blank .account ≡ n = ap (λ (y : Row). y .account) (getD-set-same (b .rows) j upheld blank row-there) ∙ its-account in
+        let u : getD rows₁ j blank .account ≡ i .account = ap (λ (y : Row). y .account) (getD-set-same (b .rows) j upheld blank row-there) ∙ its-account in
         let w : getD rows₁ j blank .account ≡ r .account = rw (f .1) at (g .account) in
         (f .0, sym w ∙ u)
 
@@ -197,8 +198,8 @@ module _ (b : Book) (n j m c d x : ℕ) where
         let l : suc j ≤ length rows₂ = omega (arith, length₂, row-there) in
         let o : Carries rows₂ rows₃ = carries-append rows₂ (credit ∷ []) in
         let k : rowNo rows₃ (suc j) .kind ≡ KindToll = o .kind (suc j) l ∙ carries .kind (suc j) (omega (arith, row-there)) ∙ is-toll in
-        let a : rowNo rows₃ (suc j) .account ≡ n = o .account (suc j) l ∙ carries .account (suc j) (omega (arith, row-there)) ∙ its-account in
-        rw (lt-ltb (suc j) (suc (length rows₂)) (omega arith), k, a) (eq-eqb n n refl)
+        let a : rowNo rows₃ (suc j) .account ≡ i .account = o .account (suc j) l ∙ carries .account (suc j) (omega (arith, row-there)) ∙ its-account in
+        rw (lt-ltb (suc j) (suc (length rows₂)) (omega arith), k, a) (eq-eqb (i .account) (i .account) refl)
 
     credit-shape : Shape (b .day) (b .accounts) rows₃ (suc (length rows₂)) credit
     unfolding kindFits amountFits mostOf markFits tollWordsFit noReference rowDayFits accountUsed referenceFits passageOnce feesFit unknown
@@ -209,7 +210,7 @@ module _ (b : Book) (n j m c d x : ℕ) where
       words = refl;
       none = refl;
       day = today-fits (b .day) b s;
-      account = rw (used-state n (length (b .accounts)) (eqb (account b n .state) 0) (q .known));
+      account = rw (used-state (i .account) (length (b .accounts)) (eqb (account b (i .account) .state) 0) (q .known));
       reference = credit-names;
       passage = refl;
       fees = refl;
@@ -233,16 +234,16 @@ module _ (b : Book) (n j m c d x : ℕ) where
     settled-fits k l = settled-le (getD rows₁ k blank) (framed₁ .live k l .settled)
 
     -- settled debits: the toll's and the fees' open parts more
-    paid₁ : paid n rows₁ ≡ paid n (b .rows) + remaining it
+    paid₁ : paid (i .account) rows₁ ≡ paid (i .account) (b .rows) + remaining it
     unfolding paid only debitOf
     paid₁ =
-        let f : Row → ℕ = only (debitOf n) (λ r. r .settled) in
-        let new : f upheld ≡ it .amount = rw (its-account, is-toll, eq-eqb n n refl) in
-        let old : f it ≡ it .settled = rw (its-account, is-toll, eq-eqb n n refl) in
+        let f : Row → ℕ = only (debitOf (i .account)) (λ r. r .settled) in
+        let new : f upheld ≡ it .amount = rw (its-account, is-toll, eq-eqb (i .account) (i .account) refl) in
+        let old : f it ≡ it .settled = rw (its-account, is-toll, eq-eqb (i .account) (i .account) refl) in
         omega (arith, sumBy-set f (b .rows) j upheld blank row-there, settled-le it (s .live j row-there .settled))
 
     forgiven-paid : (k : ℕ) → k < length rows₁
-        → only (debitOf n) (λ r. r .settled) (forgive (suc j) (getD rows₁ k blank)) ≡ only (debitOf n) (λ r. r .settled) (getD rows₁ k blank) + only (feeNaming (suc j)) remaining (getD rows₁ k blank)
+        → only (debitOf (i .account)) (λ r. r .settled) (forgive (suc j) (getD rows₁ k blank)) ≡ only (debitOf (i .account)) (λ r. r .settled) (getD rows₁ k blank) + only (feeNaming (suc j)) remaining (getD rows₁ k blank)
     unfolding only debitOf
     forgiven-paid k l = go (feeNaming (suc j) (getD rows₁ k blank)) refl
       where
@@ -250,89 +251,89 @@ module _ (b : Book) (n j m c d x : ℕ) where
         r = getD rows₁ k blank
 
         go : (t : Bool) → feeNaming (suc j) r ≡ t
-            → cond (debitOf n (cond t (settleWhole r) r)) (cond t (settleWhole r) r .settled) 0 ≡ cond (debitOf n r) (r .settled) 0 + cond t (remaining r) 0
-        go true e = let f = fee-facts k l e in rw (f .0, f .1, eq-eqb n n refl) (omega (arith, settled-fits k l))
+            → cond (debitOf (i .account) (cond t (settleWhole r) r)) (cond t (settleWhole r) r .settled) 0 ≡ cond (debitOf (i .account) r) (r .settled) 0 + cond t (remaining r) 0
+        go true e = let f = fee-facts k l e in rw (f .0, f .1, eq-eqb (i .account) (i .account) refl) (omega (arith, settled-fits k l))
         go false e = omega arith
 
-    paid₃ : paid n rows₃ ≡ paid n (b .rows) + (remaining it + fees-open)
+    paid₃ : paid (i .account) rows₃ ≡ paid (i .account) (b .rows) + (remaining it + fees-open)
     unfolding paid
     paid₃ =
-        let f : Row → ℕ = only (debitOf n) (λ r. r .settled) in
+        let f : Row → ℕ = only (debitOf (i .account)) (λ r. r .settled) in
         let g : Row → ℕ = only (feeNaming (suc j)) remaining in
         let a : sumBy f rows₃ ≡ sumBy f rows₂ + f credit = sumBy-snoc f rows₂ credit in
-        let z : f credit ≡ 0 = unfold only debitOf in rw (and-false (eqb n n)) in
+        let z : f credit ≡ 0 = unfold only debitOf in rw (and-false (eqb (i .account) (i .account))) in
         let e : sumBy f rows₂ ≡ sumBy (λ r. f r + g r) rows₁ = sumBy-map f (forgive (suc j)) rows₁ ∙ sumBy-ext-at (λ r. f (forgive (suc j) r)) (λ r. f r + g r) blank rows₁ forgiven-paid in
         omega (arith, sumBy-add f g rows₁, fees-sum remaining, paid₁)
 
     -- used sources: the credit's part used more
-    forgiven-used : (r : Row) → only (sourceOf n) (λ y. y .settled) (forgive (suc j) r) ≡ only (sourceOf n) (λ y. y .settled) r
+    forgiven-used : (r : Row) → only (sourceOf (i .account)) (λ y. y .settled) (forgive (suc j) r) ≡ only (sourceOf (i .account)) (λ y. y .settled) r
     unfolding only sourceOf
     forgiven-used r = go (feeNaming (suc j) r) refl
       where
-        go : (t : Bool) → feeNaming (suc j) r ≡ t → cond (sourceOf n (cond t (settleWhole r) r)) (cond t (settleWhole r) r .settled) 0 ≡ cond (sourceOf n r) (r .settled) 0
-        go true e = rw (naming-fee (suc j) r e .0, and-false (eqb (r .account) n))
+        go : (t : Bool) → feeNaming (suc j) r ≡ t → cond (sourceOf (i .account) (cond t (settleWhole r) r)) (cond t (settleWhole r) r .settled) 0 ≡ cond (sourceOf (i .account) r) (r .settled) 0
+        go true e = rw (naming-fee (suc j) r e .0, and-false (eqb (r .account) (i .account)))
         go false e = refl
 
-    used₃ : used n rows₃ ≡ used n (b .rows) + (remaining it + fees-open)
+    used₃ : used (i .account) rows₃ ≡ used (i .account) (b .rows) + (remaining it + fees-open)
     unfolding used
     used₃ =
-        let f : Row → ℕ = only (sourceOf n) (λ r. r .settled) in
+        let f : Row → ℕ = only (sourceOf (i .account)) (λ r. r .settled) in
         let a : sumBy f rows₃ ≡ sumBy f rows₂ + f credit = sumBy-snoc f rows₂ credit in
-        let c : f credit ≡ remaining it + fees-open = unfold only sourceOf withFees in rw (eq-eqb n n refl) in
+        let c : f credit ≡ remaining it + fees-open = unfold only sourceOf withFees in rw (eq-eqb (i .account) (i .account) refl) in
         let e : sumBy f rows₂ ≡ sumBy f rows₁ = sumBy-map f (forgive (suc j)) rows₁ ∙ sumBy-ext (λ r. f (forgive (suc j) r)) f rows₁ forgiven-used in
-        let g : sumBy f rows₁ ≡ sumBy f (b .rows) = sumBy-set-same f (b .rows) j upheld blank (unfold only sourceOf in rw (is-toll, its-account, eq-eqb n n refl)) in
+        let g : sumBy f rows₁ ≡ sumBy f (b .rows) = sumBy-set-same f (b .rows) j upheld blank (unfold only sourceOf in rw (is-toll, its-account, eq-eqb (i .account) (i .account) refl)) in
         omega arith
 
-    returned₃ : count (returnedOf n) rows₃ ≡ count (returnedOf n) (b .rows)
+    returned₃ : count (returnedOf (i .account)) rows₃ ≡ count (returnedOf (i .account)) (b .rows)
     unfolding count returnedOf
     returned₃ =
-        let f : Row → ℕ = λ r. cond (returnedOf n r) 1 0 in
-        sumBy-snoc f rows₂ credit ∙ rw (and-false (eqb n n), add-zero) (
+        let f : Row → ℕ = λ r. cond (returnedOf (i .account) r) 1 0 in
+        sumBy-snoc f rows₂ credit ∙ rw (and-false (eqb (i .account) (i .account)), add-zero) (
         sumBy-map f (forgive (suc j)) rows₁ ∙ sumBy-ext (λ r. f (forgive (suc j) r)) f rows₁ (forgive-keeps f (λ r v. refl) (suc j))
         ∙ sumBy-set-same f (b .rows) j upheld blank refl)
 
     -- an account with a toll that is unsettled is not closed
-    unclosed : eqb (account b n .state) 3 ≡ false
+    unclosed : eqb (account b (i .account) .state) 3 ≡ false
     unfolding closedClear owed only debitOf
-    unclosed = go (eqb (account b n .state) 3) refl
+    unclosed = go (eqb (account b (i .account) .state) 3) refl
       where
-        in-table : n from 1 to length (b .accounts) ≡ true
-        in-table = unfold unknown in inside n (length (b .accounts)) _ (q .known)
+        in-table : i .account from 1 to length (b .accounts) ≡ true
+        in-table = unfold unknown in inside (i .account) (length (b .accounts)) _ (q .known)
 
-        wants : remaining (getD (b .rows) j blank) ≤ owed n (b .rows)
+        wants : remaining (getD (b .rows) j blank) ≤ owed (i .account) (b .rows)
         wants =
-            let z : only (debitOf n) remaining (getD (b .rows) j blank) ≡ remaining (getD (b .rows) j blank) = rw (its-account, is-toll, eq-eqb n n refl) in
-            omega (arith, sumBy-at-le (only (debitOf n) remaining) (b .rows) j blank row-there)
+            let z : only (debitOf (i .account)) remaining (getD (b .rows) j blank) ≡ remaining (getD (b .rows) j blank) = rw (its-account, is-toll, eq-eqb (i .account) (i .account) refl) in
+            omega (arith, sumBy-at-le (only (debitOf (i .account)) remaining) (b .rows) j blank row-there)
 
-        go : (t : Bool) → eqb (account b n .state) 3 ≡ t → eqb (account b n .state) 3 ≡ false
+        go : (t : Bool) → eqb (account b (i .account) .state) 3 ≡ t → eqb (account b (i .account) .state) 3 ≡ false
         go true e =
-            let c : eqb (money n (b .rows)) 0 && eqb (owed n (b .rows)) 0 ≡ true = rw e at (counted-of (b .day) b s n in-table .clear) in
+            let c : eqb (money (i .account) (b .rows)) 0 && eqb (owed (i .account) (b .rows)) 0 ≡ true = rw e at (counted-of (b .day) b s (i .account) in-table .clear) in
             absurd (omega (
               arith,
               wants,
               ltb-true (it .settled) (it .amount) (held-facts .open-still),
-              eqb-true (owed n (b .rows)) 0 (and-right (eqb (money n (b .rows)) 0) _ c),
+              eqb-true (owed (i .account) (b .rows)) 0 (and-right (eqb (money (i .account) (b .rows)) 0) _ c),
             ))
         go false e = e
 
-    counted-self : SumsFit rows₃ n (account b n)
+    counted-self : SumsFit rows₃ (i .account) (account b (i .account))
     unfolding returnedFits usedIsPaid closedClear unknown
     counted-self =
-        let v = counted-of (b .day) b s n (inside n (length (b .accounts)) _ (q .known)) in
+        let v = counted-of (b .day) b s (i .account) (inside (i .account) (length (b .accounts)) _ (q .known)) in
         record {
           returned = rw returned₃ (v .returned);
-          used-is-paid = eq-eqb (used n rows₃) (paid n rows₃) (omega (arith, used₃, paid₃, eqb-true (used n (b .rows)) (paid n (b .rows)) (v .used-is-paid)));
+          used-is-paid = eq-eqb (used (i .account) rows₃) (paid (i .account) rows₃) (omega (arith, used₃, paid₃, eqb-true (used (i .account) (b .rows)) (paid (i .account) (b .rows)) (v .used-is-paid)));
           clear = rw unclosed;
         }
 
-    -- only rows of account n change
-    pub uphold-others : Others n (b .rows) rows₃
+    -- only rows of account (i .account) change
+    pub uphold-others : Others (i .account) (b .rows) rows₃
     unfolding feeNaming
     uphold-others =
-        others-others n (b .rows) rows₁ rows₃ others₁
-        (others-others n rows₁ rows₂ rows₃ (others-map n rows₁ (forgive (suc j)) refl (forgive-keeps (λ y. y .account) (λ y v. refl) (suc j)) still) (others-add n rows₂ credit refl))
+        others-others (i .account) (b .rows) rows₁ rows₃ others₁
+        (others-others (i .account) rows₁ rows₂ rows₃ (others-map (i .account) rows₁ (forgive (suc j)) refl (forgive-keeps (λ y. y .account) (λ y v. refl) (suc j)) still) (others-add (i .account) rows₂ credit refl))
       where
-        still : (k : ℕ) → k < length rows₁ → getD rows₁ k blank .account ≢ n → forgive (suc j) (getD rows₁ k blank) ≡ getD rows₁ k blank
+        still : (k : ℕ) → k < length rows₁ → getD rows₁ k blank .account ≢ i .account → forgive (suc j) (getD rows₁ k blank) ≡ getD rows₁ k blank
         still k l ne = go (feeNaming (suc j) (getD rows₁ k blank)) refl
           where
             go : (t : Bool) → feeNaming (suc j) (getD rows₁ k blank) ≡ t → cond t (settleWhole (getD rows₁ k blank)) (getD rows₁ k blank) ≡ getD rows₁ k blank
@@ -341,9 +342,9 @@ module _ (b : Book) (n j m c d x : ℕ) where
 
     counted₃ : (k : ℕ) → k < length (b .accounts) → SumsFit rows₃ (suc k) (getD (b .accounts) k unused)
     counted₃ k l =
-        elim (ℕ-discrete (suc k) n) [
-          | yes e ↦ subst (λ (i : ℕ). SumsFit rows₃ i (account b i)) (sym e) counted-self
-          | no e ↦ counted-others n (b .rows) rows₃ uphold-others (suc k) e (getD (b .accounts) k unused) (s .counted k l)
+        elim (ℕ-discrete (suc k) (i .account)) [
+          | yes e ↦ subst (λ (k : ℕ). SumsFit rows₃ k (account b k)) (sym e) counted-self
+          | no e ↦ counted-others (i .account) (b .rows) rows₃ uphold-others (suc k) e (getD (b .accounts) k unused) (s .counted k l)
         ]
 
     pub upheld-near : length rows₃ ≤ b .room → Near (b .day) (addRow credit (withRows rows₂ b))
@@ -351,21 +352,24 @@ module _ (b : Book) (n j m c d x : ℕ) where
 
 -- ---- event 6
 
-pub uphold-near : (b : Book) (n a m c d x : ℕ) → Near (b .day) b → Accepted b (event6 b n a m c d x) → length (uphold b (event6 b n a m c d x) .rows) ≤ b .room
-    → Near (b .day) (uphold b (event6 b n a m c d x))
+pub uphold-near : (b : Book) (i : Instruction) → Near (b .day) b → Accepted b (event6 b i) → length (uphold b (event6 b i) .rows) ≤ b .room
+    → Near (b .day) (uphold b (event6 b i))
 unfolding uphold
-uphold-near b n zero m c d x s q room = let z : _≡_ {A = ℕ} 0 1 = decided b n 0 m c d x q .toll in absurd (omega arith)
-uphold-near b n (suc j) m c d x s q room =
-    let w : suc j - 1 ≡ j = omega arith in
-    rw w (upheld-near b n j m c d x s q (rw w at room))
+uphold-near b i s q room = go (i .a) q room
+  where
+    go : (a : ℕ) → Accepted b (event6 b (onRow a i)) → length (uphold b (event6 b (onRow a i)) .rows) ≤ b .room → Near (b .day) (uphold b (event6 b (onRow a i)))
+    go zero q room = let z : _≡_ {A = ℕ} 0 1 = decided b (onRow 0 i) q .toll in absurd (omega arith)
+    go (suc j) q room =
+        let w : suc j - 1 ≡ j = omega arith in
+        rw w (upheld-near b j i s q (rw w at room))
 
-pub decide-near : (b : Book) (n a m c d x : ℕ) → Near (b .day) b → Accepted b (event6 b n a m c d x) → Near (b .day) (changeOf EventDecision b (event6 b n a m c d x))
+pub decide-near : (b : Book) (i : Instruction) → Near (b .day) b → Accepted b (event6 b i) → Near (b .day) (changeOf EventDecision b (event6 b i))
 unfolding changeOf decide
-decide-near b n a m c d x s q = go (eqb m 1) (after-fits b e (q .fits))
+decide-near b i s q = go (eqb (i .b) 1) (after-fits b e (q .fits))
   where
     e : Instruction
-    e = event6 b n a m c d x
+    e = event6 b i
 
     go : (t : Bool) → length (cond t (uphold b e) (reject b e) .rows) ≤ b .room → Near (b .day) (cond t (uphold b e) (reject b e))
-    go true room = uphold-near b n a m c d x s q room
-    go false room = reject-near b n a m c d x s q
+    go true room = uphold-near b i s q room
+    go false room = reject-near b i s q

@@ -1,7 +1,8 @@
--- A row and an account with one field changed: the only places that list all the fields of one.
+-- A row, an account and an instruction with one field changed: the only places that list all the fields of one.
 use Prim.Native.Nat.{ℕ}
 use Rattle.records.specs.declared.Row.{Row}
 use Rattle.records.specs.declared.Account.{Account}
+use Rattle.records.specs.declared.Instruction.{Instruction}
 
 -- ---- rows
 
@@ -51,3 +52,17 @@ withTopup t n x = record { state = x .state; request = x .request; returned = x 
 
 abbrev pub withDeclines : ℕ → ℕ → Account → Account
 withDeclines n d x = record { state = x .state; request = x .request; returned = x .returned; threshold = x .threshold; topup = x .topup; declines = n; declined = d }
+
+-- ---- instructions
+
+-- the instruction with another kind: at a known kind, tests on the kind compute
+abbrev pub ofKind : ℕ → Instruction → Instruction
+ofKind k e = record { kind = k; account = e .account; a = e .a; b = e .b; c = e .c; d = e .d; e = e .e }
+
+-- the instruction on another account
+abbrev pub onAccount : ℕ → Instruction → Instruction
+onAccount n e = record { kind = e .kind; account = n; a = e .a; b = e .b; c = e .c; d = e .d; e = e .e }
+
+-- the instruction with another word a, which for some kinds names a row
+abbrev pub onRow : ℕ → Instruction → Instruction
+onRow n e = record { kind = e .kind; account = e .account; a = n; b = e .b; c = e .c; d = e .d; e = e .e }

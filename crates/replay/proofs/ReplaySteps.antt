@@ -7,13 +7,14 @@ use native.Mathlib.Omega.{arith}
 use mathlib.Core.List.{List, [], _∷_, _++_, append-nil}
 use lib.ListN.{getD, set}
 use borrow.Author.Tests.{ne-eqb}
-use Rattle.records.specs.Codes.{Yes, EventDispute, EventDecision}
+use Rattle.records.specs.Codes.{Yes, EventDispute, EventDecision, EventTick}
 use Rattle.records.specs.declared.Instruction.{Instruction}
 use Rattle.lists.specs.Tests.{_is_}
 use Rattle.lists.specs.Lists.{one}
 use Rattle.lists.proofs.TestLaws.{cond-either}
 use Rattle.lists.proofs.PairLaws.{Pairs, none, more, pairs-at, pairs-to, pairs-map-self, pairs-set-self}
 use Rattle.lists.proofs.CollectLaws.{collect, collect-append, collect-pairs, collect-none}
+use Rattle.rules.proofs.KindLaws.{by-kind}
 use Rattle.replay.specs.Entries.{Entry, KindFee, noEntry, entryNo, coverWhole, feeOf, unusedOf, wantedBy, cover, settleEntries, settleAllEntries}
 use Rattle.replay.specs.Replay.{Replay, noteTopup, noteRequest, addToll, addPayment, addTopup, addReturn, setHold, addCredit, freeToll, stepOf}
 use Rattle.replay.proofs.Growing.{number-at}
@@ -131,20 +132,28 @@ pub record Proper (e : Instruction) : Type 0 where
   pub decision : e .kind ≡ EventDecision → 1 ≤ e .a
 
 -- events 1 to 8, and kinds of no event
-pub step-steady : (k : ℕ) (p : Replay) (e : Instruction) → k ≢ 9 → (k ≡ 5 → 1 ≤ e .a) → (k ≡ 6 → 1 ≤ e .a) → Stepped p (stepOf k p e)
+pub step-steady : (k : ℕ) (p : Replay) (e : Instruction) → k ≢ EventTick → (k ≡ EventDispute → 1 ≤ e .a) → (k ≡ EventDecision → 1 ≤ e .a)
+    → Stepped p (stepOf k p e)
 unfolding stepOf noteTopup noteRequest addToll addPayment addTopup addReturn setHold addCredit freeToll
-step-steady zero p e n f g = record { schedule = refl; steady = steady-self (p .entries) }
-step-steady (suc zero) p e n f g = record { schedule = refl; steady = steady-self (p .entries) }
-step-steady (suc (suc zero)) p e n f g = record { schedule = refl; steady = steady-add (p .entries) _ (record { toll = refl; opened = refl }) }
-step-steady (suc (suc (suc zero))) p e n f g = record { schedule = refl; steady = steady-add (p .entries) _ (record { toll = refl; opened = refl }) }
-step-steady (suc (suc (suc (suc zero)))) p e n f g = record { schedule = refl; steady = steady-then (steady-add (p .entries) _ (record { toll = refl; opened = refl })) (steady-add _ _ (record { toll = refl; opened = refl })) }
-step-steady (suc (suc (suc (suc (suc zero))))) p e n f g = record { schedule = refl; steady = hold-steady true p e (f refl) }
-step-steady (suc (suc (suc (suc (suc (suc zero)))))) p e n f g = record {
-  schedule = cond-either (λ (q : Replay). q .schedule ≡ p .schedule) (e .b is Yes) (addCredit (setHold false p e) e) (setHold false p e) refl refl;
-  steady = free-steady p e (g refl);
-}
-step-steady (suc (suc (suc (suc (suc (suc (suc zero))))))) p e n f g = cond-either (λ (q : Replay). Stepped p q) (e .b is Yes) _ p
-    (record { schedule = refl; steady = steady-add (p .entries) _ (record { toll = refl; opened = refl }) }) (record { schedule = refl; steady = steady-self (p .entries) })
-step-steady (suc (suc (suc (suc (suc (suc (suc (suc zero)))))))) p e n f g = record { schedule = refl; steady = steady-self (p .entries) }
-step-steady (suc (suc (suc (suc (suc (suc (suc (suc (suc zero))))))))) p e n f g = absurd (n refl)
-step-steady (suc (suc (suc (suc (suc (suc (suc (suc (suc (suc k)))))))))) p e n f g = record { schedule = refl; steady = steady-self (p .entries) }
+step-steady k p e =
+    by-kind (λ k. k ≢ EventTick → (k ≡ EventDispute → 1 ≤ e .a) → (k ≡ EventDecision → 1 ≤ e .a) → Stepped p (stepOf k p e))
+    (record {
+      opened = λ n f g. record { schedule = refl; steady = steady-self (p .entries) };
+      toll = λ n f g. record { schedule = refl; steady = steady-add (p .entries) _ (record { toll = refl; opened = refl }) };
+      payment = λ n f g. record { schedule = refl; steady = steady-add (p .entries) _ (record { toll = refl; opened = refl }) };
+      returned-check = λ n f g. record {
+        schedule = refl;
+        steady = steady-then (steady-add (p .entries) _ (record { toll = refl; opened = refl })) (steady-add _ _ (record { toll = refl; opened = refl }));
+      };
+      dispute = λ n f g. record { schedule = refl; steady = hold-steady true p e (f refl) };
+      decision = λ n f g. record {
+        schedule = cond-either (λ (q : Replay). q .schedule ≡ p .schedule) (e .b is Yes) (addCredit (setHold false p e) e) (setHold false p e) refl refl;
+        steady = free-steady p e (g refl);
+      };
+      topup-result = λ n f g. cond-either (λ (q : Replay). Stepped p q) (e .b is Yes) _ p
+          (record { schedule = refl; steady = steady-add (p .entries) _ (record { toll = refl; opened = refl }) }) (record { schedule = refl; steady = steady-self (p .entries) });
+      close-request = λ n f g. record { schedule = refl; steady = steady-self (p .entries) };
+      tick = λ n f g. absurd (n refl);
+      none = λ n f g. record { schedule = refl; steady = steady-self (p .entries) };
+      past = λ k n f g. record { schedule = refl; steady = steady-self (p .entries) };
+    }) k

@@ -26,9 +26,7 @@ ghost use Rattle.rules.specs.Lent.{lent, atEntry};
 
 // Row i, where its hold ends, is counted at its account. Few rows are in dispute, so that is read first and alone, here and below.
 fn count_end(journal: &[i64], used: usize, i: usize, today: u64, ends: &mut [u64; SLOTS])
-    requires { ⌜ Countable (now journal) used
-        × (i < used)
-        × Tallied (endsOf today) slotCount (now journal) (now ends) i ⌝ }
+    requires { ⌜ Countable (now journal) used × (i < used) × Tallied (endsOf today) slotCount (now journal) (now ends) i ⌝ }
     ensures { λ _. ⌜ Tallied (endsOf today) slotCount (now (journal .entry)) (now (ends .exit)) (i + 1) ⌝ }
 {
     if dispute_at(journal, i) != DISPUTE_HELD {

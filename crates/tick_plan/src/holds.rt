@@ -24,9 +24,7 @@ pub fn count_hold(
     today: u64,
     stays: &mut [u64; SLOTS],
 ) -> bool
-    requires { ⌜ Countable (now journal) used
-        × (i < used)
-        × Tallied (staysOf today) slotCount (now journal) (now stays) i ⌝ }
+    requires { ⌜ Countable (now journal) used × (i < used) × Tallied (staysOf today) slotCount (now journal) (now stays) i ⌝ }
     ensures { λ b. ⌜ Tallied (staysOf today) slotCount (now (journal .entry)) (now (stays .exit)) (i + 1)
         × (b ≡ holdEnds today (rowAt (now (journal .entry)) i)) ⌝ }
 {

@@ -1,4 +1,4 @@
--- `raise` meets its contract: each sum stays in range, and the three stores are those of the definition.
+-- `add-at` meets its contract: each sum stays in range, and the three stores are those of the definition.
 use Rattle.account_sums.specs.Columns.{raised}
 use Prim.Native.Nat.{_+_}
 use mathlib.Core.Path.{refl}
