@@ -11,3 +11,4 @@ pub mod TableLaws
 pub mod OpeningLaws
 pub mod Boundaries
 pub mod CallExamples
+pub mod Borders
