@@ -20,7 +20,7 @@ use Rattle.rules.specs.Book.{Instruction, Answer, Book}
 use Rattle.rules.specs.Soundness.{sound}
 use Rattle.rules.specs.Posting.{post, bookAfter, answersTo}
 use Rattle.rules.specs.Tables.{Tables, bookOf, tablesOf, soundTables}
-use Rattle.rules.specs.Calls.{Event, batchRefusals, batchCall, written}
+use Rattle.rules.specs.Calls.{Event, Gives, batchRefusals, batchCall, written}
 use Rattle.rules.proofs.PostingLaws.{bookAfter-append, answersTo-append, length-answersTo, batchCall-refused}
 use Rattle.rules.proofs.SoundnessLaws.{facts-sound}
 use Rattle.rules.proofs.TableLaws.{sound-book, tablesOf-bookOf, soundTables-tablesOf}
@@ -29,15 +29,15 @@ use Rattle.preservation.proofs.CallsKept.{bookOf-sound}
 use Rattle.tables.specs.Changes.{putAll}
 use Rattle.call_words.specs.Answers.{AnswerIn}
 use Rattle.call_words.proofs.WrittenLaws.{written-none, written-next}
-use Rattle.call_batch.specs.BatchCalls.{RecordPosted, Batches}
+use Rattle.call_batch.specs.BatchCalls.{RecordPosted}
 
 -- ---- batchRefusals
 
 -- refused: nothing is written
-pub batch-refused : (t : Tables) (es : List Event) (w : List ℤ) (n : ℕ) → n ≡ first (batchRefusals t es w) → n is 0 ≡ false → Batches t t es w w n
+pub batch-refused : (t : Tables) (es : List Event) (w : List ℤ) (n : ℕ) → n ≡ first (batchRefusals t es w) → n is 0 ≡ false → Gives (batchCall t es w) (pos n) t w
 batch-refused t es w n q z =
     let r = batchCall-refused t es w (rw q at z) in
-    record { number = rw r q; tables = rw r; answers = rw r }
+    record { number = rw r (ap pos q); tables = rw r; answers = rw r }
 
 -- not refused: sound tables, and words for every answer
 pub record Taken (t : Tables) (es : List Event) (w : List ℤ) : Type 0 where
@@ -156,7 +156,7 @@ module _ (t : Tables) (es : List Event) (w : List ℤ) (r : Taken t es w) where
               rw (h .answers) (rw count at z)
 
     -- after the last
-    pub after-all : length es ≤ i → Batches t u es w v 0
+    pub after-all : length es ≤ i → Gives (batchCall t es w) (pos 0) u v
     unfolding batchCall
     after-all past =
         let l : firstOf es i ≡ map instructionOf es = take-all i (map instructionOf es) (rw (length-map es instructionOf) past) in

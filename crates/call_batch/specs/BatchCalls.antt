@@ -1,4 +1,4 @@
--- What one record of a batch, and a whole batch, leave of the tables and of the answer table.
+-- How a batch begins, and what one record of it leaves of the tables and of the answer table.
 use mathlib.Core.Path.{_≡_}
 use Prim.Native.Nat.{ℕ, _*_}
 use mathlib.Core.List.{List}
@@ -9,7 +9,7 @@ use Rattle.records.specs.Layout.{answerWidth}
 use Rattle.records.specs.Encoding.{instructionOf, answerWords}
 use Rattle.rules.specs.Posting.{post}
 use Rattle.rules.specs.Tables.{Tables, bookOf, tablesOf}
-use Rattle.rules.specs.Calls.{Event, batchRefusals, batchCall}
+use Rattle.rules.specs.Calls.{Event, batchRefusals}
 use Rattle.tables.specs.Changes.{putAll}
 use Rattle.batch_index.specs.Index.{Indexed}
 
@@ -22,9 +22,3 @@ pub record Begins (t : Tables) (count : ℕ) (w : List ℤ) (cells slots : List 
 pub record RecordPosted (t u : Tables) (w v : List ℤ) (i : ℕ) (x : Event) : Type 0 where
   pub tables : u ≡ tablesOf (post (bookOf t) (instructionOf x) .book)
   pub answers : v ≡ putAll w (i * answerWidth) 0 (answerWords (post (bookOf t) (instructionOf x) .answer))
-
--- the batch es gives the number n, leaves the tables u of the tables t, and v of the answer table w
-pub record Batches (t u : Tables) (es : List Event) (w v : List ℤ) (n : ℕ) : Type 0 where
-  pub number : n ≡ batchCall t es w .number
-  pub tables : u ≡ batchCall t es w .tables
-  pub answers : v ≡ batchCall t es w .answers

@@ -31,8 +31,12 @@ pub fn begin_batch(
     slots: &mut [u64; SLOT_WORDS],
 ) -> u64
     requires { ⌜ Empty (now cells) (now slots) ⌝ }
-    ensures { λ n. ⌜ Begins (atEntry header accounts journal) count (now (answers .entry)) (now (cells .exit))
-        (now (slots .exit)) n ⌝ }
+    ensures { λ n. ⌜ Begins (atEntry header accounts journal)
+        count
+        (now (answers .entry))
+        (now (cells .exit))
+        (now (slots .exit))
+        n ⌝ }
 {
     let n = batch_refusal(header, accounts, journal, count, answers);
     if n != 0 {
@@ -56,8 +60,12 @@ pub fn post_record(
     requires { ⌜ (soundTables (lent header accounts journal) ≡ true)
         × AnswerIn (now answers) i
         × Indexed (lent header accounts journal) (now cells) (now slots) ⌝ }
-    ensures { λ _. ⌜ RecordPosted (atEntry header accounts journal) (atExit header accounts journal) (now (answers .entry))
-        (now (answers .exit)) i x
+    ensures { λ _. ⌜ RecordPosted (atEntry header accounts journal)
+        (atExit header accounts journal)
+        (now (answers .entry))
+        (now (answers .exit))
+        i
+        x
         × Indexed (atExit header accounts journal) (now (cells .exit)) (now (slots .exit)) ⌝ }
 {
     let e = event_of(x);

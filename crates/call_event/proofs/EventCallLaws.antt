@@ -5,7 +5,7 @@ use Prim.Native.Nat.{ℕ, _≤_, _<_}
 use native.Mathlib.Omega.{arith}
 use mathlib.Core.List.{List, [], _∷_}
 use lib.ListN.{length}
-use lib.IntN.{ℤ}
+use lib.IntN.{ℤ, pos}
 use lib.Dec.{ltb}
 use borrow.Author.Tests.{ltb-false, eqb-true, le-leb, lt-leb, not-false}
 use Rattle.records.specs.Numbers.{Unsound, Malformed}
@@ -16,7 +16,7 @@ use Rattle.lists.proofs.TestLaws.{or-left, or-right, first-none}
 use Rattle.rules.specs.Book.{Answer}
 use Rattle.rules.specs.Posting.{refusalBy, post}
 use Rattle.rules.specs.Tables.{Tables, bookOf, tablesOf, soundTables}
-use Rattle.rules.specs.Calls.{eventRefusals, answered, eventCall}
+use Rattle.rules.specs.Calls.{Gives, eventRefusals, answered, eventCall}
 use Rattle.rules.proofs.TableLaws.{tablesOf-bookOf}
 use Rattle.preservation.proofs.CallsKept.{eventCall-keeps-sound, bookOf-eventCall}
 use Rattle.tables.specs.Changes.{putAll}
@@ -24,7 +24,7 @@ use Rattle.posting.specs.Posts.{Posts}
 use Rattle.call_words.proofs.AnswerLaws.{small-storable, refusal-small, answer-storable}
 use Rattle.call_words.proofs.WrittenLaws.{written-one}
 use Rattle.call_refusals.proofs.RefusalLaws.{event-refusals-by}
-use Rattle.call_event.specs.EventCalls.{callAnswer, AnswersTo, Calls}
+use Rattle.call_event.specs.EventCalls.{callAnswer, AnswersTo}
 
 -- ---- eventRefusals
 
@@ -89,12 +89,12 @@ posted-answers t u e w x q p =
 
 module _ (t u : Tables) (e w : List ℤ) (x : Answer) (a : AnswersTo t u e w x) where
   -- too short for an answer: it stays
-  pub call-unwritten : length w < answerWidth → Calls t u e w w (x .number)
+  pub call-unwritten : length w < answerWidth → Gives (eventCall t e w) (pos (x .number)) u w
   unfolding callAnswer eventCall answered
   call-unwritten h = record { number = rw (a .answer); tables = a .tables; answers = rw (lt-leb answerWidth (length w) h) }
 
   -- else the answer stands in its first five words
-  pub call-written : answerWidth ≤ length w → Calls t u e w (putAll w 0 0 (answerWords x)) (x .number)
+  pub call-written : answerWidth ≤ length w → Gives (eventCall t e w) (pos (x .number)) u (putAll w 0 0 (answerWords x))
   unfolding callAnswer eventCall answered
   call-written h = record {
     number = rw (a .answer);

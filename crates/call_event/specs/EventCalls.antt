@@ -1,6 +1,5 @@
--- What a single event leaves of the tables and of its answer table, and the number that it gives.
+-- What a single event is answered, and what it leaves of the tables.
 use mathlib.Core.Path.{_≡_}
-use Prim.Native.Nat.{ℕ}
 use mathlib.Core.Bool.{cond}
 use mathlib.Core.List.{List}
 use lib.IntN.{ℤ}
@@ -22,9 +21,3 @@ pub record AnswersTo (t u : Tables) (e w : List ℤ) (x : Answer) : Type 0 where
   pub answer : x ≡ callAnswer t e w
   pub tables : u ≡ eventCall t e w .tables
   pub storable : StorableAnswer x
-
--- the event e gives the number n, leaves the tables u of the tables t, and v of the answer table w
-pub record Calls (t u : Tables) (e w v : List ℤ) (n : ℕ) : Type 0 where
-  pub number : n ≡ eventCall t e w .number
-  pub tables : u ≡ eventCall t e w .tables
-  pub answers : v ≡ eventCall t e w .answers

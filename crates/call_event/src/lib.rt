@@ -6,7 +6,9 @@ use events::post_event;
 use posting::answers::refused;
 use records::Answer;
 use records::layout::ANSWER_WIDTH;
-ghost use Rattle.call_event.specs.EventCalls.{AnswersTo, Calls};
+ghost use lib.IntN.{pos};
+ghost use Rattle.rules.specs.Calls.{eventCall, Gives};
+ghost use Rattle.call_event.specs.EventCalls.{AnswersTo};
 ghost use Rattle.rules.specs.Lent.{atEntry, atExit};
 
 // The answer, the tables changed where its number is 0. The answer table is read for its length alone.
@@ -17,8 +19,11 @@ fn answer_to(
     event: &[i64],
     answer: &[i64],
 ) -> Answer
-    ensures { λ r. ⌜ AnswersTo (atEntry header accounts journal) (atExit header accounts journal) (now (event .entry))
-        (now (answer .entry)) r ⌝ }
+    ensures { λ r. ⌜ AnswersTo (atEntry header accounts journal)
+        (atExit header accounts journal)
+        (now (event .entry))
+        (now (answer .entry))
+        r ⌝ }
 {
     let n = event_refusal(header, accounts, journal, event, answer);
     if n != 0 {
@@ -36,8 +41,12 @@ pub fn event_call(
     event: &[i64],
     answer: &mut [i64],
 ) -> u64
-    ensures { λ n. ⌜ Calls (atEntry header accounts journal) (atExit header accounts journal) (now (event .entry))
-        (now (answer .entry)) (now (answer .exit)) n ⌝ }
+    ensures { λ n. ⌜ Gives (eventCall (atEntry header accounts journal)
+        (now (event .entry))
+        (now (answer .entry)))
+        (pos n)
+        (atExit header accounts journal)
+        (now (answer .exit)) ⌝ }
 {
     let x = answer_to(header, accounts, journal, event, answer);
     if answer.len() < ANSWER_WIDTH {

@@ -20,11 +20,11 @@ use Rattle.rules.specs.Schedule.{scheduleFits}
 use Rattle.rules.specs.Book.{unused}
 use Rattle.rules.specs.Opening.{opening, dayFits}
 use Rattle.rules.specs.Tables.{Tables, accountsIn, roomIn, scheduleFrom, scheduleWords, headerWords, tablesOf, lengthsFit}
-use Rattle.rules.specs.Calls.{openingRefusals, openedBook, openCall}
+use Rattle.rules.specs.Calls.{Gives, openingRefusals, openedBook, openCall}
 use Rattle.rules.proofs.StorableLaws.{between-le, StorableSchedule, schedule-storable}
 use Rattle.sound_header.specs.Clauses.{tablesAt}
 use Rattle.sound_header.proofs.LengthLaws.{lengths-known}
-use Rattle.call_opening.specs.Opens.{openingFits, Opens}
+use Rattle.call_opening.specs.OpeningFits.{openingFits}
 
 -- ---- words copied
 
@@ -134,18 +134,21 @@ module _ (h a j w : List ℤ) where
   abbrev t : Tables
   t = tablesAt h a j
 
-  pub lengths-refused : lengthsFit t ≡ false → Opens t t w 1
+  pub lengths-refused : lengthsFit t ≡ false → Gives (openCall t w) (pos 1) t []
   unfolding openCall openingRefusals first
-  lengths-refused l = record { number = rw l; tables = rw l }
+  lengths-refused l = record { number = rw l; tables = rw l; answers = refl }
 
-  pub words-refused : lengthsFit t ≡ true → openingFits w ≡ false → Opens t t w 2
+  pub words-refused : lengthsFit t ≡ true → openingFits w ≡ false → Gives (openCall t w) (pos 2) t []
   unfolding openCall openingRefusals first openingFits
-  words-refused l f = record { number = rw (l, f); tables = rw (l, f) }
+  words-refused l f = record { number = rw (l, f); tables = rw (l, f); answers = refl }
 
   pub opened : lengthsFit t ≡ true → openingFits w ≡ true
-      → Opens t (tablesAt (pos (word w firstDayPlace) ∷ pos 0 ∷ scheduleWords (scheduleFrom w openingSchedule)) (replicate (length a) (pos 0)) (replicate (length j) (pos 0))) w 0
+      → Gives (openCall t w)
+      (pos 0)
+      (tablesAt (pos (word w firstDayPlace) ∷ pos 0 ∷ scheduleWords (scheduleFrom w openingSchedule)) (replicate (length a) (pos 0)) (replicate (length j) (pos 0)))
+      []
   unfolding openCall openingRefusals first openingFits
-  opened l f = record { number = rw (l, f); tables = rw (l, f) opened-tables }
+  opened l f = record { number = rw (l, f); tables = rw (l, f) opened-tables; answers = refl }
     where
       opened-tables : tablesAt (pos (word w firstDayPlace) ∷ pos 0 ∷ scheduleWords (scheduleFrom w openingSchedule)) (replicate (length a) (pos 0)) (replicate (length j) (pos 0)) ≡ tablesOf (openedBook t w)
       opened-tables = unfold tablesOf openedBook opening headerWords writeAll in

@@ -14,7 +14,7 @@ use tables::words::get;
 use tables::words::put;
 ghost use mathlib.Core.Path.{_≡_};
 ghost use mathlib.Core.Bool.{true};
-ghost use mathlib.Core.List.{_∷_};
+ghost use mathlib.Core.List.{[], _∷_};
 ghost use lib.IntN.{pos};
 ghost use Prim.Native.Nat.{_<_};
 ghost use lib.ListN.{length, getD, set, replicate};
@@ -22,7 +22,8 @@ ghost use Rattle.records.specs.Layout.{headerWidth, firstDayPlace, openingSched
 ghost use Rattle.records.specs.Encoding.{word};
 ghost use Rattle.rules.specs.Tables.{scheduleFrom, scheduleWords};
 ghost use Rattle.sound_header.specs.Clauses.{tablesAt};
-ghost use Rattle.call_opening.specs.Opens.{openingFits, Opens};
+ghost use Rattle.rules.specs.Calls.{openCall, Gives};
+ghost use Rattle.call_opening.specs.OpeningFits.{openingFits};
 ghost use Rattle.rules.specs.Lent.{atEntry, atExit};
 
 // The first day and the schedule: eleven words, each in its range.
@@ -46,8 +47,9 @@ fn copy_word(t: &mut [i64], i: usize, from: &[i64], j: usize)
 // The header: the first day, no rows, and the schedule's words from their place in the opening to their place here.
 fn write_header(header: &mut [i64], schedule: &[i64])
     requires { ⌜ (length (now header) ≡ headerWidth) × (openingFits (now schedule) ≡ true) ⌝ }
-    ensures { λ _. ⌜ now (header .exit) ≡ pos (word (now (schedule .entry)) firstDayPlace) ∷ pos 0 ∷ scheduleWords
-        (scheduleFrom (now (schedule .entry)) openingSchedule) ⌝ }
+    ensures { λ _. ⌜ now (header .exit)
+        ≡ pos (word (now (schedule .entry)) firstDayPlace) ∷ pos 0
+        ∷ scheduleWords (scheduleFrom (now (schedule .entry)) openingSchedule) ⌝ }
 {
     copy_word(header, DAY_PLACE, schedule, FIRST_DAY_PLACE);
     put(header, USED_PLACE, 0);
@@ -76,7 +78,11 @@ pub fn open_book(
     journal: &mut [i64],
     schedule: &[i64],
 ) -> u64
-    ensures { λ n. ⌜ Opens (atEntry header accounts journal) (atExit header accounts journal) (now (schedule .entry)) n ⌝ }
+    ensures { λ n. ⌜ Gives (openCall (atEntry header accounts journal)
+        (now (schedule .entry)))
+        (pos n)
+        (atExit header accounts journal)
+        [] ⌝ }
 {
     if !lengths_fit(header, accounts, journal) {
         return UNSOUND;

@@ -17,14 +17,14 @@ use Rattle.lists.proofs.TestLaws.{and-left, and-right, first-none}
 use Rattle.records.specs.Limits.{mostRows}
 use Rattle.rules.specs.Book.{Account, StateUnused, Book, account, accountNo, minus, balance}
 use Rattle.rules.specs.Tables.{Tables, accountsIn, rowsUsed, bookOf, soundTables}
-use Rattle.rules.specs.Calls.{questionRefusals, question, rowCall}
+use Rattle.rules.specs.Calls.{Replies, questionRefusals, question, rowCall}
 use Rattle.rules.proofs.StorableLaws.{between-le}
 use Rattle.rules.proofs.TableLaws.{sound-rows}
 use Rattle.balances.specs.declared.Sums.{Sums}
 use Rattle.balances.specs.Summed.{Summed}
 use Rattle.balances.proofs.AmountLaws.{sums-fit}
 use Rattle.posting.proofs.BookLaws.{account-read, used-small, used-room, journal-summable}
-use Rattle.call_questions.specs.Replies.{Replies}
+use Rattle.call_questions.specs.RowParts.{wordsBefore, Place, wordsPast, RowPart}
 
 -- ---- refusals
 
@@ -47,11 +47,11 @@ module _ (t : Tables) (n : ℕ) where
 -- ---- a question about an account
 
 module _ (f : Book → ℕ → ℤ) (t : Tables) (a : ℤ) (n : ℕ) (e : n ≡ natOf a) where
-  pub question-refused : (r : ℕ) → r ≡ first (questionRefusals t n) → r ≢ 0 → Replies (question f t a) (record { number = r; value = pos 0 })
+  pub question-refused : (r : ℕ) → r ≡ first (questionRefusals t n) → r ≢ 0 → Replies (question f t a) (pos r) (pos 0)
   unfolding question
   question-refused r q z = rw (← e, ← q) (record { number = refl; value = rw (ne-eqb r 0 z) })
 
-  pub question-answered : (r : ℕ) → r ≡ first (questionRefusals t n) → r ≡ 0 → (v : ℤ) → v ≡ f (bookOf t) n → Replies (question f t a) (record { number = 0; value = v })
+  pub question-answered : (r : ℕ) → r ≡ first (questionRefusals t n) → r ≡ 0 → (v : ℤ) → v ≡ f (bookOf t) n → Replies (question f t a) (pos 0) v
   unfolding question
   question-answered r q z v w = rw (← e, ← q, z, w) (record { number = refl; value = refl })
 
@@ -68,15 +68,16 @@ module _ (t : Tables) (s : soundTables t ≡ true) (used : ℕ) (u : used ≡ ro
 -- ---- the row
 
 module _ (t : Tables) (a : ℤ) (n : ℕ) (e : n ≡ natOf a) where
-  pub no-row : soundTables t && n from 1 to rowsUsed t ≡ false → [] ≡ rowCall t a
-  unfolding rowCall
-  no-row z = rw (← e, z)
+  pub no-row : soundTables t && n from 1 to rowsUsed t ≡ false → (p : Place) → RowPart t a p [] (wordsPast p 0)
+  unfolding rowCall wordsBefore
+  no-row z p = record { words = rw (← e, z); place = rw (← e, z) }
 
-  pub row-part : (p : ℕ) → soundTables t && n from 1 to rowsUsed t ≡ true → p ≡ (n - 1) * rowWidth → take (p + rowWidth - p) (drop p (t .journal)) ≡ rowCall t a
-  unfolding rowCall
-  row-part p z h =
-      let w : p + rowWidth - p ≡ rowWidth = omega arith in
-      rw (← e, z, w, h)
+  pub row-part : (k : ℕ) → soundTables t && n from 1 to rowsUsed t ≡ true → k ≡ (n - 1) * rowWidth → (p : Place)
+      → RowPart t a p (take (k + rowWidth - k) (drop k (t .journal))) (wordsPast p k)
+  unfolding rowCall wordsBefore
+  row-part k z h p =
+      let w : k + rowWidth - k ≡ rowWidth = omega arith in
+      record { words = rw (← e, z, w, h); place = rw (← e, z, h) }
 
 -- where a used row lies in the journal
 pub record Inside (t : Tables) (n : ℕ) : Type 0 where

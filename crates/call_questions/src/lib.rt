@@ -13,11 +13,12 @@ use tables::words::get;
 use tables::words::minus;
 use tables::words::natural;
 ghost use mathlib.Core.Path.{_≡_};
+ghost use lib.IntN.{pos};
 ghost use mathlib.Core.Bool.{_&&_};
 ghost use Rattle.lists.specs.Tests.{_from_to_, first};
 ghost use Rattle.rules.specs.Tables.{rowsUsed, soundTables};
-ghost use Rattle.rules.specs.Calls.{questionRefusals, balanceCall, topupDueCall, rowCall};
-ghost use Rattle.call_questions.specs.Replies.{Replies};
+ghost use Rattle.rules.specs.Calls.{Replies, questionRefusals, balanceCall, topupDueCall};
+ghost use Rattle.call_questions.specs.RowParts.{RowPart};
 ghost use Rattle.rules.specs.Lent.{atEntry};
 
 // What a question about an account is answered: the number, and the value, 0 where the number isn't.
@@ -28,7 +29,8 @@ pub struct Reply {
 
 // Why a question about account n is refused, 0 where it is not.
 fn question_refusal(header: &[i64], accounts: &[i64], journal: &[i64], n: u64) -> u64
-    ensures { λ r. ⌜ r ≡ first (questionRefusals (atEntry header accounts journal) n) ⌝ }
+    ensures { λ r. ⌜ r ≡ first (questionRefusals (atEntry header accounts journal)
+        n) ⌝ }
 {
     if !sound(header, accounts, journal) {
         return UNSOUND;
@@ -42,7 +44,9 @@ fn question_refusal(header: &[i64], accounts: &[i64], journal: &[i64], n: u64) -
 
 // The account's balance: its sources less its debits, held ones included.
 pub fn balance(header: &[i64], accounts: &[i64], journal: &[i64], account: i64) -> Reply
-    ensures { λ r. ⌜ Replies (balanceCall (atEntry header accounts journal) account) r ⌝ }
+    ensures { λ r. ⌜ Replies (balanceCall (atEntry header accounts journal) account)
+        (pos (r .number))
+        (r .value) ⌝ }
 {
     let n = natural(account);
     let number = question_refusal(header, accounts, journal, n);
@@ -59,7 +63,9 @@ pub fn balance(header: &[i64], accounts: &[i64], journal: &[i64], account: i64) 
 
 // Whether the account's top-up is due: 1 yes, 0 no.
 pub fn topup_due(header: &[i64], accounts: &[i64], journal: &[i64], account: i64) -> Reply
-    ensures { λ r. ⌜ Replies (topupDueCall (atEntry header accounts journal) account) r ⌝ }
+    ensures { λ r. ⌜ Replies (topupDueCall (atEntry header accounts journal) account)
+        (pos (r .number))
+        (r .value) ⌝ }
 {
     let n = natural(account);
     let number = question_refusal(header, accounts, journal, n);
@@ -80,8 +86,8 @@ pub fn topup_due(header: &[i64], accounts: &[i64], journal: &[i64], account: i64
 
 // Whether the book is sound and row n, counted from 1, is used.
 fn row_used(header: &[i64], accounts: &[i64], journal: &[i64], n: u64) -> bool
-    ensures { λ b. ⌜ b
-        ≡ soundTables (atEntry header accounts journal) && n from 1 to rowsUsed (atEntry header accounts journal) ⌝ }
+    ensures { λ b. ⌜ b ≡ soundTables (atEntry header accounts journal)
+        && n from 1 to rowsUsed (atEntry header accounts journal) ⌝ }
 {
     if !sound(header, accounts, journal) {
         return false;
@@ -91,7 +97,11 @@ fn row_used(header: &[i64], accounts: &[i64], journal: &[i64], n: u64) -> bool
 
 // The ten words of a used row: the very part of the lent journal; an empty part where the book is unsound or the row isn't used.
 pub fn row<'a>(header: &[i64], accounts: &[i64], journal: &'a [i64], number: i64) -> &'a [i64]
-    ensures { λ r. ⌜ now r ≡ rowCall (atEntry header accounts journal) number ⌝ }
+    ensures { λ r. ⌜ RowPart (atEntry header accounts journal)
+        number
+        (journal .entry .ptr)
+        (now r)
+        (r .ptr) ⌝ }
 {
     let n = natural(number);
     if !row_used(header, accounts, journal, n) {

@@ -15,14 +15,13 @@ use Rattle.decimal.specs.Decimal.{isNumbers, numbersOf}
 use Rattle.rules.specs.Book.{Book, Instruction, Answer}
 use Rattle.rules.specs.Posting.{post}
 use Rattle.rules.specs.Tables.{Tables, bookOf, tablesOf, wholeRecords, lengthsFit, soundTables}
-use Rattle.rules.specs.Calls.{openingRefusals, openedBook, openCall}
+use Rattle.rules.specs.Calls.{Gives, openingRefusals, openedBook, openCall}
 use Rattle.rules.proofs.SoundnessLaws.{facts-sound}
 use Rattle.rules.proofs.TableLaws.{sound-book, soundTables-tablesOf}
 use Rattle.rules.proofs.OpeningLaws.{openCall-sound, bookOf-openCall}
 use Rattle.preservation.proofs.SoundKept.{post-keeps-sound}
 use Rattle.preservation.proofs.CallsKept.{bookOf-sound}
 use Rattle.posting.specs.Posts.{Posts}
-use Rattle.call_opening.specs.Opens.{Opens}
 use Rattle.listing_rules.specs.Texts.{bytesOf, same, openingNames, eventNames, line, answerText}
 use Rattle.listing_rules.specs.Listing.{listedAccounts, listedRows, listingTables, opens, isGood, posted, bookBy, goodText}
 use Rattle.listing_text.specs.Puts.{Puts}
@@ -108,10 +107,13 @@ pub second-unread : (l : List ℕ) → false ≡ isNumbers openingWidth l → is
 unfolding isGood opens
 second-unread l e = rw (← e) refl
 
-module _ (t u : Tables) (l : List ℕ) (w : List ℤ) (n : ℕ) (s : Sized t) (read : isNumbers openingWidth l ≡ true) (e : w ≡ numbersOf l) (o : Opens t u w n) where
+module _ (t u : Tables) (l : List ℕ) (w : List ℤ) (n : ℕ) (s : Sized t) (read : isNumbers openingWidth l ≡ true) (e : w ≡ numbersOf l) (o : Gives (openCall t w) (pos n) u []) where
+  number-given : n ≡ openCall t w .number
+  number-given = let e : pos n ≡ pos (openCall t w .number) = o .number in cc
+
   number-is : n ≡ first (openingRefusals listingTables (numbersOf l))
   unfolding openCall
-  number-is = o .number ∙ ap first (refusals-sized t listingTables w s listing-sized) ∙ ap (λ (x : List ℤ). first (openingRefusals listingTables x)) e
+  number-is = number-given ∙ ap first (refusals-sized t listingTables w s listing-sized) ∙ ap (λ (x : List ℤ). first (openingRefusals listingTables x)) e
 
   second-is : isGood 1 l ≡ n is 0
   unfolding isGood opens
@@ -126,7 +128,7 @@ module _ (t u : Tables) (l : List ℕ) (w : List ℤ) (n : ℕ) (s : Sized t) (r
     second-good = second-is ∙ eq-eqb n 0 z
 
     zero-number : openCall t w .number ≡ 0
-    zero-number = sym (o .number) ∙ z
+    zero-number = sym number-given ∙ z
 
     pub second-book : bookOf u ≡ bookBy 1 (bookOf t) l
     unfolding bookBy

@@ -1,9 +1,12 @@
--- The listing at work: document 01's example to the byte, and bad lines.
-use mathlib.Core.Path.{_≡_, refl}
-use mathlib.Core.List.{List, _++_}
+-- Document 01's marked examples M1 to M9 as one table's statement, M1 being the listing to the byte; and bad lines.
+use mathlib.Core.Path.{_≡_, refl, ap}
+use mathlib.Core.List.{List, _∷_, _++_, map}
 use Prim.Native.Nat.{ℕ}
+use lib.IntN.{ℤ, pos}
 use Rattle.decimal.specs.Decimal.{digitsWithin, digitsOf, textOf, twoDigits, textOfDate, dateText, digitValue, allDigits, valueAfter, magnitude, plain, minus, negated, numberOf, inFirst, fieldsOf, allNumbers, isNumbers, numbersIn, numbersOf}
 use Rattle.rules.proofs.Computing.{computing}
+use Rattle.rules.proofs.Examples as rules
+use Rattle.rules.proofs.Examples.{Case, _gives_}
 use Rattle.listing_rules.specs.Texts.{bytesOf, same, linesOf, field, line, answerText, rowText, accountText, bookText, badLine}
 use Rattle.listing_rules.specs.Listing.{listingTables, opens, isGood, posted, bookBy, goodText, listed, listing}
 
@@ -29,8 +32,9 @@ example =
     ++ bytesOf "2,7,41,1,2,60,2\n"
 
 -- what document 01 says that it prints
-document-01 : listing example
-    ≡ bytesOf "event,answer,row,rows,raised,removed\n"
+abbrev printed : List ℕ
+printed =
+    bytesOf "event,answer,row,rows,raised,removed\n"
     ++ bytesOf "1,0,0,0,0,0\n"
     ++ bytesOf "2,0,1,1,0,0\n"
     ++ bytesOf "3,0,2,1,0,0\n"
@@ -45,8 +49,15 @@ document-01 : listing example
     ++ bytesOf "4,7,5,2000-01-01,500,200\n"
     ++ bytesOf "account,state,balance\n"
     ++ bytesOf "7,1,700\n"
-unfolding shown
-document-01 = refl
+
+-- M1, and M2 to M9 as the rules have them
+unfoldable pub marked : List Case
+marked = (listing example gives printed) ∷ rules.cases
+
+-- "Marked M, proved together as one table's statement": every case computes to what document 01 says
+pub marked-examples : map (λ c. c .got) marked ≡ map (λ c. c .want) marked
+unfolding shown marked
+marked-examples = ap (λ (l : List (List ℤ)). map pos printed ∷ l) rules.examples
 
 -- "A bad line N prints `bad line N` in place of its answer and ends the output": a number of line 5 is missing, and line 6 is not read
 bad-event :

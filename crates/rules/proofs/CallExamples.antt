@@ -12,21 +12,21 @@ use Rattle.rules.proofs.Examples.{Case, _gives_, _amounts-to_}
 -- ---- tables of two accounts and three rows
 
 -- as a host may hand them over, full of other numbers
-abbrev lent : Tables
+abbrev pub lent : Tables
 lent = record { header = replicate 12 (pos 9); accounts = replicate 14 (pos 9); journal = replicate 30 (pos 9) }
 
-abbrev scheduleWords : List ℤ
+abbrev pub scheduleWords : List ℤ
 scheduleWords = pos 1 ∷ pos 30 ∷ pos 500 ∷ pos 2500 ∷ pos 3000 ∷ pos 250 ∷ pos 500 ∷ pos 600 ∷ pos 900 ∷ pos 1200 ∷ pos 1600 ∷ []
 
-abbrev opened : Tables
+abbrev pub opened : Tables
 opened = openCall lent scheduleWords .tables
 
 -- ---- events
 
-abbrev words : ℕ → ℕ → ℕ → ℕ → List ℤ
+abbrev pub words : ℕ → ℕ → ℕ → ℕ → List ℤ
 words kind account a b = pos kind ∷ pos account ∷ pos a ∷ pos b ∷ pos 0 ∷ pos 0 ∷ pos 0 ∷ []
 
-abbrev sent : ℕ → ℕ → ℕ → ℕ → Event
+abbrev pub sent : ℕ → ℕ → ℕ → ℕ → Event
 sent kind account a b = record { kind = pos kind; account = pos account; a = pos a; b = pos b; c = pos 0; d = pos 0; e = pos 0 }
 
 -- an answer table of six words
@@ -34,10 +34,10 @@ abbrev six : List ℤ
 six = replicate 6 (pos 7)
 
 -- account 1 opened, 300 paid, a refused payment of 0, 400 paid: a batch with one refusal
-abbrev day : List Event
+abbrev pub day : List Event
 day = sent 1 1 0 0 ∷ sent 3 1 300 2 ∷ sent 3 1 0 2 ∷ sent 3 1 400 1 ∷ []
 
-abbrev posted : Tables
+abbrev pub posted : Tables
 posted = batchCall opened day (replicate 20 (pos 7)) .tables
 
 -- a book that is sound but for one word: row 1 of kind 7
@@ -74,8 +74,8 @@ cases =
     ∷ (balanceCall posted (pos 1) .value amounts-to pos 700)
     ∷ (balanceCall damaged (pos 1) .value amounts-to pos 0)
     -- row parts: ten words, or none
-    ∷ (length (rowCall posted (pos 2)) ∷ length (rowCall posted (pos 3)) ∷ length (rowCall posted (pos 0)) ∷ length (rowCall damaged (pos 2)) ∷ []
-    gives 10 ∷ 0 ∷ 0 ∷ 0 ∷ [])
+    ∷ (length (rowCall posted (pos 1)) ∷ length (rowCall posted (pos 2)) ∷ length (rowCall posted (pos 3)) ∷ length (rowCall posted (pos 0)) ∷ length (rowCall damaged (pos 2)) ∷ []
+    gives 10 ∷ 10 ∷ 0 ∷ 0 ∷ 0 ∷ [])
     ∷ []
 
 pub record CallExamples : Type 0 where

@@ -1,4 +1,4 @@
--- Document 01's marked examples M1 to M9, computed from the definitions as one table's statement.
+-- Document 01's marked examples M2 to M9, computed from the definitions. M1 is a listing: the table of all nine is listing_rules' (Examples).
 use mathlib.Core.Path.{_≡_, refl}
 use Prim.Native.Nat.{ℕ}
 use mathlib.Core.List.{List, [], _∷_, _++_, map}
@@ -7,8 +7,7 @@ use lib.IntN.{ℤ, pos}
 use Rattle.dates.specs.declared.Date.{Date}
 use Rattle.dates.specs.Gregorian.{dateOf}
 use Rattle.rules.specs.Schedule.{Schedule, class}
-use Rattle.rules.specs.Rows.{Row}
-use Rattle.rules.specs.Book.{Instruction, Answer, Book, account, row, balance}
+use Rattle.rules.specs.Book.{Instruction, Book, account, row}
 use Rattle.rules.specs.Posting.{bookAfter, answersTo}
 use Rattle.rules.specs.Opening.{opening}
 use Rattle.rules.proofs.Computing.{computing}
@@ -22,7 +21,7 @@ event k n a b c d e = record { kind = k; account = n; a = a; b = b; c = c; d = d
 abbrev pub ticks : ℕ → List Instruction
 ticks n = replicate n (event 9 0 0 0 0 0 0)
 
--- the listing example's schedule
+-- the schedule of M1
 abbrev pub schedule : Schedule
 schedule = record { stage = 30; fee2 = 500; fee3 = 2500; fee4 = 3000; rates = record { tag1 = 250; plate1 = 500; tag2 = 600; plate2 = 900; tag3 = 1200; plate3 = 1600 } }
 
@@ -47,32 +46,6 @@ infix 5 _amounts-to_
 abbrev pub _amounts-to_ : ℤ → ℤ → Case
 g amounts-to w = record { got = g ∷ []; want = w ∷ [] }
 
--- ---- M1: the listing example, its answers, rows, and account 7
-
-abbrev listing : Book
-listing = opening 1 schedule 64 512
-
-abbrev listed : List Instruction
-listed =
-    event 1 7 0 0 0 0 0
-    ∷ event 2 7 41 1 2 60 2
-    ∷ event 3 7 300 2 0 0 0
-    ∷ event 5 7 1 0 0 0 0
-    ∷ event 3 7 400 1 0 0 0
-    ∷ event 6 7 1 1 0 0 0
-    ∷ event 2 7 41 1 2 60 2
-    ∷ []
-
-abbrev answerLine : Answer → List ℕ
-answerLine a = a .number ∷ a .first ∷ a .added ∷ a .raised ∷ a .removed ∷ []
-
-abbrev rowLine : Row → List ℕ
-rowLine r = r .account ∷ r .kind ∷ r .day ∷ r .amount ∷ r .settled ∷ []
-
-abbrev lines : List (List ℕ) → List ℕ
-lines [] = []
-lines (x ∷ xs) = x ++ lines xs
-
 -- ---- M6, M7: an unpaid toll of account 1
 
 abbrev unpaid : List Instruction
@@ -96,26 +69,10 @@ dateLine d = d .year ∷ d .month ∷ d .day ∷ []
 
 -- ---- the table
 
-pub cases : List Case
+unfoldable pub cases : List Case
 cases =
-    -- M1: answers, rows, account
-    (lines (map answerLine (answersTo listing listed)) gives
-    0 ∷ 0 ∷ 0 ∷ 0 ∷ 0
-    ∷ 0 ∷ 1 ∷ 1 ∷ 0 ∷ 0
-    ∷ 0 ∷ 2 ∷ 1 ∷ 0 ∷ 0
-    ∷ 0 ∷ 0 ∷ 0 ∷ 0 ∷ 0
-    ∷ 0 ∷ 3 ∷ 1 ∷ 0 ∷ 0
-    ∷ 0 ∷ 4 ∷ 1 ∷ 0 ∷ 0
-    ∷ 8 ∷ 0 ∷ 0 ∷ 0 ∷ 0 ∷ [])
-    ∷ (lines (map rowLine (bookAfter listing listed .rows)) gives
-    7 ∷ 1 ∷ 1 ∷ 500 ∷ 500
-    ∷ 7 ∷ 4 ∷ 1 ∷ 300 ∷ 300
-    ∷ 7 ∷ 4 ∷ 1 ∷ 400 ∷ 0
-    ∷ 7 ∷ 5 ∷ 1 ∷ 500 ∷ 200 ∷ [])
-    ∷ (account (bookAfter listing listed) 7 .state ∷ [] gives 1 ∷ [])
-    ∷ (balance (bookAfter listing listed) 7 amounts-to pos 700)
     -- M2: 2 axles, 90: class 1; 91: class 2
-    ∷ (class 2 90 ∷ class 2 91 ∷ [] gives 1 ∷ 2 ∷ [])
+    (class 2 90 ∷ class 2 91 ∷ [] gives 1 ∷ 2 ∷ [])
     -- M3: 1 axle, 91: 6
     ∷ (numbers (small 1) (event 1 1 0 0 0 0 0 ∷ event 2 1 41 1 1 91 1 ∷ []) gives 0 ∷ 6 ∷ [])
     -- M4: 4 axles: 2; 5: 3

@@ -12,3 +12,4 @@ pub mod OpeningLaws
 pub mod Boundaries
 pub mod CallExamples
 pub mod KindLaws
+pub mod Borders

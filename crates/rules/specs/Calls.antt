@@ -1,5 +1,6 @@
 -- The calls, on any tables and lengths: every answer word, value, part and table word afterwards (document 01, "Events" and
 -- "Questions, dates, listing").
+use mathlib.Core.Path.{_≡_}
 use mathlib.Core.Bool.{not, cond, _&&_, _||_}
 use Prim.Native.Nat.{ℕ, _*_, _-_}
 use mathlib.Core.List.{List, [], _∷_, _++_, map}
@@ -23,6 +24,12 @@ pub record Called : Type 0 where
   pub number : ℕ
   pub tables : Tables
   pub answers : List ℤ
+
+-- the call gave the number n and left the tables u and the answer table v: just what c says
+pub record Gives (c : Called) (n : ℤ) (u : Tables) (v : List ℤ) : Type 0 where
+  pub number : n ≡ pos (c .number)
+  pub tables : u ≡ c .tables
+  pub answers : v ≡ c .answers
 
 -- "writes the answers in order"; "table words past the answers don't change"
 unfoldable pub written : List Answer → List ℤ → List ℤ
@@ -84,6 +91,11 @@ batchCall t es answers =
 pub record Reply : Type 0 where
   pub number : ℕ
   pub value : ℤ
+
+-- the question gave the number n and the value v: just what q says
+pub record Replies (q : Reply) (n v : ℤ) : Type 0 where
+  pub number : n ≡ pos (q .number)
+  pub value : v ≡ q .value
 
 -- "refuse by 1 and 3": 3 for an account that is unused or outside the table
 unfoldable pub questionRefusals : Tables → ℕ → Cases

@@ -1,18 +1,22 @@
 -- The numbers that the calls give are small.
 use mathlib.Core.Bool.{Bool, true, false, cond}
-use mathlib.Core.Path.{_≡_, refl}
+use mathlib.Core.Path.{_≡_, refl, _∙_}
 use Prim.Native.Nat.{ℕ, _+_, _^_, _≤_, _<_}
 use native.Mathlib.Omega.{arith}
 use mathlib.Core.List.{List, [], _∷_}
-use lib.IntN.{ℤ}
+use lib.IntN.{ℤ, pos}
 use lib.Dec.{eqb}
+use mir.Syntax.{w64}
+use mir.Val.{SFits, toZ}
+use mir.ValLaws.{toZ-pos}
+use borrow.Author.Needs.{needs}
 use Rattle.lists.specs.Tests.{_is_, first}
 use Rattle.records.specs.Encoding.{instructionFrom}
 use Rattle.rules.specs.Book.{Book, Instruction}
 use Rattle.rules.specs.Refusals.{answerNumber}
 use Rattle.rules.specs.Posting.{acceptance, refusalBy, post}
 use Rattle.rules.specs.Tables.{Tables, bookOf}
-use Rattle.rules.specs.Calls.{openingRefusals, openCall, eventRefusals, eventCall, questionRefusals, question, balanceCall, topupDueCall}
+use Rattle.rules.specs.Calls.{Event, Called, Reply, Gives, Replies, openingRefusals, openCall, eventRefusals, eventCall, batchRefusals, batchCall, questionRefusals, question, balanceCall, topupDueCall}
 use Rattle.rules.proofs.PostingLaws.{post-refused, post-accepted}
 use Rattle.call_words.proofs.AnswerLaws.{number-le}
 
@@ -53,6 +57,28 @@ event-small t e w = go (first (eventRefusals t e w) is 0) (eqb (answerNumber b x
     go true false q = rw (post-refused b x q) (number-le b x)
     go false v q = small-first 1 2 _ _ (omega arith)
 
+pub batch-small : (t : Tables) (es : List Event) (w : List ℤ) → batchCall t es w .number ≤ 14
+unfolding batchCall batchRefusals
+batch-small t es w = go (first (batchRefusals t es w) is 0) _ _ (omega arith) (small-first 1 2 _ _ (omega arith))
+  where
+    go : (v : Bool) (c d : Called) → c .number ≤ 14 → d .number ≤ 14 → cond {A = Called} v c d .number ≤ 14
+    go true c d p q = p
+    go false c d p q = q
+
 -- so a signed word holds them
-pub small-fits : (n m : ℕ) → n ≡ m → m ≤ 14 → n < 2 ^ 63
-small-fits n m e h = omega arith
+small-fits : (n m : ℕ) → pos n ≡ pos m → m ≤ 14 → n < 2 ^ 63
+small-fits n m e h = let d : n ≡ m = cc in omega arith
+
+pub number-fits : (n m : ℕ) → pos n ≡ pos m → m ≤ 14 → SFits w64 (pos n)
+number-fits n m e h = let l : n < 2 ^ 63 = small-fits n m e h in search needs
+
+-- and is the number
+pub signed-gives : (c : Called) (n : ℕ) (u : Tables) (v : List ℤ) → c .number ≤ 14 → Gives c (pos n) u v → Gives c (toZ w64 n) u v
+signed-gives c n u v h g = record {
+  number = toZ-pos w64 n (small-fits n (c .number) (g .number) h) ∙ g .number;
+  tables = g .tables;
+  answers = g .answers;
+}
+
+pub signed-replies : (q : Reply) (n : ℕ) (v : ℤ) → q .number ≤ 14 → Replies q (pos n) v → Replies q (toZ w64 n) v
+signed-replies q n v h g = record { number = toZ-pos w64 n (small-fits n (q .number) (g .number) h) ∙ g .number; value = g .value }

@@ -9,10 +9,8 @@ use call_questions::balance;
 use call_questions::topup_due;
 use records::Event;
 use sound_passages::passages::CELLS;
-ghost use mathlib.Core.Path.{_≡_};
-ghost use lib.IntN.{pos};
-ghost use Rattle.rules.specs.Calls.{openCall, eventCall, balanceCall, topupDueCall};
-ghost use Rattle.call_batch.specs.BatchCalls.{Batches};
+ghost use mathlib.Core.List.{[]};
+ghost use Rattle.rules.specs.Calls.{Gives, Replies, openCall, eventCall, batchCall, balanceCall, topupDueCall};
 ghost use Rattle.rules.specs.Lent.{atEntry, atExit};
 
 // Opens a book: eleven words, the first day and the schedule.
@@ -23,9 +21,11 @@ pub extern "C" fn toll_ledger_open(
     journal: &mut [i64],
     schedule: &[i64],
 ) -> i64
-    ensures { λ r. ⌜ (r ≡ pos (openCall (atEntry header accounts journal) (now (schedule .entry)) .number))
-        × (atExit header accounts journal
-        ≡ openCall (atEntry header accounts journal) (now (schedule .entry)) .tables) ⌝ }
+    ensures { λ n. ⌜ Gives (openCall (atEntry header accounts journal)
+        (now (schedule .entry)))
+        n
+        (atExit header accounts journal)
+        [] ⌝ }
 {
     open_book(header, accounts, journal, schedule) as i64
 }
@@ -39,12 +39,12 @@ pub extern "C" fn toll_ledger_event(
     event: &[i64],
     answer: &mut [i64],
 ) -> i64
-    ensures { λ r. ⌜ (r
-        ≡ pos (eventCall (atEntry header accounts journal) (now (event .entry)) (now (answer .entry)) .number))
-        × (atExit header accounts journal
-        ≡ eventCall (atEntry header accounts journal) (now (event .entry)) (now (answer .entry)) .tables)
-        × (now (answer .exit)
-        ≡ eventCall (atEntry header accounts journal) (now (event .entry)) (now (answer .entry)) .answers) ⌝ }
+    ensures { λ n. ⌜ Gives (eventCall (atEntry header accounts journal)
+        (now (event .entry))
+        (now (answer .entry)))
+        n
+        (atExit header accounts journal)
+        (now (answer .exit)) ⌝ }
 {
     event_call(header, accounts, journal, event, answer) as i64
 }
@@ -58,8 +58,9 @@ pub extern "C" fn toll_ledger_balance(
     account: i64,
     value: &mut i64,
 ) -> i64
-    ensures { λ r. ⌜ (r ≡ pos (balanceCall (atEntry header accounts journal) account .number))
-        × (now (value .exit) ≡ balanceCall (atEntry header accounts journal) account .value) ⌝ }
+    ensures { λ n. ⌜ Replies (balanceCall (atEntry header accounts journal) account)
+        n
+        (now (value .exit)) ⌝ }
 {
     let r = balance(header, accounts, journal, account);
     let v = r.value;
@@ -76,8 +77,9 @@ pub extern "C" fn toll_ledger_topup_due(
     account: i64,
     value: &mut i64,
 ) -> i64
-    ensures { λ r. ⌜ (r ≡ pos (topupDueCall (atEntry header accounts journal) account .number))
-        × (now (value .exit) ≡ topupDueCall (atEntry header accounts journal) account .value) ⌝ }
+    ensures { λ n. ⌜ Replies (topupDueCall (atEntry header accounts journal) account)
+        n
+        (now (value .exit)) ⌝ }
 {
     let r = topup_due(header, accounts, journal, account);
     let v = r.value;
@@ -93,9 +95,13 @@ pub extern "C" fn toll_ledger_batch(
     journal: &mut [i64],
     events: &[Event],
     answers: &mut [i64],
-) -> u64
-    ensures { λ n. ⌜ Batches (atEntry header accounts journal) (atExit header accounts journal) (now (events .entry))
-        (now (answers .entry)) (now (answers .exit)) n ⌝ }
+) -> i64
+    ensures { λ n. ⌜ Gives (batchCall (atEntry header accounts journal)
+        (now (events .entry))
+        (now (answers .entry)))
+        n
+        (atExit header accounts journal)
+        (now (answers .exit)) ⌝ }
 {
     let mut cells = [0u16; CELLS];
     let mut slots = [0u64; SLOT_WORDS];
@@ -109,7 +115,7 @@ pub extern "C" fn toll_ledger_batch(
         &mut slots,
     );
     if n != 0 {
-        return n;
+        return n as i64;
     }
     let mut i: usize = 0;
     while i < events.len() {

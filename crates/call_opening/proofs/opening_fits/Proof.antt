@@ -1,5 +1,5 @@
 -- `opening_fits` meets its contract: a wrong number of words decides; else it is the clauses on day and schedule.
-use Rattle.call_opening.specs.Opens.{openingFits}
+use Rattle.call_opening.specs.OpeningFits.{openingFits}
 use borrow.Author.Tests.{eq-eqb, ne-eqb}
 use borrow.Author.Needs.{needs}
 use Rattle.call_opening.proofs.opening_fits.Statement.{statement}

@@ -44,7 +44,7 @@ part-result-end : tie.Need-part-result-end
 part-result-end c = search needs
 
 returns : tie.Need-returns
-returns c = no-row _ _ _ (numbered (c .before .before .before)) (sym (c .before .before .row-used .ensures) ∙ not-true _ (c .before .if1 .taken))
+returns c = no-row _ _ _ (numbered (c .before .before .before)) (sym (c .before .before .row-used .ensures) ∙ not-true _ (c .before .if1 .taken)) _
 
 sub-start : tie.Need-sub-start
 sub-start c = omega (arith, inside c .first)
@@ -68,7 +68,7 @@ part-result-end-2 : tie.Need-part-result-end-2
 part-result-end-2 c = omega (arith, inside c .room)
 
 returns-2 : tie.Need-returns-2
-returns-2 c = row-part _ _ _ (numbered (c .before .before .before)) _ (there (c .before)) refl
+returns-2 c = row-part _ _ _ (numbered (c .before .before .before)) _ (there (c .before)) refl _
 
 pub row-spec : {M : Type 1} → statement M
 row-spec =
