@@ -1,13 +1,7 @@
 -- What an accepted event is known to be: each refusal of the table fails.
-use mathlib.Core.Path.{_≡_, refl, sym, _∙_}
-use mathlib.Core.Bool.{Bool, false, not}
-use Prim.Native.Nat.{ℕ, _<_}
-use mathlib.Core.List.{map}
-use lib.ListN.{length, getD, List·getD-map}
-use lib.Dec.{ltb}
-use borrow.Author.Tests.{ltb-true}
-use Rattle.lists.specs.Tests.{allOf}
-use Rattle.lists.proofs.TestLaws.{allOf-at, first-fails}
+use mathlib.Core.Path.{_≡_, refl}
+use mathlib.Core.Bool.{false, not}
+use Rattle.lists.proofs.TestLaws.{positive, first-fails}
 use Rattle.rules.specs.Book.{Instruction, Book}
 use Rattle.rules.specs.Refusals.{wellFormed, unknown, taken, onClosed, unclassed, misdated, duplicate, barred, noRow, untimely, lastDay, full, ceiling, refusals, answerNumber}
 
@@ -27,9 +21,9 @@ pub record Accepted (b : Book) (e : Instruction) : Type 0 where
   pub low : ceiling b e ≡ false
 
 pub accepted : (b : Book) (e : Instruction) → answerNumber b e ≡ 0 → Accepted b e
-unfolding answerNumber refusals
+unfolding answerNumber refusals positive
 accepted b e q =
-    let p = first-fails (refusals b e) positive q in
+    let p = first-fails (refusals b e) refl q in
     record {
       formed = p 0;
       known = p 1;
@@ -45,10 +39,3 @@ accepted b e q =
       fits = p 11;
       low = p 12;
     }
-  where
-    above : ℕ × Bool → Bool
-    above c = ltb 0 (c .0)
-
-    positive : (k : ℕ) → k < length (refusals b e) → 0 < getD (refusals b e) k (1, false) .0
-    positive k h = unfold allOf in
-        (ltb-true 0 (getD (refusals b e) k (1, false) .0) (sym (List·getD-map above (refusals b e) k (1, false)) ∙ allOf-at (map above (refusals b e)) refl k))

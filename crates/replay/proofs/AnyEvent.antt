@@ -3,16 +3,16 @@ use mathlib.Core.Path.{_≡_, refl}
 use mathlib.Core.Bool.{Bool, true, false, not, _&&_, _||_}
 use Prim.Native.Nat.{ℕ, zero, suc, _≤_, _<_}
 use native.Mathlib.Omega.{arith}
-use lib.ListN.{getD}
 use lib.Dec.{leb, ltb}
 use borrow.Author.Tests.{eqb-true, leb-true, ltb-true, lt-ltb, not-false}
 use Rattle.records.specs.Codes.{MethodCheck, EventOpen, EventReturnedCheck, EventDispute, EventDecision, EventTopupResult, EventTick}
 use Rattle.lists.specs.Tests.{_is_}
-use Rattle.lists.proofs.TestLaws.{and-left, and-right, and-then, or-left, or-right, first-fails}
+use Rattle.lists.proofs.TestLaws.{and-left, and-right, and-then, or-left, or-right}
 use Rattle.rules.specs.Rows.{heldToll, unsettled}
 use Rattle.rules.specs.Book.{StateUnused, StateOpen, Instruction, Book, account, row, topupDue, lowBalance}
-use Rattle.rules.specs.Refusals.{changeOf, after, inTable, stateOf, unknown, taken, namedKind, noRow, untimely, refusals, answerNumber}
+use Rattle.rules.specs.Refusals.{changeOf, after, inTable, stateOf, unknown, taken, namedKind, noRow, untimely, answerNumber}
 use Rattle.rules.specs.SoundFacts.{Sound}
+use Rattle.preservation.proofs.Accepted.{Accepted, accepted}
 use Rattle.replay.specs.Replay.{Replay, settledReplay, stepOf}
 use Rattle.replay.proofs.Relation.{Agrees}
 use Rattle.replay.proofs.Growing.{row-place, settled-agrees}
@@ -24,44 +24,26 @@ use Rattle.replay.proofs.ReplaySteps.{Proper}
 -- ---- no refusal applies
 
 module _ (b : Book) (e : Instruction) (z : answerNumber b e ≡ 0) where
-  positive : (k : ℕ) → 0 < getD (refusals b e) k (1, false) .0
-  unfolding refusals
-  positive zero = omega arith
-  positive (suc zero) = omega arith
-  positive (suc (suc zero)) = omega arith
-  positive (suc (suc (suc zero))) = omega arith
-  positive (suc (suc (suc (suc zero)))) = omega arith
-  positive (suc (suc (suc (suc (suc zero))))) = omega arith
-  positive (suc (suc (suc (suc (suc (suc zero)))))) = omega arith
-  positive (suc (suc (suc (suc (suc (suc (suc zero))))))) = omega arith
-  positive (suc (suc (suc (suc (suc (suc (suc (suc zero)))))))) = omega arith
-  positive (suc (suc (suc (suc (suc (suc (suc (suc (suc zero))))))))) = omega arith
-  positive (suc (suc (suc (suc (suc (suc (suc (suc (suc (suc zero)))))))))) = omega arith
-  positive (suc (suc (suc (suc (suc (suc (suc (suc (suc (suc (suc zero))))))))))) = omega arith
-  positive (suc (suc (suc (suc (suc (suc (suc (suc (suc (suc (suc (suc zero)))))))))))) = omega arith
-  positive (suc (suc (suc (suc (suc (suc (suc (suc (suc (suc (suc (suc (suc k))))))))))))) = omega arith
-
-  fails : (k : ℕ) → getD (refusals b e) k (1, false) .1 ≡ false
-  unfolding answerNumber
-  fails = first-fails (refusals b e) (λ k h. positive k) z
+  holds : Accepted b e
+  holds = accepted b e z
 
   -- 3
   known : e .kind is EventTick ≡ false → 1 ≤ e .account
-  unfolding refusals unknown
+  unfolding unknown
   known k =
-      let h : not (inTable b e) || not (e .kind is EventOpen) && stateOf b e is StateUnused ≡ false = rw k at (fails 1) in
+      let h : not (inTable b e) || not (e .kind is EventOpen) && stateOf b e is StateUnused ≡ false = rw k at (holds .known) in
       leb-true _ _ (and-left (leb 1 (e .account)) _ (not-false (inTable b e) (or-left (not (inTable b e)) _ h)))
 
   -- 4
   free : e .kind is EventOpen ≡ true → account b (e .account) .state ≡ StateUnused
-  unfolding refusals taken
-  free k = eqb-true _ _ (not-false _ (and-then (e .kind is EventOpen) _ k (fails 2)))
+  unfolding taken
+  free k = eqb-true _ _ (not-false _ (and-then (e .kind is EventOpen) _ k (holds .free)))
 
   -- 10
   there : (j : ℕ) → namedKind e ≡ suc j → row b (e .a) .kind ≡ suc j
-  unfolding refusals noRow
+  unfolding noRow
   there j q =
-      let h : not (row b (e .a) .kind is namedKind e && row b (e .a) .account is e .account) ≡ false = and-then (ltb 0 (namedKind e)) _ (rw q (lt-ltb 0 (suc j) (omega arith))) (fails 8) in
+      let h : not (row b (e .a) .kind is namedKind e && row b (e .a) .account is e .account) ≡ false = and-then (ltb 0 (namedKind e)) _ (rw q (lt-ltb 0 (suc j) (omega arith))) (holds .named) in
       eqb-true _ _ (rw q at (and-left (row b (e .a) .kind is namedKind e) _ (not-false _ h)))
 
   -- 11
@@ -78,8 +60,8 @@ module _ (b : Book) (e : Instruction) (z : answerNumber b e ≡ 0) where
   late7 = e .kind is EventTopupResult && not (topupDue b (e .account))
 
   timely : late4 || late5 || late6 || late7 ≡ false
-  unfolding refusals untimely
-  timely = or-left (late4 || late5 || late6 || late7) _ (fails 9)
+  unfolding untimely
+  timely = or-left (late4 || late5 || late6 || late7) _ (holds .timely)
 
   undisputed : e .kind is EventDispute ≡ true → row b (e .a) .dispute ≡ 0
   undisputed k =
