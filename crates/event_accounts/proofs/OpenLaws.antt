@@ -1,33 +1,32 @@
 -- Event 1: which refusals concern it, and the book that it makes.
-use mathlib.Core.Path.{_≡_, refl, sym}
-use mathlib.Core.Bool.{Bool, true, false, not, _&&_, or-false}
+use mathlib.Core.Path.{_≡_, refl, sym, _∙_}
+use mathlib.Core.Bool.{Bool, true, false, not, _&&_}
 use Prim.Native.Nat.{_-_, _≤_}
 use native.Mathlib.Omega.{arith}
-use mathlib.Core.List.{List, [], _∷_}
+use mathlib.Core.List.{List}
 use lib.ListN.{length}
 use lib.IntN.{ℤ}
 use lib.Dec.{leb}
 use borrow.Author.Tests.{leb-true, not-false}
-use Rattle.records.specs.Numbers.{Malformed, Unknown, Taken}
 use Rattle.records.specs.Codes.{EventOpen}
 use Rattle.records.specs.Encoding.{StorableAccount}
 use Rattle.records.specs.AccountOperations.{opened}
-use Rattle.lists.specs.Tests.{_is_, _from_to_, _implies_, first}
+use Rattle.lists.specs.Tests.{_is_, _implies_, first}
 use Rattle.lists.proofs.TestLaws.{and-left, and-right}
 use Rattle.records.specs.Limits.{highestTopup}
-use Rattle.rules.specs.Book.{Account, Instruction, StateUnused, Book, account, putAccount}
+use Rattle.rules.specs.Book.{Account, Instruction, Book, putAccount}
 use Rattle.rules.specs.Events.{openAccount}
-use Rattle.rules.specs.Refusals.{changeOf, zeroFrom-c, openForm, formOf, wellFormed, unknown, taken, onClosed, unclassed, misdated, duplicate, barred, noRow, untimely, lastDay, refusals, answerNumber}
+use Rattle.rules.specs.Refusals.{changeOf, zeroFrom-c, openForm, formOf, wellFormed, unclassed, misdated, duplicate, barred, noRow, untimely, lastDay, refusals, answerNumber, sharedCount, ownRefusals}
 use Rattle.rules.specs.Posting.{removesTopup}
-use Rattle.rules.specs.Tables.{Tables, accountsIn, rowsUsed, bookOf, soundTables}
+use Rattle.rules.specs.Tables.{Tables, rowsUsed, bookOf, soundTables}
+use Rattle.rules.proofs.RefusalLaws.{answerNumber-own}
 use Rattle.preservation.proofs.Accepted.{accepted}
 use Rattle.tables.specs.Changes.{AccountChanged}
 use Rattle.posting.specs.Posts.{tablesAt, acceptanceOf, Posts}
-use Rattle.posting.proofs.BookLaws.{count-read}
 use Rattle.records.specs.Updates.{ofKind}
 use Rattle.posting_laws.proofs.RefusalLaws.{at-kind}
 use Rattle.posting_laws.proofs.AccountEventLaws.{rows-fit, never-full, never-above, account-posts}
-use Rattle.event_accounts.specs.AccountEvents.{openRefusals}
+use Rattle.event_refusals.specs.Admissions.{Admitted}
 
 module _ (b : Book) (e : Instruction) (fit : length (b .rows) ≤ b .room) where
   abbrev event1 : Instruction
@@ -37,21 +36,14 @@ module _ (b : Book) (e : Instruction) (fit : length (b .rows) ≤ b .room) where
   unfolding changeOf openAccount
   change-open = refl
 
-  answer-1 : answerNumber b event1 ≡ first (openRefusals b event1)
-  unfolding answerNumber refusals wellFormed formOf unknown taken onClosed unclassed misdated duplicate barred noRow untimely lastDay first openRefusals
-  answer-1 =
-      rw (never-full b event1 change-open fit, never-above b event1 change-open, or-false (not (e .account from 1 to length (b .accounts))))
+  own-1 : first (ownRefusals b event1) ≡ 0
+  unfolding ownRefusals sharedCount refusals unclassed misdated duplicate barred noRow untimely lastDay first
+  own-1 = rw (never-full b event1 change-open fit, never-above b event1 change-open)
 
--- the number that event 1 gets
-pub answer-open : (b : Book) (e : Instruction) → length (b .rows) ≤ b .room → e .kind ≡ EventOpen → answerNumber b e ≡ first (openRefusals b e)
-answer-open b e h k = at-kind (λ x. answerNumber b x ≡ first (openRefusals b x)) e 1 k (answer-1 b e h)
-
--- the same on sound tables, with what each test came to
-pub open-by : (t : Tables) → soundTables t ≡ true → (e : Instruction) → e .kind ≡ EventOpen → (f i u : Bool) → openForm e ≡ f
-    → e .account from 1 to accountsIn t ≡ i → account (bookOf t) (e .account) .state is StateUnused ≡ u
-    → first ((Malformed, not f) ∷ (Unknown, not i) ∷ (Taken, not u) ∷ []) ≡ answerNumber (bookOf t) e
-unfolding openRefusals
-open-by t s e k f i u x y v = rw (answer-open (bookOf t) e (rows-fit t s) k, x, ← count-read t s, y, v)
+-- on sound tables, event 1 is accepted where no shared refusal applies
+pub open-accepted : (t : Tables) → soundTables t ≡ true → (e : Instruction) → e .kind ≡ EventOpen → Admitted t e → 0 ≡ answerNumber (bookOf t) e
+open-accepted t s e k a =
+    sym (answerNumber-own (bookOf t) e a ∙ at-kind (λ x. first (ownRefusals (bookOf t) x) ≡ 0) e 1 k (own-1 (bookOf t) e (rows-fit t s)))
 
 -- ---- what an accepted event 1 leaves
 

@@ -1,29 +1,31 @@
 -- Event 8: which refusals concern it, and the book that it makes.
 use mathlib.Core.Path.{_≡_, refl}
-use mathlib.Core.Bool.{Bool, true, false, not}
+use mathlib.Core.Bool.{Bool, true, false}
 use Prim.Native.Nat.{_-_, _≤_}
 use native.Mathlib.Omega.{arith}
 use mathlib.Core.List.{List, [], _∷_}
 use lib.ListN.{length}
 use lib.IntN.{ℤ}
-use Rattle.records.specs.Numbers.{Malformed, Unknown, Closed, Untimely}
+use Rattle.records.specs.Numbers.{Untimely}
 use Rattle.records.specs.Codes.{EventCloseRequest}
 use Rattle.records.specs.Encoding.{StorableAccount}
 use Rattle.records.specs.AccountOperations.{closeRequestedOn}
 use Rattle.lists.specs.Tests.{_is_, first}
-use Rattle.rules.specs.Book.{Account, Instruction, StateUnused, StatePending, StateClosed, Book, account, putAccount}
+use Rattle.rules.specs.Book.{Account, Instruction, StatePending, Book, account, putAccount}
 use Rattle.rules.specs.Events.{requestClose}
-use Rattle.rules.specs.Refusals.{changeOf, requestForm, formOf, wellFormed, unknown, taken, onClosed, unclassed, misdated, duplicate, barred, noRow, untimely, lastDay, refusals, answerNumber}
+use Rattle.rules.specs.Refusals.{changeOf, unclassed, misdated, duplicate, barred, noRow, untimely, lastDay, refusals, answerNumber, sharedCount, ownRefusals}
 use Rattle.rules.specs.Posting.{removesTopup}
 use Rattle.rules.specs.Tables.{Tables, rowsUsed, bookOf, soundTables}
+use Rattle.rules.proofs.RefusalLaws.{answerNumber-own}
 use Rattle.rules.proofs.StorableLaws.{day-le}
 use Rattle.rules.proofs.TableLaws.{sound-book}
 use Rattle.tables.specs.Changes.{AccountChanged}
 use Rattle.posting.specs.Posts.{tablesAt, acceptanceOf, Posts}
 use Rattle.posting.proofs.BookLaws.{account-holds}
 use Rattle.records.specs.Updates.{ofKind}
-use Rattle.posting_laws.proofs.RefusalLaws.{at-kind, unknown-unused}
+use Rattle.posting_laws.proofs.RefusalLaws.{at-kind}
 use Rattle.posting_laws.proofs.AccountEventLaws.{rows-fit, never-full, never-above, account-posts}
+use Rattle.event_refusals.specs.Admissions.{Admitted}
 use Rattle.event_accounts.specs.AccountEvents.{requestRefusals}
 
 module _ (b : Book) (e : Instruction) (fit : length (b .rows) ≤ b .room) where
@@ -34,20 +36,17 @@ module _ (b : Book) (e : Instruction) (fit : length (b .rows) ≤ b .room) where
   unfolding changeOf requestClose
   change-request = refl
 
-  answer-8 : answerNumber b event8 ≡ first (requestRefusals b event8)
-  unfolding answerNumber refusals wellFormed formOf unknown taken onClosed unclassed misdated duplicate barred noRow untimely lastDay first requestRefusals
-  answer-8 = rw (never-full b event8 change-request fit, never-above b event8 change-request, unknown-unused b (e .account))
+  own-8 : first (ownRefusals b event8) ≡ first (requestRefusals b event8)
+  unfolding ownRefusals sharedCount refusals unclassed misdated duplicate barred noRow untimely lastDay first requestRefusals
+  own-8 = rw (never-full b event8 change-request fit, never-above b event8 change-request)
 
--- the number that event 8 gets
-pub answer-request : (b : Book) (e : Instruction) → length (b .rows) ≤ b .room → e .kind ≡ EventCloseRequest → answerNumber b e ≡ first (requestRefusals b e)
-answer-request b e h k = at-kind (λ x. answerNumber b x ≡ first (requestRefusals b x)) e 8 k (answer-8 b e h)
-
--- the same on sound tables, with what each test came to
-pub request-by : (t : Tables) → soundTables t ≡ true → (e : Instruction) → e .kind ≡ EventCloseRequest → (f u c p : Bool) → requestForm e ≡ f
-    → account (bookOf t) (e .account) .state is StateUnused ≡ u → account (bookOf t) (e .account) .state is StateClosed ≡ c → account (bookOf t) (e .account) .state is StatePending ≡ p
-    → first ((Malformed, not f) ∷ (Unknown, u) ∷ (Closed, c) ∷ (Untimely, p) ∷ []) ≡ answerNumber (bookOf t) e
+-- the number that event 8 gets on sound tables where no shared refusal applies, with what its test came to
+pub request-by : (t : Tables) → soundTables t ≡ true → (e : Instruction) → e .kind ≡ EventCloseRequest → Admitted t e → (p : Bool)
+    → account (bookOf t) (e .account) .state is StatePending ≡ p → first ((Untimely, p) ∷ []) ≡ answerNumber (bookOf t) e
 unfolding requestRefusals
-request-by t s e k f u c p x y v w = rw (answer-request (bookOf t) e (rows-fit t s) k, x, y, v, w)
+request-by t s e k a p w =
+    let q = at-kind (λ x. first (ownRefusals (bookOf t) x) ≡ first (requestRefusals (bookOf t) x)) e 8 k (own-8 (bookOf t) e (rows-fit t s)) in
+    rw (answerNumber-own (bookOf t) e a, q, w)
 
 -- ---- what an accepted event 8 leaves
 

@@ -7,20 +7,22 @@ use mathlib.Core.List.{List, [], _∷_, map}
 use lib.ListN.{length, set, length-set, length-map}
 use lib.Dec.{leb, ltb}
 use borrow.Author.Tests.{leb-true, leb-false, lt-ltb, le-ltb}
-use Rattle.records.specs.Numbers.{Malformed, Unknown, NoRow, Untimely, Full}
+use Rattle.records.specs.Numbers.{NoRow, Untimely, Full}
 use Rattle.records.specs.Codes.{Yes, EventDecision}
 use Rattle.lists.specs.Tests.{_is_, first}
 use Rattle.lists.specs.Lists.{sumBy, count}
 use Rattle.rules.specs.Rows.{Row, toll, heldToll}
-use Rattle.rules.specs.Book.{Instruction, StateUnused, Book, withRows, account, row, putRow, addRow}
+use Rattle.rules.specs.Book.{Instruction, Book, withRows, row, putRow, addRow}
 use Rattle.rules.specs.Events.{release, reject, withFees, uphold, decide}
-use Rattle.rules.specs.Refusals.{changeOf, after, decisionForm, formOf, wellFormed, unknown, taken, onClosed, unclassed, misdated, duplicate, barred, noRow, untimely, lastDay, full, ceiling, refusals, answerNumber}
+use Rattle.rules.specs.Refusals.{changeOf, after, unclassed, misdated, duplicate, barred, noRow, untimely, lastDay, full, ceiling, refusals, answerNumber, sharedCount, ownRefusals}
 use Rattle.rules.specs.Tables.{Tables, roomIn, rowsUsed, bookOf, soundTables}
+use Rattle.rules.proofs.RefusalLaws.{answerNumber-own}
 use Rattle.rules.proofs.TableLaws.{used-le}
 use Rattle.posting.proofs.BookLaws.{used-read, room-read}
 use Rattle.records.specs.Updates.{ofKind}
-use Rattle.posting_laws.proofs.RefusalLaws.{at-kind, unknown-unused, length-after, no-ceiling, rows-suffice}
+use Rattle.posting_laws.proofs.RefusalLaws.{at-kind, length-after, no-ceiling, rows-suffice}
 use Rattle.posting_laws.proofs.PutRowLaws.{length-put, no-ceiling-put}
+use Rattle.event_refusals.specs.Admissions.{Admitted}
 use Rattle.event_decision.specs.Decision.{decisionRefusals, part, tollAndFees, feeSettled, upheldToll, creditFor}
 
 -- ---- the rows that each verdict leaves
@@ -81,9 +83,9 @@ module _ (b : Book) (e : Instruction) where
       let x : Bool = not (heldToll (row b (e .a))) in
       or-false (x || false) ∙ or-false x
 
-  answer-6 : ltb (b .room) (length (b .rows) + 0) ≡ false → answerNumber b event6 ≡ first (decisionRefusals b event6)
-  unfolding answerNumber refusals wellFormed formOf unknown taken onClosed unclassed misdated duplicate barred noRow lastDay first decisionRefusals
-  answer-6 f = rw (decision-full b event6 refl f, decision-ceiling b event6 refl, unknown-unused b (e .account), untimely-6)
+  own-6 : ltb (b .room) (length (b .rows) + 0) ≡ false → first (ownRefusals b event6) ≡ first (decisionRefusals b event6)
+  unfolding ownRefusals sharedCount refusals unclassed misdated duplicate barred noRow lastDay first decisionRefusals
+  own-6 f = rw (decision-full b event6 refl f, decision-ceiling b event6 refl, untimely-6)
 
 -- one row more than there are
 one-more : (m n : ℕ) → ltb m (n + 1) ≡ leb m n
@@ -94,11 +96,11 @@ one-more m n = go (leb m n) refl
     go false e = le-ltb m (n + 1) (omega (arith, leb-false m n e))
 
 -- the number that event 6 gets, with what each test came to
-pub answer-by : (t : Tables) → soundTables t ≡ true → (e : Instruction) → e .kind ≡ EventDecision → (f u n h r : Bool) → decisionForm e ≡ f
-    → account (bookOf t) (e .account) .state is StateUnused ≡ u → toll (row (bookOf t) (e .a)) && row (bookOf t) (e .a) .account is e .account ≡ n
+pub answer-by : (t : Tables) → soundTables t ≡ true → (e : Instruction) → e .kind ≡ EventDecision → Admitted t e → (n h r : Bool)
+    → toll (row (bookOf t) (e .a)) && row (bookOf t) (e .a) .account is e .account ≡ n
     → heldToll (row (bookOf t) (e .a)) ≡ h → e .b is Yes && leb (roomIn t) (rowsUsed t) ≡ r
-    → first ((Malformed, not f) ∷ (Unknown, u) ∷ (NoRow, not n) ∷ (Untimely, not h) ∷ (Full, r) ∷ []) ≡ answerNumber (bookOf t) e
+    → first ((NoRow, not n) ∷ (Untimely, not h) ∷ (Full, r) ∷ []) ≡ answerNumber (bookOf t) e
 unfolding decisionRefusals
-answer-by t s e k f u n h r p q v w z =
-    let a = at-kind (λ x. answerNumber (bookOf t) x ≡ first (decisionRefusals (bookOf t) x)) e 6 k (answer-6 (bookOf t) e (rows-suffice t s 0 (omega (arith, used-le t s)))) in
-    rw (a, p, q, v, w, one-more, ← room-read t s, ← used-read t s, z)
+answer-by t s e k d n h r v w z =
+    let a = at-kind (λ x. first (ownRefusals (bookOf t) x) ≡ first (decisionRefusals (bookOf t) x)) e 6 k (own-6 (bookOf t) e (rows-suffice t s 0 (omega (arith, used-le t s)))) in
+    rw (answerNumber-own (bookOf t) e d, a, v, w, one-more, ← room-read t s, ← used-read t s, z)

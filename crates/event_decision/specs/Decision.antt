@@ -1,4 +1,4 @@
--- Event 6: the refusals that concern it, out of the table of all, in checking order; and what each verdict writes.
+-- Event 6: the refusals of its own, out of the table of all, in checking order; and what each verdict writes.
 use mathlib.Core.Path.{_≡_}
 use mathlib.Core.Bool.{Bool, true, false, not, cond, _&&_}
 use Prim.Native.Nat.{ℕ, _+_, _-_, _≤_}
@@ -6,24 +6,22 @@ use mathlib.Core.List.{List, [], _∷_}
 use lib.ListN.{length}
 use lib.IntN.{ℤ}
 use lib.Dec.{ltb}
-use Rattle.records.specs.Numbers.{Malformed, Unknown, NoRow, Untimely, Full}
+use Rattle.records.specs.Numbers.{NoRow, Untimely, Full}
 use Rattle.records.specs.Codes.{DisputeUpheld, Yes}
 use Rattle.records.specs.Layout.{headerWidth, dayPlace, usedPlace}
 use Rattle.records.specs.Encoding.{word, rowsOf, StorableRow}
 use Rattle.lists.specs.Tests.{_is_, Cases}
 use Rattle.lists.specs.Lists.{sumBy, only}
 use Rattle.rules.specs.Rows.{Row, KindCredit, rowNo, newRow, withSettled, withDispute, withHoldStart, withReference, remaining, settleWhole, toll, heldToll, feeNaming}
-use Rattle.rules.specs.Book.{Instruction, StateUnused, Book, account, row}
+use Rattle.rules.specs.Book.{Instruction, Book, row}
 use Rattle.rules.specs.Events.{release}
-use Rattle.rules.specs.Refusals.{decisionForm}
 use Rattle.tables.specs.Changes.{RowChanged, RowsMapped}
 use Rattle.posting.specs.Posts.{Amounts, RowRoom, RowAdded}
 
+-- no toll row of the account, one that is not held, and no row for the credit: verdict 0 adds none
 unfoldable pub decisionRefusals : Book → Instruction → Cases
 decisionRefusals b e =
-    (Malformed, not (decisionForm e))
-    ∷ (Unknown, account b (e .account) .state is StateUnused)
-    ∷ (NoRow, not (toll (row b (e .a)) && row b (e .a) .account is e .account))
+    (NoRow, not (toll (row b (e .a)) && row b (e .a) .account is e .account))
     ∷ (Untimely, not (heldToll (row b (e .a))))
     ∷ (Full, e .b is Yes && ltb (b .room) (length (b .rows) + 1))
     ∷ []

@@ -3,7 +3,6 @@ pub mod fees; // fees.rt: the fees of a toll, summed and settled
 
 use self::fees::settle_fees;
 use self::fees::with_fees;
-use event_forms::decision_form;
 use event_lookups::Lookup;
 use posting::answers::posted;
 use posting::answers::refused;
@@ -16,19 +15,14 @@ use records::Row;
 use records::codes::DISPUTE_UPHELD;
 use records::codes::KIND_CREDIT;
 use records::codes::KIND_TOLL;
-use records::codes::STATE_UNUSED;
-use records::layout::ACCOUNT_WIDTH;
 use records::layout::DAY_PLACE;
 use records::layout::ROW_WIDTH;
 use records::layout::USED_PLACE;
 use records::numbers::FULL;
-use records::numbers::MALFORMED;
 use records::numbers::NO_ROW;
-use records::numbers::UNKNOWN;
 use records::numbers::UNTIMELY;
 use row_tests::held_toll;
 use settlement::settle_from;
-use table_accounts::account_numbered;
 use table_rows::row_numbered;
 use table_rows::write_row;
 use tables::words::get;
@@ -39,6 +33,7 @@ ghost use Rattle.rules.specs.Refusals.{answerNumber};
 ghost use Rattle.rules.specs.Tables.{bookOf, soundTables};
 ghost use Rattle.event_lookups.specs.Lookups.{LooksUp};
 ghost use Rattle.posting.specs.Posts.{Amounts, Posts};
+ghost use Rattle.event_refusals.specs.Admissions.{Admitted};
 ghost use Rattle.event_decision.specs.Decision.{upheldToll, creditFor, Upholdable, UpheldRows, Releasable, ReleasedRow};
 ghost use Rattle.records.specs.Codes.{EventDecision};
 ghost use Rattle.rules.specs.Lent.{lent, atEntry, atExit};
@@ -46,18 +41,13 @@ ghost use Rattle.rules.specs.Lent.{lent, atEntry, atExit};
 // The verdict that upholds the dispute.
 const YES: u64 = 1;
 
-// Why event 6 is refused, 0 where it is not.
+// Why an admitted event 6 is refused, 0 where it is not.
 fn decision_refusal(header: &[i64], accounts: &[i64], journal: &[i64], e: Instruction) -> u64
-    requires { ⌜ (soundTables (lent header accounts journal) ≡ true) × (e .kind ≡ EventDecision) ⌝ }
+    requires { ⌜ (soundTables (lent header accounts journal) ≡ true)
+        × (e .kind ≡ EventDecision)
+        × Admitted (lent header accounts journal) e ⌝ }
     ensures { λ n. ⌜ n ≡ answerNumber (bookOf (atEntry header accounts journal)) e ⌝ }
 {
-    if !decision_form(e) {
-        return MALFORMED;
-    }
-    let x = account_numbered(accounts, accounts.len() / ACCOUNT_WIDTH, e.account);
-    if x.state == STATE_UNUSED {
-        return UNKNOWN;
-    }
     let used = get(header, USED_PLACE) as usize;
     let r = row_numbered(journal, used, e.a);
     if !((r.kind == KIND_TOLL) & (r.account == e.account)) {
@@ -128,7 +118,8 @@ pub fn decide(
 ) -> Answer
     requires { ⌜ (soundTables (lent header accounts journal) ≡ true)
         × (e .kind ≡ EventDecision)
-        × LooksUp (lent header accounts journal) e k ⌝ }
+        × LooksUp (lent header accounts journal) e k
+        × Admitted (lent header accounts journal) e ⌝ }
     ensures { λ r. ⌜ Posts (atEntry header accounts journal) (atExit header accounts journal) e r ⌝ }
 {
     let n = decision_refusal(header, accounts, journal, e);

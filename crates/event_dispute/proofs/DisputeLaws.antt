@@ -7,16 +7,17 @@ use mathlib.Core.List.{List, [], _∷_}
 use lib.ListN.{length}
 use lib.IntN.{ℤ}
 use lib.Dec.{ltb}
-use Rattle.records.specs.Numbers.{Malformed, Unknown, NoRow, Untimely}
+use Rattle.records.specs.Numbers.{NoRow, Untimely}
 use Rattle.records.specs.Codes.{DisputeNever, EventDispute}
 use Rattle.records.specs.Layout.{dayPlace}
 use Rattle.records.specs.Encoding.{word, rowsOf, StorableRow}
 use Rattle.lists.specs.Tests.{_is_, first}
 use Rattle.rules.specs.Rows.{Row, KindToll, rowNo, toll, unsettled}
-use Rattle.rules.specs.Book.{Instruction, StateUnused, Book, account, row, putRow}
+use Rattle.rules.specs.Book.{Instruction, Book, row, putRow}
 use Rattle.rules.specs.Events.{holdFrom, holdToll}
-use Rattle.rules.specs.Refusals.{changeOf, disputeForm, formOf, wellFormed, unknown, taken, onClosed, unclassed, misdated, duplicate, barred, noRow, untimely, lastDay, full, refusals, answerNumber}
+use Rattle.rules.specs.Refusals.{changeOf, unclassed, misdated, duplicate, barred, noRow, untimely, lastDay, full, refusals, answerNumber, sharedCount, ownRefusals}
 use Rattle.rules.specs.Tables.{Tables, rowsUsed, bookOf, soundTables}
+use Rattle.rules.proofs.RefusalLaws.{answerNumber-own}
 use Rattle.rules.proofs.StorableLaws.{day-le}
 use Rattle.rules.proofs.TableLaws.{sound-book, used-le}
 use Rattle.preservation.proofs.Accepted.{accepted}
@@ -29,8 +30,9 @@ use Rattle.event_lookups.proofs.LookupLaws.{still-before, still-put, begun-stil
 use Rattle.posting.specs.Posts.{tablesAt, acceptanceOf, Posts}
 use Rattle.posting.proofs.BookLaws.{day-read, row-holds}
 use Rattle.records.specs.Updates.{ofKind}
-use Rattle.posting_laws.proofs.RefusalLaws.{at-kind, unknown-unused, rows-suffice}
+use Rattle.posting_laws.proofs.RefusalLaws.{at-kind, rows-suffice}
 use Rattle.posting_laws.proofs.PutRowLaws.{row-used, row-read-by, length-put, no-ceiling-put, put-settles, put-posts}
+use Rattle.event_refusals.specs.Admissions.{Admitted}
 use Rattle.event_dispute.specs.Dispute.{disputeRefusals}
 
 -- the row that event 5 leaves
@@ -51,21 +53,21 @@ module _ (b : Book) (e : Instruction) where
       let x : Bool = not (unsettled (row b (e .a))) || not (row b (e .a) .dispute is DisputeNever) in
       or-false (x || false || false) ∙ or-false (x || false) ∙ or-false x
 
-  answer-5 : ltb (b .room) (length (b .rows) + 0) ≡ false → answerNumber b event5 ≡ first (disputeRefusals b event5)
-  unfolding answerNumber refusals wellFormed formOf unknown taken onClosed unclassed misdated duplicate barred noRow lastDay full first disputeRefusals
-  answer-5 f =
+  own-5 : ltb (b .room) (length (b .rows) + 0) ≡ false → first (ownRefusals b event5) ≡ first (disputeRefusals b event5)
+  unfolding ownRefusals sharedCount refusals unclassed misdated duplicate barred noRow lastDay full first disputeRefusals
+  own-5 f =
       let c = changed b event5 refl in
-      rw (length-put b event5 (e .a) _ c, no-ceiling-put b event5 (e .a) _ c, f, unknown-unused b (e .account), untimely-5)
+      rw (length-put b event5 (e .a) _ c, no-ceiling-put b event5 (e .a) _ c, f, untimely-5)
 
 -- the number that event 5 gets, with what each test came to
-pub answer-by : (t : Tables) → soundTables t ≡ true → (e : Instruction) → e .kind ≡ EventDispute → (f u n c : Bool) → disputeForm e ≡ f
-    → account (bookOf t) (e .account) .state is StateUnused ≡ u → toll (row (bookOf t) (e .a)) && row (bookOf t) (e .a) .account is e .account ≡ n
+pub answer-by : (t : Tables) → soundTables t ≡ true → (e : Instruction) → e .kind ≡ EventDispute → Admitted t e → (n c : Bool)
+    → toll (row (bookOf t) (e .a)) && row (bookOf t) (e .a) .account is e .account ≡ n
     → not (unsettled (row (bookOf t) (e .a))) || not (row (bookOf t) (e .a) .dispute is DisputeNever) ≡ c
-    → first ((Malformed, not f) ∷ (Unknown, u) ∷ (NoRow, not n) ∷ (Untimely, c) ∷ []) ≡ answerNumber (bookOf t) e
+    → first ((NoRow, not n) ∷ (Untimely, c) ∷ []) ≡ answerNumber (bookOf t) e
 unfolding disputeRefusals
-answer-by t s e k f u n c p q v w =
-    let a = at-kind (λ x. answerNumber (bookOf t) x ≡ first (disputeRefusals (bookOf t) x)) e 5 k (answer-5 (bookOf t) e (rows-suffice t s 0 (omega (arith, used-le t s)))) in
-    rw (a, p, q, v, w)
+answer-by t s e k d n c v w =
+    let a = at-kind (λ x. first (ownRefusals (bookOf t) x) ≡ first (disputeRefusals (bookOf t) x)) e 5 k (own-5 (bookOf t) e (rows-suffice t s 0 (omega (arith, used-le t s)))) in
+    rw (answerNumber-own (bookOf t) e d, a, v, w)
 
 -- the row that is written is that row
 pub held-row : (t : Tables) → soundTables t ≡ true → (e : Instruction) (used today : ℕ) (r x : Row) → used ≡ rowsUsed t → r ≡ rowNo (rowsOf (t .journal) used) (e .a)

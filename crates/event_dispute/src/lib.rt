@@ -1,5 +1,4 @@
 // Event 5: a dispute.
-use event_forms::dispute_form;
 use event_lookups::Lookup;
 use posting::answers::posted;
 use posting::answers::refused;
@@ -9,16 +8,11 @@ use records::Row;
 use records::codes::DISPUTE_HELD;
 use records::codes::DISPUTE_NEVER;
 use records::codes::KIND_TOLL;
-use records::codes::STATE_UNUSED;
-use records::layout::ACCOUNT_WIDTH;
 use records::layout::DAY_PLACE;
 use records::layout::USED_PLACE;
-use records::numbers::MALFORMED;
 use records::numbers::NO_ROW;
-use records::numbers::UNKNOWN;
 use records::numbers::UNTIMELY;
 use settlement::settle_from;
-use table_accounts::account_numbered;
 use table_rows::row_numbered;
 use table_rows::write_row;
 use tables::words::get;
@@ -29,21 +23,17 @@ ghost use Rattle.rules.specs.Refusals.{answerNumber};
 ghost use Rattle.rules.specs.Tables.{bookOf, soundTables};
 ghost use Rattle.event_lookups.specs.Lookups.{LooksUp};
 ghost use Rattle.posting.specs.Posts.{Posts};
+ghost use Rattle.event_refusals.specs.Admissions.{Admitted};
 ghost use Rattle.records.specs.Codes.{EventDispute};
 ghost use Rattle.rules.specs.Lent.{lent, atEntry, atExit};
 
-// Why event 5 is refused, 0 where it is not.
+// Why an admitted event 5 is refused, 0 where it is not.
 fn dispute_refusal(header: &[i64], accounts: &[i64], journal: &[i64], e: Instruction) -> u64
-    requires { ⌜ (soundTables (lent header accounts journal) ≡ true) × (e .kind ≡ EventDispute) ⌝ }
+    requires { ⌜ (soundTables (lent header accounts journal) ≡ true)
+        × (e .kind ≡ EventDispute)
+        × Admitted (lent header accounts journal) e ⌝ }
     ensures { λ n. ⌜ n ≡ answerNumber (bookOf (atEntry header accounts journal)) e ⌝ }
 {
-    if !dispute_form(e) {
-        return MALFORMED;
-    }
-    let x = account_numbered(accounts, accounts.len() / ACCOUNT_WIDTH, e.account);
-    if x.state == STATE_UNUSED {
-        return UNKNOWN;
-    }
     let r = row_numbered(journal, get(header, USED_PLACE) as usize, e.a);
     if !((r.kind == KIND_TOLL) & (r.account == e.account)) {
         return NO_ROW;
@@ -74,7 +64,8 @@ pub fn hold_toll(
 ) -> Answer
     requires { ⌜ (soundTables (lent header accounts journal) ≡ true)
         × (e .kind ≡ EventDispute)
-        × LooksUp (lent header accounts journal) e k ⌝ }
+        × LooksUp (lent header accounts journal) e k
+        × Admitted (lent header accounts journal) e ⌝ }
     ensures { λ r. ⌜ Posts (atEntry header accounts journal) (atExit header accounts journal) e r ⌝ }
 {
     let n = dispute_refusal(header, accounts, journal, e);

@@ -1,5 +1,14 @@
 // The form of each event: which words it may have (document 01, "words not named are 0, else the event is malformed").
 use records::Instruction;
+use records::codes::EVENT_CLOSE_REQUEST;
+use records::codes::EVENT_DECISION;
+use records::codes::EVENT_DISPUTE;
+use records::codes::EVENT_OPEN;
+use records::codes::EVENT_PAYMENT;
+use records::codes::EVENT_RETURNED_CHECK;
+use records::codes::EVENT_TICK;
+use records::codes::EVENT_TOLL;
+use records::codes::EVENT_TOPUP_RESULT;
 use records::codes::METHOD_CARD;
 use records::codes::METHOD_CHECK;
 use records::codes::MODE_PLATE;
@@ -12,7 +21,7 @@ use records::limits::HIGHEST_PAYMENT;
 use records::limits::HIGHEST_TOPUP;
 use records::limits::MOST_AXLES;
 ghost use mathlib.Core.Path.{_≡_};
-ghost use Rattle.rules.specs.Refusals.{zeroFrom-c, openForm, tollForm, paymentForm, returnForm, disputeForm, decisionForm, resultForm, requestForm, tickForm};
+ghost use Rattle.rules.specs.Refusals.{zeroFrom-c, openForm, tollForm, paymentForm, returnForm, disputeForm, decisionForm, resultForm, requestForm, tickForm, wellFormed};
 
 fn zero_from_c(e: Instruction) -> bool
     ensures { λ b. ⌜ b ≡ zeroFrom-c e ⌝ }
@@ -20,13 +29,13 @@ fn zero_from_c(e: Instruction) -> bool
     (e.c == 0) & (e.d == 0) & (e.e == 0)
 }
 
-pub fn open_form(e: Instruction) -> bool
+fn open_form(e: Instruction) -> bool
     ensures { λ b. ⌜ b ≡ openForm e ⌝ }
 {
     (e.a <= HIGHEST_TOPUP) & (e.b <= HIGHEST_TOPUP) & ((e.b != 0) | (e.a == 0)) & zero_from_c(e)
 }
 
-pub fn toll_form(e: Instruction) -> bool
+fn toll_form(e: Instruction) -> bool
     ensures { λ b. ⌜ b ≡ tollForm e ⌝ }
 {
     ((1 <= e.a) & (e.a <= HIGHEST_PASSAGE))
@@ -36,7 +45,7 @@ pub fn toll_form(e: Instruction) -> bool
         & ((MODE_TAG <= e.e) & (e.e <= MODE_PLATE))
 }
 
-pub fn payment_form(e: Instruction) -> bool
+fn payment_form(e: Instruction) -> bool
     ensures { λ b. ⌜ b ≡ paymentForm e ⌝ }
 {
     ((1 <= e.a) & (e.a <= HIGHEST_PAYMENT))
@@ -44,38 +53,57 @@ pub fn payment_form(e: Instruction) -> bool
         & zero_from_c(e)
 }
 
-pub fn return_form(e: Instruction) -> bool
+fn return_form(e: Instruction) -> bool
     ensures { λ b. ⌜ b ≡ returnForm e ⌝ }
 {
     (e.b <= HIGHEST_CHARGE) & zero_from_c(e)
 }
 
-pub fn dispute_form(e: Instruction) -> bool
+fn dispute_form(e: Instruction) -> bool
     ensures { λ b. ⌜ b ≡ disputeForm e ⌝ }
 {
     (e.b == 0) & zero_from_c(e)
 }
 
-pub fn decision_form(e: Instruction) -> bool
+fn decision_form(e: Instruction) -> bool
     ensures { λ b. ⌜ b ≡ decisionForm e ⌝ }
 {
     (e.b <= 1) & zero_from_c(e)
 }
 
-pub fn result_form(e: Instruction) -> bool
+fn result_form(e: Instruction) -> bool
     ensures { λ b. ⌜ b ≡ resultForm e ⌝ }
 {
     (e.a == 0) & (e.b <= 1) & zero_from_c(e)
 }
 
-pub fn request_form(e: Instruction) -> bool
+fn request_form(e: Instruction) -> bool
     ensures { λ b. ⌜ b ≡ requestForm e ⌝ }
 {
     (e.a == 0) & ((e.b == 0) & zero_from_c(e))
 }
 
-pub fn tick_form(e: Instruction) -> bool
+fn tick_form(e: Instruction) -> bool
     ensures { λ b. ⌜ b ≡ tickForm e ⌝ }
 {
     (e.account == 0) & ((e.a == 0) & ((e.b == 0) & zero_from_c(e)))
+}
+
+// The event has the words of its kind; a kind that is none of the nine has no form.
+pub fn well_formed(e: Instruction) -> bool
+    ensures { λ b. ⌜ b ≡ wellFormed e ⌝ }
+{
+    let kind = e.kind;
+    match kind {
+        EVENT_OPEN => open_form(e),
+        EVENT_TOLL => toll_form(e),
+        EVENT_PAYMENT => payment_form(e),
+        EVENT_RETURNED_CHECK => return_form(e),
+        EVENT_DISPUTE => dispute_form(e),
+        EVENT_DECISION => decision_form(e),
+        EVENT_TOPUP_RESULT => result_form(e),
+        EVENT_CLOSE_REQUEST => request_form(e),
+        EVENT_TICK => tick_form(e),
+        _ => false,
+    }
 }

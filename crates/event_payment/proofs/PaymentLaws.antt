@@ -9,7 +9,7 @@ use lib.ListN.{length}
 use lib.IntN.{ℤ}
 use lib.Dec.{leb, ltb}
 use borrow.Author.Tests.{ltb-false, not-false}
-use Rattle.records.specs.Numbers.{Malformed, Unknown, Closed, Barred, Full}
+use Rattle.records.specs.Numbers.{Barred, Full}
 use Rattle.records.specs.Codes.{MethodCheck, EventPayment, EventTick}
 use Rattle.records.specs.Encoding.{accountsOf, StorableRow}
 use Rattle.lists.specs.Tests.{_is_, _from_to_, first}
@@ -18,11 +18,12 @@ use Rattle.lists.proofs.TestLaws.{and-left, and-right}
 use Rattle.records.specs.Limits.{barringReturns, highestPayment}
 use Rattle.rules.specs.Rows.{Row, KindPayment, newRow, withMark}
 use Rattle.rules.specs.Settlement.{settle}
-use Rattle.rules.specs.Book.{Instruction, StateUnused, StateClosed, Book, account, addRow, withRows}
+use Rattle.rules.specs.Book.{Instruction, Book, account, addRow, withRows}
 use Rattle.rules.specs.Events.{postPayment}
-use Rattle.rules.specs.Refusals.{changeOf, after, zeroFrom-c, paymentForm, formOf, wellFormed, unknown, taken, onClosed, unclassed, misdated, duplicate, barred, noRow, untimely, lastDay, full, refusals, answerNumber}
+use Rattle.rules.specs.Refusals.{changeOf, after, zeroFrom-c, paymentForm, formOf, wellFormed, unclassed, misdated, duplicate, barred, noRow, untimely, lastDay, full, refusals, answerNumber, sharedCount, sharedRefusals, ownRefusals}
 use Rattle.rules.specs.Posting.{removesTopup}
 use Rattle.rules.specs.Tables.{Tables, accountsIn, roomIn, rowsUsed, bookOf, soundTables}
+use Rattle.rules.proofs.RefusalLaws.{answerNumber-own}
 use Rattle.rules.proofs.StorableLaws.{between-le, day-le, accounts-le}
 use Rattle.rules.proofs.TableLaws.{sound-book}
 use Rattle.preservation.proofs.Accepted.{Accepted, accepted}
@@ -31,7 +32,7 @@ use Rattle.settlement.specs.Settling.{Settled}
 use Rattle.posting.specs.Posts.{tablesAt, acceptanceOf, RowAdded, Posts}
 use Rattle.posting.proofs.BookLaws.{used-read, room-read}
 use Rattle.records.specs.Updates.{ofKind}
-use Rattle.posting_laws.proofs.RefusalLaws.{at-kind, unknown-unused, length-after, no-ceiling}
+use Rattle.posting_laws.proofs.RefusalLaws.{at-kind, length-after, no-ceiling}
 use Rattle.posting_laws.proofs.AddedLaws.{acceptance-plain, posts-accepted, row-written}
 use Rattle.posting_laws.proofs.EventLaws.{known-inside}
 use Rattle.event_payment.specs.Payment.{paymentRefusals}
@@ -48,24 +49,23 @@ module _ (b : Book) (e : Instruction) where
   unfolding changeOf postPayment
   change-payment = refl
 
-  answer-3 : answerNumber b event3 ≡ first (paymentRefusals b event3)
-  unfolding answerNumber refusals wellFormed formOf unknown taken onClosed unclassed misdated duplicate barred noRow untimely lastDay full first paymentRefusals count sumBy
-  answer-3 =
+  own-3 : first (ownRefusals b event3) ≡ first (paymentRefusals b event3)
+  unfolding ownRefusals sharedCount refusals unclassed misdated duplicate barred noRow untimely lastDay full first paymentRefusals count sumBy
+  own-3 =
       let l = length-after b event3 (b .rows) (paymentRow b event3 ∷ []) change-payment refl in
       let z = no-ceiling b event3 (b .rows) (paymentRow b event3 ∷ []) change-payment refl refl in
-      rw (l, z, unknown-unused b (e .account))
+      rw (l, z)
 
--- the number that event 3 gets
-pub answer-payment : (b : Book) (e : Instruction) → e .kind ≡ EventPayment → answerNumber b e ≡ first (paymentRefusals b e)
-answer-payment b e k = at-kind (λ x. answerNumber b x ≡ first (paymentRefusals b x)) e 3 k (answer-3 b e)
+-- the number that event 3 gets where no shared refusal applies
+pub answer-payment : (b : Book) (e : Instruction) → e .kind ≡ EventPayment → first (sharedRefusals b e) ≡ 0 → answerNumber b e ≡ first (paymentRefusals b e)
+answer-payment b e k a = answerNumber-own b e a ∙ at-kind (λ x. first (ownRefusals b x) ≡ first (paymentRefusals b x)) e 3 k (own-3 b e)
 
 -- the same with what each test came to
-pub answer-by : (b : Book) (e : Instruction) → e .kind ≡ EventPayment → (f u c s r : Bool) → paymentForm e ≡ f → account b (e .account) .state is StateUnused ≡ u
-    → account b (e .account) .state is StateClosed ≡ c → e .b is MethodCheck && leb barringReturns (account b (e .account) .returned) ≡ s
-    → ltb (b .room) (length (b .rows) + 1) ≡ r
-    → first ((Malformed, not f) ∷ (Unknown, u) ∷ (Closed, c) ∷ (Barred, s) ∷ (Full, r) ∷ []) ≡ answerNumber b e
+pub answer-by : (b : Book) (e : Instruction) → e .kind ≡ EventPayment → first (sharedRefusals b e) ≡ 0 → (s r : Bool)
+    → e .b is MethodCheck && leb barringReturns (account b (e .account) .returned) ≡ s → ltb (b .room) (length (b .rows) + 1) ≡ r
+    → first ((Barred, s) ∷ (Full, r) ∷ []) ≡ answerNumber b e
 unfolding paymentRefusals
-answer-by b e k f u c s r p q v w z = rw (answer-payment b e k, p, q, v, w, z)
+answer-by b e k a s r w z = rw (answer-payment b e k a, w, z)
 
 -- ---- what an accepted event 3 leaves
 

@@ -1,28 +1,21 @@
 // Event 3: a payment.
-use event_forms::payment_form;
 use event_lookups::Lookup;
 use posting::answers::posted;
 use posting::answers::refused;
 use posting::rows::add_row;
 use posting::rows::new_row;
+use records::Account;
 use records::Answer;
 use records::Instruction;
 use records::codes::KIND_PAYMENT;
 use records::codes::METHOD_CHECK;
-use records::codes::STATE_CLOSED;
-use records::codes::STATE_UNUSED;
-use records::layout::ACCOUNT_WIDTH;
 use records::layout::DAY_PLACE;
 use records::layout::ROW_WIDTH;
 use records::layout::USED_PLACE;
 use records::limits::BARRING_RETURNS;
 use records::numbers::BARRED;
-use records::numbers::CLOSED;
 use records::numbers::FULL;
-use records::numbers::MALFORMED;
-use records::numbers::UNKNOWN;
 use settlement::settle_from;
-use table_accounts::account_numbered;
 use tables::words::get;
 ghost use mathlib.Core.Path.{_≡_};
 ghost use mathlib.Core.Bool.{true};
@@ -30,24 +23,24 @@ ghost use Rattle.rules.specs.Refusals.{answerNumber};
 ghost use Rattle.rules.specs.Tables.{bookOf, soundTables};
 ghost use Rattle.event_lookups.specs.Lookups.{LooksUp};
 ghost use Rattle.posting.specs.Posts.{Posts};
+ghost use Rattle.event_refusals.specs.Admissions.{Admitted, Names};
 ghost use Rattle.records.specs.Codes.{EventPayment};
 ghost use Rattle.rules.specs.Lent.{lent, atEntry, atExit};
 
-// Why event 3 is refused, 0 where it is not.
-fn payment_refusal(header: &[i64], accounts: &[i64], journal: &[i64], e: Instruction) -> u64
-    requires { ⌜ (soundTables (lent header accounts journal) ≡ true) × (e .kind ≡ EventPayment) ⌝ }
+// Why event 3 of an admitted account is refused, 0 where it is not.
+fn payment_refusal(
+    header: &[i64],
+    accounts: &[i64],
+    journal: &[i64],
+    e: Instruction,
+    x: Account,
+) -> u64
+    requires { ⌜ (soundTables (lent header accounts journal) ≡ true)
+        × (e .kind ≡ EventPayment)
+        × Admitted (lent header accounts journal) e
+        × Names (lent header accounts journal) e x ⌝ }
     ensures { λ n. ⌜ n ≡ answerNumber (bookOf (atEntry header accounts journal)) e ⌝ }
 {
-    if !payment_form(e) {
-        return MALFORMED;
-    }
-    let x = account_numbered(accounts, accounts.len() / ACCOUNT_WIDTH, e.account);
-    if x.state == STATE_UNUSED {
-        return UNKNOWN;
-    }
-    if x.state == STATE_CLOSED {
-        return CLOSED;
-    }
     if (e.b == METHOD_CHECK) & (BARRING_RETURNS <= x.returned) {
         return BARRED;
     }
@@ -63,14 +56,17 @@ pub fn post_payment(
     accounts: &[i64],
     journal: &mut [i64],
     e: Instruction,
+    x: Account,
     k: Lookup,
 ) -> Answer
     requires { ⌜ (soundTables (lent header accounts journal) ≡ true)
         × (e .kind ≡ EventPayment)
-        × LooksUp (lent header accounts journal) e k ⌝ }
+        × LooksUp (lent header accounts journal) e k
+        × Admitted (lent header accounts journal) e
+        × Names (lent header accounts journal) e x ⌝ }
     ensures { λ r. ⌜ Posts (atEntry header accounts journal) (atExit header accounts journal) e r ⌝ }
 {
-    let n = payment_refusal(header, accounts, journal, e);
+    let n = payment_refusal(header, accounts, journal, e, x);
     if n != 0 {
         return refused(n);
     }

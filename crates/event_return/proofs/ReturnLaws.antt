@@ -9,7 +9,7 @@ use lib.ListN.{length, set, length-set, length-append}
 use lib.IntN.{ℤ}
 use lib.Dec.{leb, ltb}
 use borrow.Author.Tests.{leb-true, le-leb, ltb-false, eqb-true, not-false}
-use Rattle.records.specs.Numbers.{Malformed, Unknown, NoRow, Untimely, Full}
+use Rattle.records.specs.Numbers.{NoRow, Untimely, Full}
 use Rattle.records.specs.Codes.{MethodCheck, MethodCheckReturned, EventReturnedCheck, EventTick}
 use Rattle.records.specs.Layout.{dayPlace, usedPlace}
 use Rattle.records.specs.Encoding.{word, rowsOf, accountsOf, StorableRow, StorableAccount}
@@ -22,12 +22,13 @@ use Rattle.lists.proofs.SumLaws.{count-le}
 use Rattle.records.specs.Limits.{mostRows, highestCharge, returnFee}
 use Rattle.rules.specs.Rows.{Row, KindFee, KindReversal, KindPayment, rowNo, newRow, withMark, withReference}
 use Rattle.rules.specs.Settlement.{settle}
-use Rattle.rules.specs.Book.{Account, Instruction, StateUnused, StateClosed, StatePending, Book, account, row, withRows, withAccounts}
+use Rattle.rules.specs.Book.{Account, Instruction, StateClosed, StatePending, Book, account, row, withRows, withAccounts}
 use Rattle.rules.specs.Events.{returnCheck}
 use Rattle.rules.specs.Soundness.{returnedOf, returnedFits}
-use Rattle.rules.specs.Refusals.{changeOf, after, zeroFrom-c, returnForm, formOf, wellFormed, unknown, taken, onClosed, unclassed, misdated, duplicate, barred, noRow, untimely, lastDay, full, refusals, answerNumber}
+use Rattle.rules.specs.Refusals.{changeOf, after, zeroFrom-c, returnForm, formOf, wellFormed, unclassed, misdated, duplicate, barred, noRow, untimely, lastDay, full, refusals, answerNumber, sharedCount, sharedRefusals, ownRefusals}
 use Rattle.rules.specs.Posting.{removesTopup}
 use Rattle.rules.specs.Tables.{Tables, accountsIn, roomIn, rowsUsed, bookOf, soundTables}
+use Rattle.rules.proofs.RefusalLaws.{answerNumber-own}
 use Rattle.rules.proofs.StorableLaws.{day-le, accounts-le}
 use Rattle.rules.proofs.TableLaws.{sound-book}
 use Rattle.preservation.proofs.Accepted.{Accepted, accepted}
@@ -40,10 +41,10 @@ use Rattle.event_lookups.specs.declared.Lookup.{Lookup}
 use Rattle.event_lookups.specs.Lookups.{LooksUp}
 use Rattle.event_lookups.proofs.LookupLaws.{still-before, still-put, still-add, begun-still, row-at}
 use Rattle.posting.specs.Posts.{tablesAt, acceptanceOf, RowRoom, RowAdded, Posts}
-use Rattle.posting.proofs.BookLaws.{account-read, row-read, day-read, used-read, room-read, count-read, used-small, used-room, row-holds, account-holds}
+use Rattle.posting.proofs.BookLaws.{row-read, day-read, used-read, room-read, count-read, used-small, used-room, row-holds, account-holds}
 use Rattle.posting_laws.proofs.EventLaws.{known-inside}
 use Rattle.records.specs.Updates.{ofKind}
-use Rattle.posting_laws.proofs.RefusalLaws.{at-kind, unknown-unused, length-after, no-ceiling}
+use Rattle.posting_laws.proofs.RefusalLaws.{at-kind, length-after, no-ceiling}
 use Rattle.posting_laws.proofs.AddedLaws.{acceptance-plain, posts-accepted}
 use Rattle.posting.specs.Written.{UsedRows}
 use Rattle.posting_laws.proofs.UsedRowsLaws.{used-rows-before, rows-put, used-rows-add, rows-settle, rows-written, used-rows-room, rows-day, used-rows-settles, SmallAmounts, small-before, small-put, small-add}
@@ -83,30 +84,30 @@ module _ (b : Book) (e : Instruction) where
   unfolding changeOf returnCheck
   change-return = added-both b event4
 
-  answer-4 : answerNumber b event4 ≡ first (returnRefusals b event4)
-  unfolding answerNumber refusals wellFormed formOf unknown taken onClosed unclassed misdated duplicate barred noRow untimely lastDay full first returnRefusals count sumBy
-  answer-4 =
+  own-4 : first (ownRefusals b event4) ≡ first (returnRefusals b event4)
+  unfolding ownRefusals sharedCount refusals unclassed misdated duplicate barred noRow untimely lastDay full first returnRefusals count sumBy
+  own-4 =
       let more : List Row = reversalRow b event4 ∷ feeRow b event4 ∷ [] in
       let n : length (markedRows b event4) ≡ length (b .rows) = length-set (b .rows) (e .a - 1) (markedRow b event4) in
       let l = length-after b event4 (markedRows b event4) more change-return n in
       let z = no-ceiling b event4 (markedRows b event4) more change-return n refl in
       let o = or-false (not (row b (e .a) .mark is MethodCheck)) in
-      rw (l, z, unknown-unused b (e .account), o, o, o, o)
+      rw (l, z, o, o, o, o)
 
-pub answer-return : (b : Book) (e : Instruction) → e .kind ≡ EventReturnedCheck → answerNumber b e ≡ first (returnRefusals b e)
-answer-return b e k = at-kind (λ x. answerNumber b x ≡ first (returnRefusals b x)) e 4 k (answer-4 b e)
+pub answer-return : (b : Book) (e : Instruction) → e .kind ≡ EventReturnedCheck → first (sharedRefusals b e) ≡ 0 → answerNumber b e ≡ first (returnRefusals b e)
+answer-return b e k a = answerNumber-own b e a ∙ at-kind (λ x. first (ownRefusals b x) ≡ first (returnRefusals b x)) e 4 k (own-4 b e)
 
 neither : (p q : Bool) → not (p && q) ≡ not p || not q
 neither true q = refl
 neither false q = refl
 
 -- the same with what each test came to
-pub answer-by : (b : Book) (e : Instruction) → e .kind ≡ EventReturnedCheck → (f u n m r : Bool) → returnForm e ≡ f → account b (e .account) .state is StateUnused ≡ u
+pub answer-by : (b : Book) (e : Instruction) → e .kind ≡ EventReturnedCheck → first (sharedRefusals b e) ≡ 0 → (n m r : Bool)
     → not (row b (e .a) .kind is KindPayment) || not (row b (e .a) .account is e .account) ≡ n → not (row b (e .a) .mark is MethodCheck) ≡ m
     → ltb (b .room) (length (b .rows) + 2) ≡ r
-    → first ((Malformed, not f) ∷ (Unknown, u) ∷ (NoRow, n) ∷ (Untimely, m) ∷ (Full, r) ∷ []) ≡ answerNumber b e
+    → first ((NoRow, n) ∷ (Untimely, m) ∷ (Full, r) ∷ []) ≡ answerNumber b e
 unfolding returnRefusals
-answer-by b e k f u n m r p q v w z = rw (answer-return b e k, p, q, neither (row b (e .a) .kind is KindPayment) (row b (e .a) .account is e .account), v, w, z)
+answer-by b e k a n m r v w z = rw (answer-return b e k a, neither (row b (e .a) .kind is KindPayment) (row b (e .a) .account is e .account), v, w, z)
 
 -- ---- the steps
 
@@ -226,15 +227,12 @@ module _ (t : Tables) (s : soundTables t ≡ true) (e : Instruction) (k : e .kin
       let c = eqb-true (account b n .returned) (count (returnedOf n) (b .rows)) (counted-of (b .day) b (sound-book t s .near) n i .returned) in
       omega (arith, count-le (returnedOf n) (b .rows), used-read t s, used-small t s)
 
-  pub return-counts : Counts (t .accounts) (e .account)
+  pub return-counts : Counts (t .accounts) (e .account) (account b (e .account))
   return-counts = record {
     from = inside .0;
     to = omega (arith, count-read t s, inside .1);
-    holds = rw (account-read t s (e .account)) (counted-storable (account b (e .account)) (account-holds t s (e .account)) (omega (arith, returned-small)));
+    holds = counted-storable (account b (e .account)) (account-holds t s (e .account)) (omega (arith, returned-small));
   }
-
-  pub counted-read : (xs : List ℤ) → ReturnCounted (t .accounts) xs (e .account) → AccountChanged (t .accounts) xs (e .account - 1) (checkReturned (account b (e .account)))
-  counted-read xs c = rw (account-read t s (e .account)) at c
 
   -- ---- the payment
 

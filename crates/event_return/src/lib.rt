@@ -1,10 +1,10 @@
 // Event 4: a returned check.
-use event_forms::return_form;
 use event_lookups::Lookup;
 use posting::answers::posted;
 use posting::answers::refused;
 use posting::rows::add_row;
 use posting::rows::new_row;
+use records::Account;
 use records::Answer;
 use records::Instruction;
 use records::codes::KIND_FEE;
@@ -12,19 +12,14 @@ use records::codes::KIND_PAYMENT;
 use records::codes::KIND_REVERSAL;
 use records::codes::METHOD_CHECK;
 use records::codes::METHOD_CHECK_RETURNED;
-use records::codes::STATE_UNUSED;
-use records::layout::ACCOUNT_WIDTH;
 use records::layout::DAY_PLACE;
 use records::layout::ROW_WIDTH;
 use records::layout::USED_PLACE;
 use records::limits::RETURN_FEE;
 use records::numbers::FULL;
-use records::numbers::MALFORMED;
 use records::numbers::NO_ROW;
-use records::numbers::UNKNOWN;
 use records::numbers::UNTIMELY;
 use settlement::settle_from;
-use table_accounts::account_numbered;
 use table_accounts::write_account;
 use table_rows::row_numbered;
 use table_rows::write_row;
@@ -38,23 +33,19 @@ ghost use Rattle.rules.specs.Refusals.{answerNumber};
 ghost use Rattle.rules.specs.Tables.{bookOf, soundTables};
 ghost use Rattle.event_lookups.specs.Lookups.{LooksUp};
 ghost use Rattle.posting.specs.Posts.{RowRoom, RowAdded, Posts};
+ghost use Rattle.event_refusals.specs.Admissions.{Admitted, Names};
 ghost use Rattle.event_return.specs.Return.{Counts, ReturnCounted, Marks, Marked};
 ghost use Rattle.records.specs.Codes.{EventReturnedCheck};
 ghost use Rattle.rules.specs.Lent.{lent, atEntry, atExit};
 
-// Why event 4 is refused, 0 where it is not.
+// Why an admitted event 4 is refused, 0 where it is not.
 fn return_refusal(header: &[i64], accounts: &[i64], journal: &[i64], e: Instruction) -> u64
-    requires { ⌜ (soundTables (lent header accounts journal) ≡ true) × (e .kind ≡ EventReturnedCheck) ⌝ }
+    requires { ⌜ (soundTables (lent header accounts journal) ≡ true)
+        × (e .kind ≡ EventReturnedCheck)
+        × Admitted (lent header accounts journal) e ⌝ }
     ensures { λ n. ⌜ n ≡ answerNumber (bookOf (atEntry header accounts journal)) e ⌝ }
 {
     let used = get(header, USED_PLACE) as usize;
-    if !return_form(e) {
-        return MALFORMED;
-    }
-    let x = account_numbered(accounts, accounts.len() / ACCOUNT_WIDTH, e.account);
-    if x.state == STATE_UNUSED {
-        return UNKNOWN;
-    }
     let r = row_numbered(journal, used, e.a);
     if (r.kind != KIND_PAYMENT) | (r.account != e.account) {
         return NO_ROW;
@@ -68,12 +59,11 @@ fn return_refusal(header: &[i64], accounts: &[i64], journal: &[i64], e: Instruct
     0
 }
 
-// Account n counts a returned check more; closed, it is pending again.
-fn count_return(accounts: &mut [i64], n: u64)
-    requires { ⌜ Counts (now accounts) n ⌝ }
-    ensures { λ _. ⌜ ReturnCounted (now (accounts .entry)) (now (accounts .exit)) n ⌝ }
+// Account n, which is x, counts a returned check more; closed, it is pending again.
+fn count_return(accounts: &mut [i64], n: u64, x: Account)
+    requires { ⌜ Counts (now accounts) n x ⌝ }
+    ensures { λ _. ⌜ ReturnCounted (now (accounts .entry)) (now (accounts .exit)) n x ⌝ }
 {
-    let x = account_numbered(accounts, accounts.len() / ACCOUNT_WIDTH, n);
     write_account(accounts, (n - 1) as usize, x.return_check());
 }
 
@@ -106,11 +96,14 @@ pub fn return_check(
     accounts: &mut [i64],
     journal: &mut [i64],
     e: Instruction,
+    x: Account,
     k: Lookup,
 ) -> Answer
     requires { ⌜ (soundTables (lent header accounts journal) ≡ true)
         × (e .kind ≡ EventReturnedCheck)
-        × LooksUp (lent header accounts journal) e k ⌝ }
+        × LooksUp (lent header accounts journal) e k
+        × Admitted (lent header accounts journal) e
+        × Names (lent header accounts journal) e x ⌝ }
     ensures { λ r. ⌜ Posts (atEntry header accounts journal) (atExit header accounts journal) e r ⌝ }
 {
     let n = return_refusal(header, accounts, journal, e);
@@ -118,7 +111,7 @@ pub fn return_check(
         return refused(n);
     }
     let used = get(header, USED_PLACE);
-    count_return(accounts, e.account);
+    count_return(accounts, e.account, x);
     let amount = mark_returned(journal, used as usize, e.a);
     add_naming(header, journal, e, KIND_REVERSAL, amount);
     add_naming(header, journal, e, KIND_FEE, e.b + RETURN_FEE);

@@ -1,20 +1,21 @@
 -- Event 9: which refusals concern it, and the tables that its steps leave.
 use mathlib.Core.Path.{_≡_, refl, _∙_}
 use mathlib.Core.Logic.{_≢_}
-use mathlib.Core.Bool.{Bool, true, false, not}
+use mathlib.Core.Bool.{Bool, true, false}
 use Prim.Native.Nat.{ℕ, _+_, _≤_, _<_, min}
 use native.Mathlib.Omega.{arith}
 use mathlib.Core.List.{[], _∷_}
 use lib.ListN.{length}
 use lib.Dec.{ltb}
 use borrow.Author.Tests.{eqb-false, ltb-false, lt-ltb, le-leb, le-ltb}
-use Rattle.records.specs.Numbers.{Malformed, LastDay, Full, Ceiling}
+use Rattle.records.specs.Numbers.{LastDay, Full, Ceiling}
 use Rattle.records.specs.Codes.{EventTick}
 use Rattle.lists.specs.Tests.{_is_, first}
 use Rattle.records.specs.Limits.{finalDay}
 use Rattle.rules.specs.Book.{Instruction, Book}
-use Rattle.rules.specs.Refusals.{after, tickForm, formOf, wellFormed, unknown, taken, onClosed, unclassed, misdated, duplicate, barred, noRow, untimely, lastDay, full, ceiling, refusals, answerNumber}
+use Rattle.rules.specs.Refusals.{after, unclassed, misdated, duplicate, barred, noRow, untimely, lastDay, full, ceiling, refusals, answerNumber, sharedCount, sharedRefusals, ownRefusals}
 use Rattle.rules.specs.Tables.{Tables, roomIn, rowsUsed, bookOf, wholeRecords, lengthsFit, usedFits, soundTables}
+use Rattle.rules.proofs.RefusalLaws.{answerNumber-own}
 use Rattle.rules.specs.SoundFacts.{Near, Sound}
 use Rattle.tick_rules.specs.Ticks.{feesAdded, refundsAdded}
 use Rattle.tick_rules.proofs.CountLaws.{rows-after, tick-low}
@@ -29,14 +30,13 @@ use Rattle.event_tick.specs.TickEvent.{tickRefusals, Judges}
 -- ---- the number
 
 -- 14 where nothing before it applies is no number of its own; 13 is told from the book before the tick, which has a day to come
-in-order : (f d r r′ c : Bool) → (d ≡ false → r ≡ r′) → (d ≡ false → r ≡ false → c ≡ false)
-    → first ((Malformed, not f) ∷ (3, false) ∷ (4, false) ∷ (5, false) ∷ (6, false) ∷ (7, false) ∷ (8, false) ∷ (9, false) ∷ (10, false) ∷ (11, false) ∷ (LastDay, d) ∷ (Full, r) ∷ (Ceiling, c) ∷ [])
-    ≡ first ((Malformed, not f) ∷ (LastDay, d) ∷ (13, r′) ∷ [])
+in-order : (d r r′ c : Bool) → (d ≡ false → r ≡ r′) → (d ≡ false → r ≡ false → c ≡ false)
+    → first ((6, false) ∷ (7, false) ∷ (8, false) ∷ (9, false) ∷ (10, false) ∷ (11, false) ∷ (LastDay, d) ∷ (Full, r) ∷ (Ceiling, c) ∷ [])
+    ≡ first ((LastDay, d) ∷ (13, r′) ∷ [])
 unfolding first
-in-order false d r r′ c p q = refl
-in-order true true r r′ c p q = refl
-in-order true false true r′ c p q = rw (← p refl)
-in-order true false false r′ c p q = rw (← p refl, q refl refl)
+in-order true r r′ c p q = refl
+in-order false true r′ c p q = rw (← p refl)
+in-order false false r′ c p q = rw (← p refl, q refl refl)
 
 module _ (b : Book) (e : Instruction) (s : Sound b) where
   abbrev event9 : Instruction
@@ -50,18 +50,20 @@ module _ (b : Book) (e : Instruction) (s : Sound b) where
       let ne : b .day ≢ finalDay = eqb-false (b .day) finalDay d in
       tick-low b s ne event9 refl (omega (arith, rows-after b s ne event9 refl, ltb-false (b .room) (length (after b event9 .rows)) r))
 
-  answer-9 : answerNumber b event9 ≡ first (tickRefusals b event9)
-  unfolding answerNumber refusals wellFormed formOf unknown taken onClosed unclassed misdated duplicate barred noRow untimely lastDay full tickRefusals
-  answer-9 = in-order (tickForm event9) (b .day is finalDay) (ltb (b .room) (length (after b event9 .rows))) (ltb (b .room) (length (b .rows) + feesAdded b + refundsAdded b)) (ceiling b event9) lacking low
+  own-9 : first (ownRefusals b event9) ≡ first (tickRefusals b event9)
+  unfolding ownRefusals sharedCount refusals unclassed misdated duplicate barred noRow untimely lastDay full tickRefusals
+  own-9 =
+      in-order (b .day is finalDay) (ltb (b .room) (length (after b event9 .rows))) (ltb (b .room) (length (b .rows) + feesAdded b + refundsAdded b)) (ceiling b event9)
+      lacking low
 
-pub answer-tick : (b : Book) (e : Instruction) → Sound b → e .kind ≡ EventTick → answerNumber b e ≡ first (tickRefusals b e)
-answer-tick b e s k = at-kind (λ x. answerNumber b x ≡ first (tickRefusals b x)) e 9 k (answer-9 b e s)
+pub answer-tick : (b : Book) (e : Instruction) → Sound b → e .kind ≡ EventTick → first (sharedRefusals b e) ≡ 0 → answerNumber b e ≡ first (tickRefusals b e)
+answer-tick b e s k a = answerNumber-own b e a ∙ at-kind (λ x. first (ownRefusals b x) ≡ first (tickRefusals b x)) e 9 k (own-9 b e s)
 
 -- the same with what each test came to
-pub tick-by : (b : Book) (e : Instruction) → Sound b → e .kind ≡ EventTick → (f d r : Bool) → tickForm e ≡ f → b .day is finalDay ≡ d
-    → ltb (b .room) (length (b .rows) + feesAdded b + refundsAdded b) ≡ r → first ((Malformed, not f) ∷ (LastDay, d) ∷ (Full, r) ∷ []) ≡ answerNumber b e
+pub tick-by : (b : Book) (e : Instruction) → Sound b → e .kind ≡ EventTick → first (sharedRefusals b e) ≡ 0 → (d r : Bool) → b .day is finalDay ≡ d
+    → ltb (b .room) (length (b .rows) + feesAdded b + refundsAdded b) ≡ r → first ((LastDay, d) ∷ (Full, r) ∷ []) ≡ answerNumber b e
 unfolding tickRefusals
-tick-by b e s k f d r p q w = rw (answer-tick b e s k, p, q, w)
+tick-by b e s k a d r q w = rw (answer-tick b e s k a, q, w)
 
 -- refused, there is no plan to tell of
 pub judged-refused : (b : Book) (e : Instruction) (j : Judged) (n : ℕ) → 0 < n → j .number ≡ n → n ≡ answerNumber b e → Judges b e j

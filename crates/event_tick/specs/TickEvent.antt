@@ -1,27 +1,26 @@
 -- Event 9: its refusals, and a tick that is not refused.
 use mathlib.Core.Path.{_≡_}
-use mathlib.Core.Bool.{true, not}
+use mathlib.Core.Bool.{true}
 use Prim.Native.Nat.{_+_}
 use mathlib.Core.List.{[], _∷_}
 use lib.ListN.{length}
 use lib.Dec.{ltb}
-use Rattle.records.specs.Numbers.{Malformed, LastDay, Full}
+use Rattle.records.specs.Numbers.{LastDay, Full}
 use Rattle.records.specs.Codes.{EventTick}
 use Rattle.lists.specs.Tests.{_is_, Cases}
 use Rattle.records.specs.Limits.{finalDay}
 use Rattle.rules.specs.Book.{Instruction, Book}
-use Rattle.rules.specs.Refusals.{tickForm, answerNumber}
+use Rattle.rules.specs.Refusals.{answerNumber}
 use Rattle.rules.specs.Tables.{Tables, bookOf, soundTables}
 use Rattle.tick_rules.specs.Ticks.{feesAdded, refundsAdded}
 use Rattle.tick_plan.specs.declared.Plan.{Plan}
 use Rattle.tick_plan.specs.Plans.{Planned}
 use Rattle.event_tick.specs.declared.Judged.{Judged}
 
--- the refusals that concern event 9, out of the table of all, in checking order; 14 never applies
+-- the refusals of event 9's own, out of the table of all, in checking order; 14 never applies
 unfoldable pub tickRefusals : Book → Instruction → Cases
 tickRefusals b e =
-    (Malformed, not (tickForm e))
-    ∷ (LastDay, b .day is finalDay)
+    (LastDay, b .day is finalDay)
     ∷ (Full, ltb (b .room) (length (b .rows) + feesAdded b + refundsAdded b))
     ∷ []
 

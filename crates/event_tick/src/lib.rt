@@ -1,5 +1,4 @@
 // Event 9, the day tick: it refuses before it writes anything.
-use event_forms::tick_form;
 use posting::answers::posted;
 use posting::answers::refused;
 use records::Answer;
@@ -10,7 +9,6 @@ use records::layout::USED_PLACE;
 use records::limits::FINAL_DAY;
 use records::numbers::FULL;
 use records::numbers::LAST_DAY;
-use records::numbers::MALFORMED;
 use tables::words::get;
 use tables::words::put;
 use tick_close::close_accounts;
@@ -22,11 +20,12 @@ ghost use mathlib.Core.Path.{_≡_};
 ghost use mathlib.Core.Bool.{true};
 ghost use Rattle.rules.specs.Tables.{bookOf, soundTables};
 ghost use Rattle.posting.specs.Posts.{Posts};
+ghost use Rattle.event_refusals.specs.Admissions.{Admitted};
 ghost use Rattle.event_tick.specs.TickEvent.{Judges, Accepts};
 ghost use Rattle.records.specs.Codes.{EventTick};
 ghost use Rattle.rules.specs.Lent.{lent, atEntry, atExit};
 
-// Why event 9 is refused, 0 where it is not, and the plan of a tick that is not.
+// Why an admitted event 9 is refused, 0 where it is not, and the plan of a tick that is not.
 struct Judged {
     number: u64,
     plan: Plan,
@@ -46,12 +45,11 @@ fn unplanned(number: u64) -> Judged
 
 // The tests in checking order. 14 never is the reason: 8,192 sources of at most 1,300,000 each do not pass the ceiling.
 fn judge_tick(header: &[i64], accounts: &[i64], journal: &[i64], e: Instruction) -> Judged
-    requires { ⌜ (soundTables (lent header accounts journal) ≡ true) × (e .kind ≡ EventTick) ⌝ }
+    requires { ⌜ (soundTables (lent header accounts journal) ≡ true)
+        × (e .kind ≡ EventTick)
+        × Admitted (lent header accounts journal) e ⌝ }
     ensures { λ j. ⌜ Judges (bookOf (atEntry header accounts journal)) e j ⌝ }
 {
-    if !tick_form(e) {
-        return unplanned(MALFORMED);
-    }
     if get(header, DAY_PLACE) == FINAL_DAY {
         return unplanned(LAST_DAY);
     }
@@ -84,7 +82,9 @@ fn carry_out(
 
 // Event 9, the day tick.
 pub fn tick(header: &mut [i64], accounts: &mut [i64], journal: &mut [i64], e: Instruction) -> Answer
-    requires { ⌜ (soundTables (lent header accounts journal) ≡ true) × (e .kind ≡ EventTick) ⌝ }
+    requires { ⌜ (soundTables (lent header accounts journal) ≡ true)
+        × (e .kind ≡ EventTick)
+        × Admitted (lent header accounts journal) e ⌝ }
     ensures { λ r. ⌜ Posts (atEntry header accounts journal) (atExit header accounts journal) e r ⌝ }
 {
     let j = judge_tick(header, accounts, journal, e);

@@ -21,11 +21,12 @@ use Rattle.records.specs.Limits.{finalDay, highestRate, highestPassage, mostAxl
 use Rattle.rules.specs.Schedule.{class, rate}
 use Rattle.rules.specs.Rows.{Row, KindToll, toll, newRow, withDue, withReference}
 use Rattle.rules.specs.Settlement.{settle}
-use Rattle.rules.specs.Book.{Instruction, StateUnused, StateClosed, Book, account, addRow, withRows}
+use Rattle.rules.specs.Book.{Instruction, Book, addRow, withRows}
 use Rattle.rules.specs.Events.{tollRate, postToll}
-use Rattle.rules.specs.Refusals.{changeOf, after, tollForm, formOf, wellFormed, unknown, taken, onClosed, unclassed, misdated, duplicate, barred, noRow, untimely, lastDay, full, refusals, answerNumber}
+use Rattle.rules.specs.Refusals.{changeOf, after, tollForm, formOf, wellFormed, unclassed, misdated, duplicate, barred, noRow, untimely, lastDay, full, refusals, answerNumber, sharedCount, sharedRefusals, ownRefusals}
 use Rattle.rules.specs.Posting.{removesTopup}
 use Rattle.rules.specs.Tables.{Tables, accountsIn, roomIn, rowsUsed, scheduleFrom, bookOf, soundTables}
+use Rattle.rules.proofs.RefusalLaws.{answerNumber-own, shared-formed}
 use Rattle.rules.proofs.StorableLaws.{between-le, day-le, stage-le, accounts-le}
 use Rattle.rules.proofs.TableLaws.{sound-book, sound-rows}
 use Rattle.preservation.proofs.Accepted.{Accepted, accepted}
@@ -36,9 +37,9 @@ use Rattle.posting.specs.Posts.{tablesAt, acceptanceOf, RowAdded, Posts}
 use Rattle.posting.proofs.BookLaws.{day-read, used-read, room-read}
 use Rattle.posting_laws.proofs.EventLaws.{known-inside}
 use Rattle.records.specs.Updates.{ofKind}
-use Rattle.posting_laws.proofs.RefusalLaws.{at-kind, unknown-unused, length-after, no-ceiling}
+use Rattle.posting_laws.proofs.RefusalLaws.{at-kind, length-after, no-ceiling}
 use Rattle.posting_laws.proofs.AddedLaws.{acceptance-plain, posts-accepted, row-written}
-use Rattle.event_toll.specs.Toll.{passageRefusals, tollRefusals}
+use Rattle.event_toll.specs.Toll.{tollRefusals}
 
 -- the row that event 2 adds
 abbrev pub tollRow : Book → Instruction → Row
@@ -54,41 +55,23 @@ module _ (b : Book) (e : Instruction) where
   unfolding changeOf postToll
   change-toll = refl
 
-  answer-2 : answerNumber b event2 ≡ first (tollRefusals b event2)
-  unfolding answerNumber refusals wellFormed formOf unknown taken onClosed unclassed misdated duplicate barred noRow untimely lastDay full first passageRefusals tollRefusals count sumBy
-  answer-2 =
+  own-2 : first (ownRefusals b event2) ≡ first (tollRefusals b event2)
+  unfolding ownRefusals sharedCount refusals unclassed misdated duplicate barred noRow untimely lastDay full first tollRefusals count sumBy
+  own-2 =
       let l = length-after b event2 (b .rows) (tollRow b event2 ∷ []) change-toll refl in
       let z = no-ceiling b event2 (b .rows) (tollRow b event2 ∷ []) change-toll refl refl in
-      rw (l, z, unknown-unused b (e .account))
+      rw (l, z)
 
-pub answer-toll : (b : Book) (e : Instruction) → e .kind ≡ EventToll → answerNumber b e ≡ first (tollRefusals b e)
-answer-toll b e k = at-kind (λ x. answerNumber b x ≡ first (tollRefusals b x)) e 2 k (answer-2 b e)
+pub answer-toll : (b : Book) (e : Instruction) → e .kind ≡ EventToll → first (sharedRefusals b e) ≡ 0 → answerNumber b e ≡ first (tollRefusals b e)
+answer-toll b e k a = answerNumber-own b e a ∙ at-kind (λ x. first (ownRefusals b x) ≡ first (tollRefusals b x)) e 2 k (own-2 b e)
 
--- the same with what each test came to, and with the number n that the passage gets
-pub answer-by : (b : Book) (e : Instruction) → e .kind ≡ EventToll → (f u c : Bool) (n : ℕ) → tollForm e ≡ f → account b (e .account) .state is StateUnused ≡ u
-    → account b (e .account) .state is StateClosed ≡ c → n ≡ first (passageRefusals (b .day) (b .rows) (b .room) e)
-    → cond (not f) 2 (cond u 3 (cond c 5 n)) ≡ answerNumber b e
-unfolding tollRefusals first
-answer-by b e k f u c n p q v w = rw (answer-toll b e k, p, q, v, w)
-
-pub passage-by : (today : ℕ) (rows : List Row) (room : ℕ) (e : Instruction) (u d s r : Bool) → class (e .c) (e .d) is 0 ≡ u
-    → ltb today (e .b) || ltb (e .b + latestDays) today ≡ d → exists (λ x. toll x && x .reference is e .a) rows ≡ s → ltb room (length rows + 1) ≡ r
-    → first ((Unclassed, u) ∷ (Misdated, d) ∷ (Duplicate, s) ∷ (Full, r) ∷ []) ≡ first (passageRefusals today rows room e)
-unfolding passageRefusals
-passage-by today rows room e u d s r p q v w = rw (p, q, v, w)
-
--- the same of the book, from what is read of its tables
-pub passage-read : (t : Tables) → soundTables t ≡ true → (e : Instruction)
-    → first (passageRefusals (word (t .header) dayPlace) (rowsOf (t .journal) (rowsUsed t)) (roomIn t) e) ≡ first (passageRefusals (bookOf t .day) (bookOf t .rows) (bookOf t .room) e)
-passage-read t s e = rw (day-read t s, sound-rows t s, room-read t s)
-
--- a row more than there are, and one that there is
-module _ (j : List ℤ) (used room : ℕ) where
-  pub row-lacks : room ≤ used → ltb room (length (rowsOf j used) + 1) ≡ true
-  row-lacks h = rw (length-tabulate (rowAt j) used) (lt-ltb room (used + 1) (omega arith))
-
-  pub row-suffices : used < room → ltb room (length (rowsOf j used) + 1) ≡ false
-  row-suffices h = rw (length-tabulate (rowAt j) used) (le-ltb room (used + 1) (omega arith))
+-- the same with what each test came to
+pub answer-by : (b : Book) (e : Instruction) → e .kind ≡ EventToll → first (sharedRefusals b e) ≡ 0 → (u d s r : Bool) → class (e .c) (e .d) is 0 ≡ u
+    → ltb (b .day) (e .b) || ltb (e .b + latestDays) (b .day) ≡ d → exists (λ x. toll x && x .reference is e .a) (b .rows) ≡ s
+    → ltb (b .room) (length (b .rows) + 1) ≡ r
+    → first ((Unclassed, u) ∷ (Misdated, d) ∷ (Duplicate, s) ∷ (Full, r) ∷ []) ≡ answerNumber b e
+unfolding tollRefusals
+answer-by b e k a u d s r p q v w = rw (answer-toll b e k a, p, q, v, w)
 
 -- ---- what the words of event 2 may be
 
@@ -126,6 +109,11 @@ module _ (e : Instruction) (f : tollForm e ≡ true) where
   mode =
       let q : p5 ≡ true = and-right (p1 && p2 && p3 && p4) p5 f in
       (leb-true 1 (e .e) (and-left (leb 1 (e .e)) (leb (e .e) 2) q), leb-true (e .e) 2 (and-right (leb 1 (e .e)) (leb (e .e) 2) q))
+
+-- an admitted event 2 has its form
+pub toll-formed : (b : Book) (e : Instruction) → e .kind ≡ EventToll → first (sharedRefusals b e) ≡ 0 → tollForm e ≡ true
+unfolding wellFormed formOf
+toll-formed b e k a = at-kind (λ x. wellFormed x ≡ true → tollForm x ≡ true) e 2 k (λ w. w) (shared-formed b e a)
 
 -- ---- what an accepted event 2 leaves
 

@@ -1,5 +1,4 @@
 // Event 2: a toll.
-use event_forms::toll_form;
 use event_lookups::Lookup;
 use event_rates::class_of;
 use event_rates::rate_of;
@@ -10,53 +9,35 @@ use posting::rows::new_row;
 use records::Answer;
 use records::Instruction;
 use records::codes::KIND_TOLL;
-use records::codes::STATE_CLOSED;
-use records::codes::STATE_UNUSED;
-use records::layout::ACCOUNT_WIDTH;
 use records::layout::DAY_PLACE;
 use records::layout::HEADER_SCHEDULE;
 use records::layout::ROW_WIDTH;
 use records::layout::STAGE_PLACE;
 use records::layout::USED_PLACE;
 use records::limits::LATEST_DAYS;
-use records::numbers::CLOSED;
 use records::numbers::DUPLICATE;
 use records::numbers::FULL;
-use records::numbers::MALFORMED;
 use records::numbers::MISDATED;
 use records::numbers::UNCLASSED;
-use records::numbers::UNKNOWN;
 use settlement::settle_from;
-use table_accounts::account_numbered;
 use tables::words::get;
 ghost use mathlib.Core.Path.{_≡_};
-ghost use mathlib.Core.Bool.{true, _&&_};
-ghost use Prim.Native.Nat.{_*_, _/_, _≤_};
-ghost use lib.ListN.{length};
-ghost use Rattle.records.specs.Layout.{headerWidth, dayPlace, usedPlace, rowWidth};
-ghost use Rattle.records.specs.Encoding.{word, rowsOf};
-ghost use Rattle.lists.specs.Tests.{_is_, first};
-ghost use Rattle.lists.specs.Lists.{exists};
-ghost use Rattle.records.specs.Limits.{finalDay};
-ghost use Rattle.rules.specs.Rows.{toll};
+ghost use mathlib.Core.Bool.{true};
 ghost use Rattle.rules.specs.Refusals.{answerNumber};
 ghost use Rattle.rules.specs.Tables.{bookOf, soundTables};
 ghost use Rattle.event_lookups.specs.Lookups.{LooksUp};
 ghost use Rattle.posting.specs.Posts.{Posts};
-ghost use Rattle.event_toll.specs.Toll.{passageRefusals};
+ghost use Rattle.event_refusals.specs.Admissions.{Admitted};
 ghost use Rattle.records.specs.Codes.{EventToll};
 ghost use Rattle.rules.specs.Lent.{lent, atEntry, atExit};
 
-// Why the passage is refused by its class, day or number, which stands in the journal or not, or for want of a row; 0 where it is not.
-fn passage_refusal(header: &[i64], journal: &[i64], e: Instruction, duplicate: bool) -> u64
-    requires { ⌜ (length (now header) ≡ headerWidth)
-        × (word (now header) usedPlace * rowWidth ≤ length (now journal))
-        × (e .b ≤ finalDay)
-        × (duplicate
-        ≡ exists (λ r. toll r && r .reference is e .a) (rowsOf (now journal) (word (now header) usedPlace))) ⌝ }
-    ensures { λ n. ⌜ n ≡ first (passageRefusals (word (now (header .entry)) dayPlace)
-        (rowsOf (now (journal .entry)) (word (now (header .entry)) usedPlace))
-        (length (now (journal .entry)) / rowWidth) e) ⌝ }
+// Why an admitted event 2 is refused, 0 where it is not.
+fn toll_refusal(header: &[i64], accounts: &[i64], journal: &[i64], e: Instruction, k: Lookup) -> u64
+    requires { ⌜ (soundTables (lent header accounts journal) ≡ true)
+        × (e .kind ≡ EventToll)
+        × LooksUp (lent header accounts journal) e k
+        × Admitted (lent header accounts journal) e ⌝ }
+    ensures { λ n. ⌜ n ≡ answerNumber (bookOf (atEntry header accounts journal)) e ⌝ }
 {
     let today = get(header, DAY_PLACE);
     let used = get(header, USED_PLACE) as usize;
@@ -66,33 +47,13 @@ fn passage_refusal(header: &[i64], journal: &[i64], e: Instruction, duplicate: b
     if (today < e.b) | (e.b + LATEST_DAYS < today) {
         return MISDATED;
     }
-    if duplicate {
+    if k.duplicate {
         return DUPLICATE;
     }
     if journal.len() / ROW_WIDTH <= used {
         return FULL;
     }
     0
-}
-
-// Why event 2 is refused, 0 where it is not.
-fn toll_refusal(header: &[i64], accounts: &[i64], journal: &[i64], e: Instruction, k: Lookup) -> u64
-    requires { ⌜ (soundTables (lent header accounts journal) ≡ true)
-        × (e .kind ≡ EventToll)
-        × LooksUp (lent header accounts journal) e k ⌝ }
-    ensures { λ n. ⌜ n ≡ answerNumber (bookOf (atEntry header accounts journal)) e ⌝ }
-{
-    if !toll_form(e) {
-        return MALFORMED;
-    }
-    let x = account_numbered(accounts, accounts.len() / ACCOUNT_WIDTH, e.account);
-    if x.state == STATE_UNUSED {
-        return UNKNOWN;
-    }
-    if x.state == STATE_CLOSED {
-        return CLOSED;
-    }
-    passage_refusal(header, journal, e, k.duplicate)
 }
 
 // Event 2: the toll row, at its rate, due a stage length from today; then settlement.
@@ -105,7 +66,8 @@ pub fn post_toll(
 ) -> Answer
     requires { ⌜ (soundTables (lent header accounts journal) ≡ true)
         × (e .kind ≡ EventToll)
-        × LooksUp (lent header accounts journal) e k ⌝ }
+        × LooksUp (lent header accounts journal) e k
+        × Admitted (lent header accounts journal) e ⌝ }
     ensures { λ r. ⌜ Posts (atEntry header accounts journal) (atExit header accounts journal) e r ⌝ }
 {
     let n = toll_refusal(header, accounts, journal, e, k);

@@ -1,5 +1,5 @@
 -- Event 7: which refusals concern it.
-use mathlib.Core.Path.{_≡_, refl}
+use mathlib.Core.Path.{_≡_, refl, _∙_}
 use mathlib.Core.Bool.{Bool, true, false, not, _&&_, or-false}
 use Prim.Native.Nat.{_+_, _≤_}
 use native.Mathlib.Omega.{arith}
@@ -7,18 +7,20 @@ use mathlib.Core.List.{[], _∷_, _++_}
 use lib.ListN.{length}
 use lib.Dec.{leb, ltb}
 use borrow.Author.Tests.{leb-true, leb-false}
-use Rattle.records.specs.Numbers.{Malformed, Unknown, Closed, Untimely, Full}
+use Rattle.records.specs.Numbers.{Untimely, Full}
 use Rattle.records.specs.Codes.{MethodCard, Yes, EventTopupResult}
 use Rattle.lists.specs.Tests.{_is_, first}
 use Rattle.lists.specs.Lists.{sumBy, count}
 use Rattle.rules.specs.Rows.{Row, KindPayment, newRow, withMark}
-use Rattle.rules.specs.Book.{Instruction, StateUnused, StateClosed, Book, account, topupDue}
+use Rattle.rules.specs.Book.{Instruction, Book, account, topupDue}
 use Rattle.rules.specs.Events.{payTopup, declineTopup, topupResult}
-use Rattle.rules.specs.Refusals.{changeOf, resultForm, formOf, wellFormed, unknown, taken, onClosed, unclassed, misdated, duplicate, barred, noRow, untimely, lastDay, full, ceiling, refusals, answerNumber}
+use Rattle.rules.specs.Refusals.{changeOf, unclassed, misdated, duplicate, barred, noRow, untimely, lastDay, full, ceiling, refusals, answerNumber, sharedCount, sharedRefusals, ownRefusals}
 use Rattle.rules.specs.Tables.{Tables, roomIn, rowsUsed, bookOf, soundTables}
 use Rattle.records.specs.Updates.{ofKind}
-use Rattle.posting_laws.proofs.RefusalLaws.{at-kind, unknown-unused, length-after, no-ceiling, rows-lack, rows-suffice}
+use Rattle.rules.proofs.RefusalLaws.{answerNumber-own}
+use Rattle.posting_laws.proofs.RefusalLaws.{at-kind, length-after, no-ceiling, rows-lack, rows-suffice}
 use Rattle.posting_laws.proofs.AccountEventLaws.{rows-fit, never-full, never-above}
+use Rattle.event_refusals.specs.Admissions.{Admitted}
 use Rattle.event_topup.specs.TopupResult.{resultRefusals}
 
 -- the row that a paid top-up adds
@@ -47,21 +49,21 @@ module _ (b : Book) (e : Instruction) (fit : length (b .rows) ≤ b .room) where
   above-7 true q = no-ceiling b event7 (b .rows) (topupRow b event7 ∷ []) (rows-paid q) refl refl
   above-7 false q = never-above b event7 (rows-declined q)
 
-  answer-7 : answerNumber b event7 ≡ first (resultRefusals b event7)
-  unfolding answerNumber refusals wellFormed formOf unknown taken onClosed unclassed misdated duplicate barred noRow untimely lastDay first resultRefusals
-  answer-7 = rw (full-7 (e .b is Yes) refl, above-7 (e .b is Yes) refl, unknown-unused b (e .account), or-false (not (topupDue b (e .account))))
+  own-7 : first (ownRefusals b event7) ≡ first (resultRefusals b event7)
+  unfolding ownRefusals sharedCount refusals unclassed misdated duplicate barred noRow untimely lastDay first resultRefusals
+  own-7 = rw (full-7 (e .b is Yes) refl, above-7 (e .b is Yes) refl, or-false (not (topupDue b (e .account))))
 
--- the number that event 7 gets
-pub answer-result : (b : Book) (e : Instruction) → length (b .rows) ≤ b .room → e .kind ≡ EventTopupResult → answerNumber b e ≡ first (resultRefusals b e)
-answer-result b e h k = at-kind (λ x. answerNumber b x ≡ first (resultRefusals b x)) e 7 k (answer-7 b e h)
+-- the number that event 7 gets where no shared refusal applies
+pub answer-result : (b : Book) (e : Instruction) → length (b .rows) ≤ b .room → e .kind ≡ EventTopupResult → first (sharedRefusals b e) ≡ 0
+    → answerNumber b e ≡ first (resultRefusals b e)
+answer-result b e h k a = answerNumber-own b e a ∙ at-kind (λ x. first (ownRefusals b x) ≡ first (resultRefusals b x)) e 7 k (own-7 b e h)
 
 -- the same on sound tables, with what each test came to
-pub result-by : (t : Tables) → soundTables t ≡ true → (e : Instruction) → e .kind ≡ EventTopupResult → (f u c d r : Bool) → resultForm e ≡ f
-    → account (bookOf t) (e .account) .state is StateUnused ≡ u → account (bookOf t) (e .account) .state is StateClosed ≡ c → topupDue (bookOf t) (e .account) ≡ d
-    → e .b is Yes && ltb (bookOf t .room) (length (bookOf t .rows) + 1) ≡ r
-    → first ((Malformed, not f) ∷ (Unknown, u) ∷ (Closed, c) ∷ (Untimely, not d) ∷ (Full, r) ∷ []) ≡ answerNumber (bookOf t) e
+pub result-by : (t : Tables) → soundTables t ≡ true → (e : Instruction) → e .kind ≡ EventTopupResult → Admitted t e → (d r : Bool)
+    → topupDue (bookOf t) (e .account) ≡ d → e .b is Yes && ltb (bookOf t .room) (length (bookOf t .rows) + 1) ≡ r
+    → first ((Untimely, not d) ∷ (Full, r) ∷ []) ≡ answerNumber (bookOf t) e
 unfolding resultRefusals
-result-by t s e k f u c d r x y v w z = rw (answer-result (bookOf t) e (rows-fit t s) k, x, y, v, w, z)
+result-by t s e k a d r w z = rw (answer-result (bookOf t) e (rows-fit t s) k a, w, z)
 
 -- the journal is full by what is read of it
 pub no-row-left : (t : Tables) → soundTables t ≡ true → (y : Bool) → leb (roomIn t) (rowsUsed t) ≡ y → ltb (bookOf t .room) (length (bookOf t .rows) + 1) ≡ y

@@ -1,24 +1,21 @@
--- The refusals that concern event 7, out of the table of all, in checking order; and a top-up that is to be paid.
+-- The refusals of event 7's own, out of the table of all, in checking order; and a top-up that is to be paid.
 use mathlib.Core.Path.{_≡_}
 use mathlib.Core.Bool.{true, not, _&&_}
 use Prim.Native.Nat.{_+_}
 use mathlib.Core.List.{[], _∷_}
 use lib.ListN.{length}
 use lib.Dec.{ltb}
-use Rattle.records.specs.Numbers.{Malformed, Unknown, Closed, Untimely, Full}
+use Rattle.records.specs.Numbers.{Untimely, Full}
 use Rattle.records.specs.Codes.{Yes, EventTopupResult}
 use Rattle.lists.specs.Tests.{_is_, Cases}
-use Rattle.rules.specs.Book.{Instruction, StateUnused, StateClosed, Book, account, topupDue}
-use Rattle.rules.specs.Refusals.{resultForm, answerNumber}
+use Rattle.rules.specs.Book.{Instruction, Book, topupDue}
+use Rattle.rules.specs.Refusals.{answerNumber}
 use Rattle.rules.specs.Tables.{Tables, bookOf, soundTables}
 
--- a declined top-up adds no row
+-- a top-up that is not due, and no row for a paid one: a declined one adds none
 unfoldable pub resultRefusals : Book → Instruction → Cases
 resultRefusals b e =
-    (Malformed, not (resultForm e))
-    ∷ (Unknown, account b (e .account) .state is StateUnused)
-    ∷ (Closed, account b (e .account) .state is StateClosed)
-    ∷ (Untimely, not (topupDue b (e .account)))
+    (Untimely, not (topupDue b (e .account)))
     ∷ (Full, e .b is Yes && ltb (b .room) (length (b .rows) + 1))
     ∷ []
 

@@ -1,5 +1,4 @@
 // Event 7: the result of a top-up.
-use event_forms::result_form;
 use event_lookups::Lookup;
 use posting::answers::posted;
 use posting::answers::refused;
@@ -10,20 +9,13 @@ use records::Answer;
 use records::Instruction;
 use records::codes::KIND_PAYMENT;
 use records::codes::METHOD_CARD;
-use records::codes::STATE_CLOSED;
-use records::codes::STATE_UNUSED;
-use records::layout::ACCOUNT_WIDTH;
 use records::layout::DAY_PLACE;
 use records::layout::ROW_WIDTH;
 use records::layout::USED_PLACE;
 use records::limits::MOST_DECLINES;
-use records::numbers::CLOSED;
 use records::numbers::FULL;
-use records::numbers::MALFORMED;
-use records::numbers::UNKNOWN;
 use records::numbers::UNTIMELY;
 use settlement::settle_from;
-use table_accounts::account_numbered;
 use table_accounts::write_account;
 use tables::words::get;
 ghost use mathlib.Core.Path.{_≡_};
@@ -33,11 +25,12 @@ ghost use Rattle.rules.specs.Refusals.{answerNumber};
 ghost use Rattle.rules.specs.Tables.{bookOf, soundTables};
 ghost use Rattle.event_lookups.specs.Lookups.{LooksUp};
 ghost use Rattle.posting.specs.Posts.{Posts};
+ghost use Rattle.event_refusals.specs.Admissions.{Admitted, Names};
 ghost use Rattle.event_topup.specs.TopupResult.{PaidResult};
 ghost use Rattle.records.specs.Codes.{EventTopupResult};
 ghost use Rattle.rules.specs.Lent.{lent, atEntry, atExit};
 
-// Why event 7 is refused, 0 where it is not.
+// Why an admitted event 7 is refused, 0 where it is not.
 fn result_refusal(
     header: &[i64],
     accounts: &[i64],
@@ -47,19 +40,10 @@ fn result_refusal(
 ) -> u64
     requires { ⌜ (soundTables (lent header accounts journal) ≡ true)
         × (e .kind ≡ EventTopupResult)
-        × LooksUp (lent header accounts journal) e k ⌝ }
+        × LooksUp (lent header accounts journal) e k
+        × Admitted (lent header accounts journal) e ⌝ }
     ensures { λ n. ⌜ n ≡ answerNumber (bookOf (atEntry header accounts journal)) e ⌝ }
 {
-    if !result_form(e) {
-        return MALFORMED;
-    }
-    let x = account_numbered(accounts, accounts.len() / ACCOUNT_WIDTH, e.account);
-    if x.state == STATE_UNUSED {
-        return UNKNOWN;
-    }
-    if x.state == STATE_CLOSED {
-        return CLOSED;
-    }
     if !k.due {
         return UNTIMELY;
     }
@@ -75,13 +59,15 @@ fn pay_topup(
     accounts: &mut [i64],
     journal: &mut [i64],
     e: Instruction,
+    x: Account,
     k: Lookup,
 ) -> Answer
-    requires { ⌜ PaidResult (lent header accounts journal) e × LooksUp (lent header accounts journal) e k ⌝ }
+    requires { ⌜ PaidResult (lent header accounts journal) e
+        × LooksUp (lent header accounts journal) e k
+        × Names (lent header accounts journal) e x ⌝ }
     ensures { λ r. ⌜ Posts (atEntry header accounts journal) (atExit header accounts journal) e r ⌝ }
 {
     let used = get(header, USED_PLACE);
-    let x = account_numbered(accounts, accounts.len() / ACCOUNT_WIDTH, e.account);
     let paid = x.pay_topup();
     write_account(accounts, (e.account - 1) as usize, paid);
     let mut r = new_row(KIND_PAYMENT, e.account, get(header, DAY_PLACE), x.topup);
@@ -110,11 +96,14 @@ pub fn topup_result(
     accounts: &mut [i64],
     journal: &mut [i64],
     e: Instruction,
+    x: Account,
     k: Lookup,
 ) -> Answer
     requires { ⌜ (soundTables (lent header accounts journal) ≡ true)
         × (e .kind ≡ EventTopupResult)
-        × LooksUp (lent header accounts journal) e k ⌝ }
+        × LooksUp (lent header accounts journal) e k
+        × Admitted (lent header accounts journal) e
+        × Names (lent header accounts journal) e x ⌝ }
     ensures { λ r. ⌜ Posts (atEntry header accounts journal) (atExit header accounts journal) e r ⌝ }
 {
     let n = result_refusal(header, accounts, journal, e, k);
@@ -122,9 +111,8 @@ pub fn topup_result(
         return refused(n);
     }
     if e.b == 1 {
-        return pay_topup(header, accounts, journal, e, k);
+        return pay_topup(header, accounts, journal, e, x, k);
     }
-    let x = account_numbered(accounts, accounts.len() / ACCOUNT_WIDTH, e.account);
     let declined = x.decline(get(header, DAY_PLACE));
     write_account(accounts, (e.account - 1) as usize, declined);
     posted(get(header, USED_PLACE), 0, 0, removed_by_decline(x))

@@ -3,11 +3,11 @@ use mathlib.Core.Path.{_≡_, refl, sym, _∙_}
 use mathlib.Core.Bool.{Bool, true, false, not, cond, _&&_, _||_, false≢true, true≢false, and-true, and-assoc}
 use Prim.Native.Nat.{ℕ, zero, suc, _<_}
 use native.Mathlib.Omega.{arith}
-use mathlib.Core.List.{List, [], _∷_, map}
-use lib.ListN.{length, getD}
+use mathlib.Core.List.{List, [], _∷_, _++_}
+use lib.ListN.{getD}
 use lib.Dec.{eqb, ltb}
 use borrow.Author.Tests.{ltb-true}
-use Rattle.lists.specs.Tests.{_implies_, allOf, Cases, first}
+use Rattle.lists.specs.Tests.{_is_, _implies_, allOf, Cases, first}
 
 -- ---- _&&_
 
@@ -91,24 +91,50 @@ first-none c cs h e = go (c .1) e
     go true q = absurd (omega arith)
     go false q = (refl, q)
 
--- a table of nonzero numbers gives 0 only where each test fails
-pub first-fails : (cs : Cases) → ((k : ℕ) → k < length cs → 0 < getD cs k (1, false) .0) → first cs ≡ 0 → (k : ℕ) → getD cs k (1, false) .1 ≡ false
-first-fails [] f e k = refl
-first-fails (c ∷ cs) f e zero = first-none c cs (f 0 (omega arith)) e .0
-first-fails (c ∷ cs) f e (suc k) = first-fails cs (λ j h. f (suc j) (omega arith)) (first-none c cs (f 0 (omega arith)) e .1) k
+-- each number of a table is above 0
+unfoldable pub positive : Cases → Bool
+positive [] = true
+positive (c ∷ cs) = ltb 0 (c .0) && positive cs
+
+-- such a table gives 0 only where each test fails
+pub first-fails : (cs : Cases) → positive cs ≡ true → first cs ≡ 0 → (k : ℕ) → getD cs k (1, false) .1 ≡ false
+unfolding positive
+first-fails [] p e k = refl
+first-fails (c ∷ cs) p e zero = first-none c cs (ltb-true 0 (c .0) (and-left (ltb 0 (c .0)) (positive cs) p)) e .0
+first-fails (c ∷ cs) p e (suc k) =
+    first-fails cs (and-right (ltb 0 (c .0)) (positive cs) p) (first-none c cs (ltb-true 0 (c .0) (and-left (ltb 0 (c .0)) (positive cs) p)) e .1) k
+
+-- where a case of the first table holds, those of a second table after it do not matter
+pub first-append : (cs ds : Cases) → first cs is 0 ≡ false → first (cs ++ ds) ≡ first cs
+unfolding first
+first-append [] ds e = absurd (true≢false e)
+first-append (c ∷ cs) ds e = go (c .1) (first-append cs ds) e
+  where
+    go : (b : Bool) → (first cs is 0 ≡ false → first (cs ++ ds) ≡ first cs) → cond b (c .0) (first cs) is 0 ≡ false
+        → cond b (c .0) (first (cs ++ ds)) ≡ cond b (c .0) (first cs)
+    go true h q = refl
+    go false h q = h q
+
+-- where none does, in a table of numbers above 0, the second table decides
+pub first-append-none : (cs ds : Cases) → positive cs ≡ true → first cs ≡ 0 → first (cs ++ ds) ≡ first ds
+unfolding first positive
+first-append-none [] ds p e = refl
+first-append-none (c ∷ cs) ds p e =
+    let n = first-none c cs (ltb-true 0 (c .0) (and-left (ltb 0 (c .0)) (positive cs) p)) e in
+    rw (n .0) (first-append-none cs ds (and-right (ltb 0 (c .0)) (positive cs) p) (n .1))
 
 -- the test of the case that a table has under the number n, false where it has none
 unfoldable pub caseOf : Cases → ℕ → Bool
 caseOf [] n = false
 caseOf (c ∷ cs) n = cond (eqb (c .0) n) (c .1) (caseOf cs n)
 
--- where every number is above 0 and no case is the first to hold, none holds
-pub first-zero : (cs : Cases) → allOf (map (λ c. ltb 0 (c .0)) cs) ≡ true → first cs ≡ 0 → (n : ℕ) → caseOf cs n ≡ false
-unfolding caseOf allOf
-first-zero [] a e n = refl
-first-zero (c ∷ cs) a e n =
-    let q = first-none c cs (ltb-true 0 (c .0) (and-left (ltb 0 (c .0)) _ a)) e in
-    go (eqb (c .0) n) (q .0) (first-zero cs (and-right (ltb 0 (c .0)) _ a) (q .1) n)
+-- such a table gives 0 only where the test of every number fails
+pub first-zero : (cs : Cases) → positive cs ≡ true → first cs ≡ 0 → (n : ℕ) → caseOf cs n ≡ false
+unfolding positive caseOf
+first-zero [] p e n = refl
+first-zero (c ∷ cs) p e n =
+    let q = first-none c cs (ltb-true 0 (c .0) (and-left (ltb 0 (c .0)) (positive cs) p)) e in
+    go (eqb (c .0) n) (q .0) (first-zero cs (and-right (ltb 0 (c .0)) (positive cs) p) (q .1) n)
   where
     go : (t : Bool) → c .1 ≡ false → caseOf cs n ≡ false → cond t (c .1) (caseOf cs n) ≡ false
     go true x y = x

@@ -2,8 +2,7 @@
 use mathlib.Core.Path.{_≡_, refl}
 use mathlib.Core.Bool.{false, not}
 use Prim.Native.Nat.{ℕ}
-use Rattle.lists.specs.Tests.{allOf}
-use Rattle.lists.proofs.TestLaws.{caseOf, first-zero}
+use Rattle.lists.proofs.TestLaws.{positive, caseOf, first-zero}
 use Rattle.records.specs.Numbers.{Malformed, Unknown, Taken, Closed, Unclassed, Misdated, Duplicate, Barred, NoRow, Untimely, LastDay, Full, Ceiling}
 use Rattle.rules.specs.Book.{Instruction, Book}
 use Rattle.rules.specs.Refusals.{wellFormed, unknown, taken, onClosed, unclassed, misdated, duplicate, barred, noRow, untimely, lastDay, full, ceiling, refusals, answerNumber}
@@ -24,7 +23,7 @@ pub record Accepted (b : Book) (e : Instruction) : Type 0 where
   pub low : ceiling b e ≡ false
 
 pub accepted : (b : Book) (e : Instruction) → answerNumber b e ≡ 0 → Accepted b e
-unfolding answerNumber refusals caseOf allOf
+unfolding answerNumber refusals caseOf positive
 accepted b e q =
     let fails : (n : ℕ) → caseOf (refusals b e) n ≡ false = first-zero (refusals b e) refl q in
     record {

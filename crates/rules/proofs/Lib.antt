@@ -4,6 +4,7 @@ pub mod SettlementStepsLaws
 pub mod SettlementAccountsLaws
 pub mod SoundnessLaws
 pub mod PostingLaws
+pub mod RefusalLaws
 pub mod Computing
 pub mod Examples
 pub mod StorableLaws

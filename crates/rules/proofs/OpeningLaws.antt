@@ -1,7 +1,7 @@
 -- Laws of opening: an opened book is sound, and so are its tables.
-use mathlib.Core.Path.{_≡_}
+use mathlib.Core.Path.{_≡_, refl}
 use mathlib.Core.Bool.{Bool, true, false, _&&_}
-use Prim.Native.Nat.{ℕ, zero, suc, _<_}
+use Prim.Native.Nat.{ℕ}
 use native.Mathlib.Omega.{arith}
 use mathlib.Core.List.{List}
 use lib.ListN.{length, getD, length-replicate}
@@ -11,7 +11,7 @@ use Rattle.records.specs.Layout.{openingWidth, firstDayPlace, openingSchedule}
 use Rattle.records.specs.Encoding.{word}
 use Rattle.lists.specs.Tests.{_is_, first, allOf}
 use Rattle.lists.specs.Lists.{sumBy, count, everyFrom}
-use Rattle.lists.proofs.TestLaws.{and-left, and-right, first-fails}
+use Rattle.lists.proofs.TestLaws.{and-left, and-right, positive, first-fails}
 use Rattle.lists.proofs.ListLaws.{every-replicate}
 use Rattle.rules.specs.Schedule.{Schedule, scheduleFits}
 use Rattle.rules.specs.Settlement.{money, debt, used, paid, owed}
@@ -43,13 +43,8 @@ opening-sound day s accounts room d f n =
 
 module _ (t : Tables) (w : List ℤ) (e : openCall t w .number ≡ 0) where
   refusals-fail : (k : ℕ) → getD (openingRefusals t w) k (1, false) .1 ≡ false
-  unfolding openCall openingRefusals
-  refusals-fail = first-fails (openingRefusals t w) (λ k h. positive k) e
-    where
-      positive : (k : ℕ) → 0 < getD (openingRefusals t w) k (1, false) .0
-      positive zero = omega arith
-      positive (suc zero) = omega arith
-      positive (suc (suc k)) = omega arith
+  unfolding openCall openingRefusals positive
+  refusals-fail = first-fails (openingRefusals t w) refl e
 
   abbrev width-part : Bool
   width-part = length w is openingWidth

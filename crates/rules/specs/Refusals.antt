@@ -2,7 +2,7 @@
 use mathlib.Core.Bool.{Bool, false, not, cond, _&&_, _||_}
 use Prim.Native.Nat.{ℕ, _+_}
 use mathlib.Core.List.{[], _∷_}
-use lib.ListN.{length, getD, drop}
+use lib.ListN.{length, getD, take, drop}
 use lib.Dec.{leb, ltb}
 use Rattle.records.specs.Numbers.{Malformed, Unknown, Taken, Closed, Unclassed, Misdated, Duplicate, Barred, NoRow, Untimely, LastDay, Full, Ceiling}
 use Rattle.records.specs.Codes.{MethodCheck, EventOpen, EventToll, EventPayment, EventReturnedCheck, EventDispute, EventDecision, EventTopupResult, EventCloseRequest, EventTick, MethodCard, Yes, ModeTag, ModePlate}
@@ -191,3 +191,15 @@ refusals b e =
 -- 0 where no refusal applies
 unfoldable pub answerNumber : Book → Instruction → ℕ
 answerNumber b e = first (refusals b e)
+
+-- how many of the refusals concern every kind alike: 2 to 5
+unfoldable pub sharedCount : ℕ
+sharedCount = 4
+
+-- the refusals that are decided before the event's kind is looked into further
+unfoldable pub sharedRefusals : Book → Instruction → Cases
+sharedRefusals b e = take sharedCount (refusals b e)
+
+-- the others, of which each kind has its own
+unfoldable pub ownRefusals : Book → Instruction → Cases
+ownRefusals b e = drop sharedCount (refusals b e)

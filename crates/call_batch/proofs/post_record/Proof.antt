@@ -1,35 +1,21 @@
--- `post_record` meets its contract: the event is posted by what the index has for it, its answer stands at its place, and the index is that
--- of the tables after it.
-use native.Mathlib.Omega.{arith}
-use mathlib.Core.Path.{_∙_}
-use Rattle.rules.proofs.TableLaws.{header-length}
-use Rattle.call_words.proofs.AnswerLaws.{answer-storable}
-use Rattle.batch_index.proofs.KeptLaws.{update-asked}
+-- `post_record` meets its contract: the event is posted, its answer stands at its place, and the index is that of the tables after it.
 use borrow.Author.Needs.{needs}
+use mathlib.Core.Path.{_∙_}
+use Rattle.call_words.proofs.AnswerLaws.{answer-storable}
 use Rattle.call_batch.proofs.post_record.Statement.{statement}
 use Rattle.call_batch.proofs.post_record.Tie as tie
 
 event-of-requires : tie.Need-event-of-requires
 event-of-requires c κs = search needs
 
-get-requires : tie.Need-get-requires
-get-requires c κs = omega (arith, header-length _ (c .before .before .pre .0))
-
-look-up-indexed-requires : tie.Need-look-up-indexed-requires
-look-up-indexed-requires c κs = search needs
-
-post-known-requires : tie.Need-post-known-requires
-post-known-requires c κs = search needs
-
-update-index-requires : tie.Need-update-index-requires
-update-index-requires c κs =
-    let s = c .before .before .before .before .before .before .before .before .before .before .before .before .before .before .before .before .before .before .before .before .before in
-    update-asked _ _ _ _ _ (c .before .before .before .before .before .before .before .before .before .before .before .before .before .before .before .before .before .before .get .ensures) (s .pre .0) (c .before .before .before .before .before .before .before .before .post-known .ensures) _ _ (s .pre .2)
+post-indexed-requires : tie.Need-post-indexed-requires
+post-indexed-requires c κs = search needs
 
 write-answer-requires : tie.Need-write-answer-requires
 write-answer-requires c κs =
-    let s = c .before .before .before .before .before .before .before .before .before .before .before .before .before .before .before .before .before .before .before .before .before .before .before in
-    (s .pre .1, answer-storable _ (s .pre .0) _ _ (c .before .before .before .before .before .before .before .before .before .before .post-known .ensures .answer))
+    let p = c .before .before .before .before in
+    let a = p .before .before .before .before .before .before .before in
+    (a .pre .1, answer-storable _ (a .pre .0) _ _ (p .post-indexed .ensures .0 .answer))
 
 same-length : tie.Need-same-length
 same-length c = search needs
@@ -45,18 +31,16 @@ same-length-4 c = search needs
 
 returns : tie.Need-returns
 returns c =
-    let p = rw (c .before .before .before .before .before .before .before .before .before .before .before .before .before .before .before .before .before .before .before .before .before .before .before .before .event-of .ensures) at (c .before .before .before .before .before .before .before .before .before .before .before .before .post-known .ensures) in
-    (record { tables = p .tables; answers = c .before .write-answer .ensures ∙ rw (p .answer) }, c .before .before .before .update-index .ensures)
+    let p = c .before .before .before .before .before .before in
+    let q = rw (p .before .before .before .event-of .ensures) at (p .post-indexed .ensures .0) in
+    (record { tables = q .tables; answers = c .before .write-answer .ensures ∙ rw (q .answer) }, p .post-indexed .ensures .1)
 
 pub post-record-spec : {M : Type 1} → statement M
 post-record-spec =
     tie.close
     (tie.spec
     event-of-requires
-    get-requires
-    look-up-indexed-requires
-    post-known-requires
-    update-index-requires
+    post-indexed-requires
     write-answer-requires
     same-length
     same-length-2

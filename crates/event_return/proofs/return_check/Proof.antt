@@ -6,7 +6,7 @@ use mathlib.Core.Path.{sym, _∙_}
 use Rattle.rules.proofs.TableLaws.{header-length}
 use Rattle.posting.proofs.BookLaws.{used-small}
 use Rattle.posting_laws.proofs.AddedLaws.{posts-refused}
-use Rattle.event_return.proofs.ReturnLaws.{charge-le, return-counts, counted-read, return-marks, marked-read, amount-read, reversal-read, reversal-storable, reversal-room, fee-read, fee-storable, fee-room, return-settles, return-begins, header-size, return-size, return-posts}
+use Rattle.event_return.proofs.ReturnLaws.{charge-le, return-counts, return-marks, marked-read, amount-read, reversal-read, reversal-storable, reversal-room, fee-read, fee-storable, fee-room, return-settles, return-begins, header-size, return-size, return-posts}
 use Rattle.event_return.proofs.return_check.Statement.{statement}
 use Rattle.event_return.proofs.return_check.Tie as tie
 
@@ -38,7 +38,7 @@ count-return-requires c κs =
     let s = c .before .before .before .before .before .before .before .before .pre .0 in
     let k = c .before .before .before .before .before .before .before .before .pre .1 in
     let q = sym (c .before .before .before .if1 .left) ∙ c .before .before .before .before .return-refusal .ensures in
-    return-counts _ s _ k q
+    rw (c .before .before .before .before .before .before .before .before .pre .4) (return-counts _ s _ k q)
 
 mark-returned-requires : tie.Need-mark-returned-requires
 mark-returned-requires c κs =
@@ -134,7 +134,7 @@ returns-2 c =
     let m = marked-read _ s _ k q _ _ _ u d in
     let w = rw (reversal-read _ s _ k q _ (amount-read _ s _ k q _ _ _ u d)) at (c .before .before .before .before .before .before .before .before .before .before .before .before .add-naming .ensures) in
     let v = rw (fee-read _ s _ k q _ m _ _ w) at (c .before .before .before .before .before .before .add-naming2 .ensures) in
-    let a = counted-read _ s _ k q _ (c .before .before .before .before .before .before .before .before .before .before .before .before .before .before .before .before .before .before .before .count-return .ensures) in
+    let a = rw (c .before .before .before .before .before .before .before .before .before .before .before .before .before .before .before .before .before .before .before .before .before .before .before .before .before .before .before .before .pre .4) at (c .before .before .before .before .before .before .before .before .before .before .before .before .before .before .before .before .before .before .before .count-return .ensures) in
     let z = rw u at (c .before .before .settle-from .ensures) in
     rw (c .posted .ensures, u) (return-posts _ s _ k q _ m _ _ w _ _ v _ _ a z)
 

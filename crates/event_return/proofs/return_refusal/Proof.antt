@@ -1,12 +1,11 @@
 -- `return_refusal` meets its contract: each way through the tests is a case of the table.
-use borrow.Author.Needs.{needs}
-use borrow.Author.Tests.{eq-eqb, ne-eqb, not-true, not-false}
+use borrow.Author.Tests.{eq-eqb, ne-eqb}
 use native.Mathlib.Omega.{arith}
-use mathlib.Core.Path.{refl, sym, _∙_}
+use mathlib.Core.Path.{refl}
 use mathlib.Core.Bool.{true, false}
 use Rattle.lists.specs.Tests.{first}
 use Rattle.rules.proofs.TableLaws.{header-length}
-use Rattle.posting.proofs.BookLaws.{account-read, used-small, used-room}
+use Rattle.posting.proofs.BookLaws.{used-small, used-room}
 use Rattle.posting_laws.proofs.RefusalLaws.{rows-lack, rows-suffice}
 use Rattle.posting_laws.proofs.PutRowLaws.{row-read-by}
 use Rattle.event_return.proofs.ReturnLaws.{answer-by}
@@ -16,83 +15,55 @@ use Rattle.event_return.proofs.return_refusal.Tie as tie
 get-requires : tie.Need-get-requires
 get-requires c κs = omega (arith, header-length _ (c .pre .0))
 
-return-form-requires : tie.Need-return-form-requires
-return-form-requires c κs = search needs
+row-numbered-requires : tie.Need-row-numbered-requires
+row-numbered-requires c κs = rw (c .get .ensures) (used-room _ (c .before .pre .0))
 
 returns : tie.Need-returns
 unfolding first
-returns c = answer-by _ _ (c .before .before .before .pre .1) false _ _ _ _ (sym (c .before .return-form .ensures) ∙ not-true _ (c .if1 .taken)) refl refl refl refl
-
-account-numbered-requires : tie.Need-account-numbered-requires
-account-numbered-requires c κs = search needs
+returns c =
+    let n = c .before .before .before .before in
+    let a = n .before .before in
+    let r = row-read-by _ (a .pre .0) _ (a .args .e .a) _ (n .before .get .ensures) (n .row-numbered .ensures) in
+    answer-by _ _ (a .pre .1) (a .pre .2) true _ _ (rw (← r) (c .if1 .taken)) refl refl
 
 returns-2 : tie.Need-returns-2
 unfolding first
 returns-2 c =
-    let s = c .before .before .before .before .before .before .pre .0 in
-    let x = c .before .before .account-numbered .ensures ∙ account-read _ s (c .before .before .before .before .before .before .args .e .account) in
-    answer-by _ _ (c .before .before .before .before .before .before .pre .1) true true _ _ _ (sym (c .before .before .before .before .return-form .ensures) ∙ not-false _ (c .before .before .before .if1 .left)) (rw (← x) (eq-eqb _ _ (c .if2 .taken))) refl refl refl
+    let i = c .before .before in
+    let n = i .before .before .before .before in
+    let a = n .before .before in
+    let r = row-read-by _ (a .pre .0) _ (a .args .e .a) _ (n .before .get .ensures) (n .row-numbered .ensures) in
+    answer-by _ _ (a .pre .1) (a .pre .2) false true _ (rw (← r) (i .if1 .left)) (rw (← r, ne-eqb _ _ (c .if2 .taken))) refl
 
-row-numbered-requires : tie.Need-row-numbered-requires
-row-numbered-requires c κs = rw (c .before .before .before .before .before .get .ensures) (used-room _ (c .before .before .before .before .before .before .pre .0))
+add-if3 : tie.Need-add-if3
+add-if3 c =
+    let n = c .before .before .before .before .before .before in
+    let u = n .before .get .ensures in
+    omega (arith, used-small _ (n .before .before .pre .0))
 
 returns-3 : tie.Need-returns-3
 unfolding first
 returns-3 c =
-    let s = c .before .before .before .before .before .before .before .before .before .before .before .pre .0 in
-    let x = c .before .before .before .before .before .before .before .account-numbered .ensures ∙ account-read _ s (c .before .before .before .before .before .before .before .before .before .before .before .args .e .account) in
-    let r = row-read-by _ s _ (c .before .before .before .before .before .before .before .before .before .before .before .args .e .a) _ (c .before .before .before .before .before .before .before .before .before .before .get .ensures) (c .before .before .before .before .row-numbered .ensures) in
-    answer-by _ _ (c .before .before .before .before .before .before .before .before .before .before .before .pre .1) true false true _ _ (sym (c .before .before .before .before .before .before .before .before .before .return-form .ensures) ∙ not-false _ (c .before .before .before .before .before .before .before .before .if1 .left)) (rw (← x) (ne-eqb _ _ (c .before .before .before .before .before .if2 .left)))
-    (rw (← r) (c .if3 .taken)) refl refl
+    let m = c .before in
+    let i = m .before .before in
+    let n = i .before .before .before .before in
+    let a = n .before .before in
+    let u = n .before .get .ensures in
+    let r = row-read-by _ (a .pre .0) _ (a .args .e .a) _ u (n .row-numbered .ensures) in
+    answer-by _ _ (a .pre .1) (a .pre .2) false false true (rw (← r) (i .if1 .left)) (rw (← r, eq-eqb _ _ (m .if2 .left)))
+    (rows-lack _ (a .pre .0) 2 (omega (arith, c .if3 .taken)))
 
 returns-4 : tie.Need-returns-4
 unfolding first
 returns-4 c =
-    let s = c .before .before .before .before .before .before .before .before .before .before .before .before .before .pre .0 in
-    let x = c .before .before .before .before .before .before .before .before .before .account-numbered .ensures ∙ account-read _ s (c .before .before .before .before .before .before .before .before .before .before .before .before .before .args .e .account) in
-    let r = row-read-by _ s _ (c .before .before .before .before .before .before .before .before .before .before .before .before .before .args .e .a) _ (c .before .before .before .before .before .before .before .before .before .before .before .before .get .ensures) (c .before .before .before .before .before .before .row-numbered .ensures) in
-    answer-by _ _ (c .before .before .before .before .before .before .before .before .before .before .before .before .before .pre .1) true false false true _ (sym (c .before .before .before .before .before .before .before .before .before .before .before .return-form .ensures) ∙ not-false _ (c .before .before .before .before .before .before .before .before .before .before .if1 .left)) (rw (← x) (ne-eqb _ _ (c .before .before .before .before .before .before .before .if2 .left)))
-    (rw (← r) (c .before .before .if3 .left)) (rw (← r, ne-eqb _ _ (c .if4 .taken))) refl
-
-add-if5 : tie.Need-add-if5
-add-if5 c =
-    let u = c .before .before .before .before .before .before .before .before .before .before .before .before .get .ensures in
-    omega (arith, used-small _ (c .before .before .before .before .before .before .before .before .before .before .before .before .before .pre .0))
-
-returns-5 : tie.Need-returns-5
-unfolding first
-returns-5 c =
-    let s = c .before .before .before .before .before .before .before .before .before .before .before .before .before .before .pre .0 in
-    let x = c .before .before .before .before .before .before .before .before .before .before .account-numbered .ensures ∙ account-read _ s (c .before .before .before .before .before .before .before .before .before .before .before .before .before .before .args .e .account) in
-    let r = row-read-by _ s _ (c .before .before .before .before .before .before .before .before .before .before .before .before .before .before .args .e .a) _ (c .before .before .before .before .before .before .before .before .before .before .before .before .before .get .ensures) (c .before .before .before .before .before .before .before .row-numbered .ensures) in
-    let u = c .before .before .before .before .before .before .before .before .before .before .before .before .before .get .ensures in
-    answer-by _ _ (c .before .before .before .before .before .before .before .before .before .before .before .before .before .before .pre .1) true false false false true (sym (c .before .before .before .before .before .before .before .before .before .before .before .before .return-form .ensures) ∙ not-false _ (c .before .before .before .before .before .before .before .before .before .before .before .if1 .left)) (rw (← x) (ne-eqb _ _ (c .before .before .before .before .before .before .before .before .if2 .left)))
-    (rw (← r) (c .before .before .before .if3 .left)) (rw (← r, eq-eqb _ _ (c .before .if4 .left)))
-    (rows-lack _ s 2 (omega (arith, c .if5 .taken)))
-
-returns-6 : tie.Need-returns-6
-unfolding first
-returns-6 c =
-    let s = c .before .before .before .before .before .before .before .before .before .before .before .before .before .before .pre .0 in
-    let x = c .before .before .before .before .before .before .before .before .before .before .account-numbered .ensures ∙ account-read _ s (c .before .before .before .before .before .before .before .before .before .before .before .before .before .before .args .e .account) in
-    let r = row-read-by _ s _ (c .before .before .before .before .before .before .before .before .before .before .before .before .before .before .args .e .a) _ (c .before .before .before .before .before .before .before .before .before .before .before .before .before .get .ensures) (c .before .before .before .before .before .before .before .row-numbered .ensures) in
-    let u = c .before .before .before .before .before .before .before .before .before .before .before .before .before .get .ensures in
-    answer-by _ _ (c .before .before .before .before .before .before .before .before .before .before .before .before .before .before .pre .1) true false false false false (sym (c .before .before .before .before .before .before .before .before .before .before .before .before .return-form .ensures) ∙ not-false _ (c .before .before .before .before .before .before .before .before .before .before .before .if1 .left)) (rw (← x) (ne-eqb _ _ (c .before .before .before .before .before .before .before .before .if2 .left)))
-    (rw (← r) (c .before .before .before .if3 .left)) (rw (← r, eq-eqb _ _ (c .before .if4 .left)))
-    (rows-suffice _ s 2 (omega (arith, c .if5 .left)))
+    let m = c .before in
+    let i = m .before .before in
+    let n = i .before .before .before .before in
+    let a = n .before .before in
+    let u = n .before .get .ensures in
+    let r = row-read-by _ (a .pre .0) _ (a .args .e .a) _ u (n .row-numbered .ensures) in
+    answer-by _ _ (a .pre .1) (a .pre .2) false false false (rw (← r) (i .if1 .left)) (rw (← r, eq-eqb _ _ (m .if2 .left)))
+    (rows-suffice _ (a .pre .0) 2 (omega (arith, c .if3 .left)))
 
 pub return-refusal-spec : {M : Type 1} → statement M
-return-refusal-spec =
-    tie.close
-    (tie.spec
-    get-requires
-    return-form-requires
-    returns
-    account-numbered-requires
-    returns-2
-    row-numbered-requires
-    returns-3
-    returns-4
-    add-if5
-    returns-5
-    returns-6)
+return-refusal-spec = tie.close (tie.spec get-requires row-numbered-requires returns returns-2 add-if3 returns-3 returns-4)

@@ -1,7 +1,7 @@
 -- `judge_tick` meets its contract: each way through the tests is a case of the table.
 use native.Mathlib.Omega.{arith}
 use mathlib.Core.Path.{refl, sym, _∙_}
-use borrow.Author.Tests.{eq-eqb, ne-eqb, not-true, not-false}
+use borrow.Author.Tests.{eq-eqb, ne-eqb}
 use mathlib.Core.Bool.{true, false}
 use Rattle.lists.specs.Tests.{first}
 use Rattle.rules.proofs.TableLaws.{header-length, sound-book}
@@ -11,8 +11,8 @@ use borrow.Author.Needs.{needs}
 use Rattle.event_tick.proofs.judge_tick.Statement.{statement}
 use Rattle.event_tick.proofs.judge_tick.Tie as tie
 
-tick-form-requires : tie.Need-tick-form-requires
-tick-form-requires c κs = search needs
+get-requires : tie.Need-get-requires
+get-requires c κs = omega (arith, header-length _ (c .pre .0))
 
 unplanned-requires : tie.Need-unplanned-requires
 unplanned-requires c κs = search needs
@@ -20,12 +20,23 @@ unplanned-requires c κs = search needs
 returns : tie.Need-returns
 unfolding first
 returns c =
-    let f = c .before .before in
-    judged-refused _ _ _ 2 (omega arith) (c .unplanned .ensures)
-    (tick-by _ _ (sound-book _ (f .before .pre .0)) (f .before .pre .1) false _ _ (sym (f .tick-form .ensures) ∙ not-true _ (c .before .if1 .taken)) refl refl)
+    let g = c .before .before in
+    let a = g .before in
+    judged-refused _ _ _ 12 (omega arith) (c .unplanned .ensures)
+    (tick-by _ _ (sound-book _ (a .pre .0)) (a .pre .1) (a .pre .2) true _
+    (eq-eqb _ _ (sym (day-read _ (a .pre .0)) ∙ sym (g .get .ensures) ∙ c .before .if1 .taken)) refl)
 
-get-requires : tie.Need-get-requires
-get-requires c κs = omega (arith, header-length _ (c .before .before .pre .0))
+get-requires-2 : tie.Need-get-requires-2
+get-requires-2 c κs = omega (arith, header-length _ (c .before .before .pre .0))
+
+plan-tick-requires : tie.Need-plan-tick-requires
+plan-tick-requires c κs = search needs
+
+add-if2 : tie.Need-add-if2
+add-if2 c =
+    let p = c .before in
+    let u = p .before in
+    omega (arith, u .get2 .ensures, used-small _ (u .before .before .before .pre .0), p .plan-tick .ensures .few)
 
 unplanned-requires-2 : tie.Need-unplanned-requires-2
 unplanned-requires-2 c κs = search needs
@@ -33,69 +44,30 @@ unplanned-requires-2 c κs = search needs
 returns-2 : tie.Need-returns-2
 unfolding first
 returns-2 c =
-    let g = c .before .before in
-    let f = g .before .before in
-    let a = f .before in
-    judged-refused _ _ _ 12 (omega arith) (c .unplanned2 .ensures)
-    (tick-by _ _ (sound-book _ (a .pre .0)) (a .pre .1) true true _ (sym (f .tick-form .ensures) ∙ not-false _ (g .before .if1 .left))
-    (eq-eqb _ _ (sym (day-read _ (a .pre .0)) ∙ sym (g .get .ensures) ∙ c .before .if2 .taken)) refl)
-
-get-requires-2 : tie.Need-get-requires-2
-get-requires-2 c κs = omega (arith, header-length _ (c .before .before .before .before .pre .0))
-
-plan-tick-requires : tie.Need-plan-tick-requires
-plan-tick-requires c κs = search needs
-
-add-if3 : tie.Need-add-if3
-add-if3 c =
-    let p = c .before in
+    let p = c .before .before .before in
     let u = p .before in
-    omega (arith, u .get2 .ensures, used-small _ (u .before .before .before .before .before .pre .0), p .plan-tick .ensures .few)
-
-unplanned-requires-3 : tie.Need-unplanned-requires-3
-unplanned-requires-3 c κs = search needs
+    let g = u .before .before in
+    let a = g .before in
+    judged-refused _ _ _ 13 (omega arith) (c .unplanned2 .ensures)
+    (tick-by _ _ (sound-book _ (a .pre .0)) (a .pre .1) (a .pre .2) false true
+    (ne-eqb _ _ (λ z. u .before .if1 .left (g .get .ensures ∙ day-read _ (a .pre .0) ∙ z)))
+    (tick-lacks _ (a .pre .0) _ (p .plan-tick .ensures .added) (rw (u .get2 .ensures) at (c .before .if2 .taken))))
 
 returns-3 : tie.Need-returns-3
 unfolding first
 returns-3 c =
-    let p = c .before .before .before in
-    let u = p .before in
-    let g = u .before .before in
-    let f = g .before .before in
-    let a = f .before in
-    judged-refused _ _ _ 13 (omega arith) (c .unplanned3 .ensures)
-    (tick-by _ _ (sound-book _ (a .pre .0)) (a .pre .1) true false true (sym (f .tick-form .ensures) ∙ not-false _ (g .before .if1 .left))
-    (ne-eqb _ _ (λ z. u .before .if2 .left (g .get .ensures ∙ day-read _ (a .pre .0) ∙ z)))
-    (tick-lacks _ (a .pre .0) _ (p .plan-tick .ensures .added) (rw (u .get2 .ensures) at (c .before .if3 .taken))))
-
-returns-4 : tie.Need-returns-4
-unfolding first
-returns-4 c =
     let p = c .before .before in
     let u = p .before in
     let g = u .before .before in
-    let f = g .before .before in
-    let a = f .before in
+    let a = g .before in
     record {
-      number = tick-by _ _ (sound-book _ (a .pre .0)) (a .pre .1) true false false (sym (f .tick-form .ensures) ∙ not-false _ (g .before .if1 .left))
-          (ne-eqb _ _ (λ z. u .before .if2 .left (g .get .ensures ∙ day-read _ (a .pre .0) ∙ z)))
-          (tick-fits _ (a .pre .0) _ (p .plan-tick .ensures .added) (omega (arith, u .get2 .ensures, c .if3 .left)));
+      number = tick-by _ _ (sound-book _ (a .pre .0)) (a .pre .1) (a .pre .2) false false
+          (ne-eqb _ _ (λ z. u .before .if1 .left (g .get .ensures ∙ day-read _ (a .pre .0) ∙ z)))
+          (tick-fits _ (a .pre .0) _ (p .plan-tick .ensures .added) (omega (arith, u .get2 .ensures, c .if2 .left)));
       plan = λ z. p .plan-tick .ensures;
     }
 
 pub judge-tick-spec : {M : Type 1} → statement M
 judge-tick-spec =
     tie.close
-    (tie.spec
-    tick-form-requires
-    unplanned-requires
-    returns
-    get-requires
-    unplanned-requires-2
-    returns-2
-    get-requires-2
-    plan-tick-requires
-    add-if3
-    unplanned-requires-3
-    returns-3
-    returns-4)
+    (tie.spec get-requires unplanned-requires returns get-requires-2 plan-tick-requires add-if2 unplanned-requires-2 returns-2 returns-3)

@@ -1,56 +1,97 @@
 -- `toll_refusal` meets its contract: each way through the tests is a case of the table.
 use borrow.Author.Needs.{needs}
-use borrow.Author.Tests.{eq-eqb, ne-eqb, not-true, not-false}
+use borrow.Author.Tests.{eq-eqb, ne-eqb}
+use native.Mathlib.Omega.{arith}
 use mathlib.Core.Path.{refl, sym, _∙_}
 use mathlib.Core.Bool.{true, false}
-use Rattle.rules.proofs.TableLaws.{header-length, sound-rows}
-use Rattle.posting.proofs.BookLaws.{account-read, used-room}
-use Rattle.event_toll.proofs.TollLaws.{answer-by, passage-read, day-within}
+use Rattle.lists.specs.Tests.{first}
+use Rattle.rules.proofs.TableLaws.{header-length}
+use Rattle.posting.proofs.BookLaws.{day-read}
+use Rattle.posting_laws.proofs.RefusalLaws.{rows-lack, rows-suffice}
+use Rattle.event_toll.proofs.TollLaws.{answer-by, day-within, toll-formed}
 use Rattle.event_toll.proofs.toll_refusal.Statement.{statement}
 use Rattle.event_toll.proofs.toll_refusal.Tie as tie
 
-toll-form-requires : tie.Need-toll-form-requires
-toll-form-requires c κs = search needs
+get-requires : tie.Need-get-requires
+get-requires c κs = omega (arith, header-length _ (c .pre .0))
+
+get-requires-2 : tie.Need-get-requires-2
+get-requires-2 c κs = omega (arith, header-length _ (c .before .pre .0))
+
+class-of-requires : tie.Need-class-of-requires
+class-of-requires c κs = search needs
 
 returns : tie.Need-returns
-returns c = answer-by _ _ (c .before .before .pre .1) false _ _ _ (sym (c .before .toll-form .ensures) ∙ not-true _ (c .if1 .taken)) refl refl refl
+unfolding first
+returns c =
+    let l = c .before in
+    let a = l .before .before .before in
+    answer-by _ _ (a .pre .1) (a .pre .3) true _ _ _ (rw (← l .class-of .ensures) (eq-eqb _ _ (c .if1 .taken))) refl refl refl
 
-account-numbered-requires : tie.Need-account-numbered-requires
-account-numbered-requires c κs = search needs
+add-if2 : tie.Need-add-if2
+add-if2 c =
+    let a = c .before .before .before .before .before .before in
+    omega (arith, day-within _ (toll-formed _ _ (a .pre .1) (a .pre .3)))
 
 returns-2 : tie.Need-returns-2
+unfolding first
 returns-2 c =
-    let s = c .before .before .before .before .before .pre .0 in
-    let x = c .before .before .account-numbered .ensures ∙ account-read _ s (c .before .before .before .before .before .args .e .account) in
-    answer-by _ _ (c .before .before .before .before .before .pre .1) true true _ _ (sym (c .before .before .before .before .toll-form .ensures) ∙ not-false _ (c .before .before .before .if1 .left)) (rw (← x) (eq-eqb _ _ (c .if2 .taken))) refl refl
+    let i = c .before .before .before in
+    let l = i .before in
+    let g = l .before .before in
+    let a = g .before in
+    answer-by _ _ (a .pre .1) (a .pre .3) false true _ _ (rw (← l .class-of .ensures) (ne-eqb _ _ (i .if1 .left)))
+    (rw (← day-read _ (a .pre .0), ← g .get .ensures) (c .if2 .taken)) refl refl
 
 returns-3 : tie.Need-returns-3
+unfolding first
 returns-3 c =
-    let s = c .before .before .before .before .before .before .before .pre .0 in
-    let x = c .before .before .before .before .account-numbered .ensures ∙ account-read _ s (c .before .before .before .before .before .before .before .args .e .account) in
-    answer-by _ _ (c .before .before .before .before .before .before .before .pre .1) true false true _ (sym (c .before .before .before .before .before .before .toll-form .ensures) ∙ not-false _ (c .before .before .before .before .before .if1 .left))
-    (rw (← x) (ne-eqb _ _ (c .before .before .if2 .left))) (rw (← x) (eq-eqb _ _ (c .if3 .taken))) refl
-
-passage-refusal-requires : tie.Need-passage-refusal-requires
-passage-refusal-requires c κs =
-    let s = c .before .before .before .before .before .before .before .pre .0 in
-    (header-length _ s, used-room _ s, day-within _ (sym (c .before .before .before .before .before .before .toll-form .ensures) ∙ not-false _ (c .before .before .before .before .before .if1 .left)), rw (← sound-rows _ s) (c .before .before .before .before .before .before .before .pre .2 .duplicate (c .before .before .before .before .before .before .before .pre .1)))
+    let d = c .before in
+    let i = d .before .before .before in
+    let l = i .before in
+    let g = l .before .before in
+    let a = g .before in
+    answer-by _ _ (a .pre .1) (a .pre .3) false false true _ (rw (← l .class-of .ensures) (ne-eqb _ _ (i .if1 .left)))
+    (rw (← day-read _ (a .pre .0), ← g .get .ensures) (d .if2 .left)) (sym (a .pre .2 .duplicate (a .pre .1)) ∙ c .if3 .taken) refl
 
 returns-4 : tie.Need-returns-4
+unfolding first
 returns-4 c =
-    let s = c .before .before .before .before .before .before .before .before .pre .0 in
-    let x = c .before .before .before .before .before .account-numbered .ensures ∙ account-read _ s (c .before .before .before .before .before .before .before .before .args .e .account) in
-    answer-by _ _ (c .before .before .before .before .before .before .before .before .pre .1) true false false _ (sym (c .before .before .before .before .before .before .before .toll-form .ensures) ∙ not-false _ (c .before .before .before .before .before .before .if1 .left))
-    (rw (← x) (ne-eqb _ _ (c .before .before .before .if2 .left))) (rw (← x) (ne-eqb _ _ (c .before .if3 .left))) (c .passage-refusal .ensures ∙ passage-read _ s _)
+    let s = c .before in
+    let d = s .before in
+    let i = d .before .before .before in
+    let l = i .before in
+    let g = l .before .before in
+    let a = g .before in
+    let u = l .before .get2 .ensures in
+    answer-by _ _ (a .pre .1) (a .pre .3) false false false true (rw (← l .class-of .ensures) (ne-eqb _ _ (i .if1 .left)))
+    (rw (← day-read _ (a .pre .0), ← g .get .ensures) (d .if2 .left)) (sym (a .pre .2 .duplicate (a .pre .1)) ∙ s .if3 .left)
+    (rows-lack _ (a .pre .0) 1 (omega (arith, c .if4 .taken)))
+
+returns-5 : tie.Need-returns-5
+unfolding first
+returns-5 c =
+    let s = c .before in
+    let d = s .before in
+    let i = d .before .before .before in
+    let l = i .before in
+    let g = l .before .before in
+    let a = g .before in
+    let u = l .before .get2 .ensures in
+    answer-by _ _ (a .pre .1) (a .pre .3) false false false false (rw (← l .class-of .ensures) (ne-eqb _ _ (i .if1 .left)))
+    (rw (← day-read _ (a .pre .0), ← g .get .ensures) (d .if2 .left)) (sym (a .pre .2 .duplicate (a .pre .1)) ∙ s .if3 .left)
+    (rows-suffice _ (a .pre .0) 1 (omega (arith, c .if4 .left)))
 
 pub toll-refusal-spec : {M : Type 1} → statement M
 toll-refusal-spec =
     tie.close
     (tie.spec
-    toll-form-requires
+    get-requires
+    get-requires-2
+    class-of-requires
     returns
-    account-numbered-requires
+    add-if2
     returns-2
     returns-3
-    passage-refusal-requires
-    returns-4)
+    returns-4
+    returns-5)

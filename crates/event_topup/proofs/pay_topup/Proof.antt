@@ -3,7 +3,7 @@ use borrow.Author.Needs.{needs}
 use native.Mathlib.Omega.{arith}
 use mathlib.Core.Path.{refl}
 use Rattle.rules.proofs.TableLaws.{header-length, journal-length}
-use Rattle.posting.proofs.BookLaws.{account-read, day-read, count-read, used-small}
+use Rattle.posting.proofs.BookLaws.{day-read, count-read, used-small}
 use Rattle.event_lookups.proofs.LastSourceLaws.{begun-last}
 use Rattle.posting_laws.proofs.AddedLaws.{added-journal}
 use Rattle.event_topup.proofs.PaidLaws.{paid-inside, paid-in, paid-fits, paid-row-storable, paid-account-storable, paid-posts}
@@ -13,26 +13,22 @@ use Rattle.event_topup.proofs.pay_topup.Tie as tie
 get-requires : tie.Need-get-requires
 get-requires c κs = omega (arith, header-length _ (c .before .pre .0 .sound))
 
-account-numbered-requires : tie.Need-account-numbered-requires
-account-numbered-requires c κs = search needs
-
 pay-topup-requires : tie.Need-pay-topup-requires
 pay-topup-requires c κs = search needs
 
 sub-write-account : tie.Need-sub-write-account
-sub-write-account c = paid-inside _ _ (c .before .before .before .before .before .before .before .pre .0) .0
+sub-write-account c = paid-inside _ _ (c .before .before .before .before .before .pre .0) .0
 
 write-account-requires : tie.Need-write-account-requires
 write-account-requires c κs =
     let y = c .before .before in
-    let x = y .before in
-    let a = x .before .before .before .before in (
+    let a = y .before .before .before in (
       paid-in _ _ (a .pre .0),
-      rw (y .pay-topup .ensures, x .account-numbered .ensures, account-read _ (a .pre .0 .sound) (a .args .e .account)) (paid-account-storable _ (a .args .e) (a .pre .0)),
+      rw (y .pay-topup .ensures, a .pre .2) (paid-account-storable _ (a .args .e) (a .pre .0)),
     )
 
 get-requires-2 : tie.Need-get-requires-2
-get-requires-2 c κs = omega (arith, header-length _ (c .before .before .before .before .before .before .before .before .before .before .pre .0 .sound))
+get-requires-2 c κs = omega (arith, header-length _ (c .before .before .before .before .before .before .before .before .pre .0 .sound))
 
 new-row-requires : tie.Need-new-row-requires
 new-row-requires c κs = search needs
@@ -41,34 +37,32 @@ add-row-requires : tie.Need-add-row-requires
 add-row-requires c κs =
     let r = c .before .before in
     let d = r .before in
-    let x = d .before .before .before .before .before .before .before in
-    let a = x .before .before .before .before in
+    let a = d .before .before .before .before .before .before .before .before .before in
     let s = a .pre .0 .sound in (
       record { header = header-length _ s; room = omega (arith, paid-fits _ _ (a .pre .0), journal-length _ s) },
-      rw (r .new-row .ensures, d .get2 .ensures, day-read _ s, x .account-numbered .ensures, account-read _ s (a .args .e .account)) (paid-row-storable _ (a .args .e) (a .pre .0)),
+      rw (r .new-row .ensures, d .get2 .ensures, day-read _ s, a .pre .2) (paid-row-storable _ (a .args .e) (a .pre .0)),
     )
 
 add-settle-from : tie.Need-add-settle-from
 add-settle-from c =
-    let u = c .before .before .before .before .before .before .before .before .before .before .before .before .before .before .before .before .get .ensures in
-    omega (arith, used-small _ (c .before .before .before .before .before .before .before .before .before .before .before .before .before .before .before .before .before .before .pre .0 .sound))
+    let u = c .before .before .before .before .before .before .before .before .before .before .before .before .before .before .get .ensures in
+    omega (arith, used-small _ (c .before .before .before .before .before .before .before .before .before .before .before .before .before .before .before .before .pre .0 .sound))
 
 settle-from-requires : tie.Need-settle-from-requires
 settle-from-requires c κs =
     let w = c .before .before .before in
     let r = w .before .before .before in
     let d = r .before in
-    let x = d .before .before .before .before .before .before .before in
-    let g = x .before .before in
+    let g = d .before .before .before .before .before .before .before in
     let a = g .before .before in
     let s = a .pre .0 .sound in
-    let e = rw (r .new-row .ensures, d .get2 .ensures, day-read _ s, x .account-numbered .ensures, account-read _ s (a .args .e .account)) at (w .add-row .ensures) in
+    let e = rw (r .new-row .ensures, d .get2 .ensures, day-read _ s, a .pre .2) at (w .add-row .ensures) in
     rw (g .get .ensures) (added-journal _ s _ _ _ e (paid-fits _ _ (a .pre .0)) (paid-row-storable _ _ (a .pre .0) .amount), begun-last _ s _ _ _ _ _ (a .pre .1) e (paid-inside _ _ (a .pre .0) .0) (rw (← count-read _ s) (paid-inside _ _ (a .pre .0) .1)) refl)
 
 posted-requires : tie.Need-posted-requires
 posted-requires c κs =
-    let u = c .before .before .before .before .before .before .before .before .before .before .before .before .before .before .before .before .before .before .get .ensures in
-    omega (arith, used-small _ (c .before .before .before .before .before .before .before .before .before .before .before .before .before .before .before .before .before .before .before .before .pre .0 .sound))
+    let u = c .before .before .before .before .before .before .before .before .before .before .before .before .before .before .before .before .get .ensures in
+    omega (arith, used-small _ (c .before .before .before .before .before .before .before .before .before .before .before .before .before .before .before .before .before .before .pre .0 .sound))
 
 same-length : tie.Need-same-length
 same-length c = search needs
@@ -87,13 +81,11 @@ returns c =
     let d = r .before in
     let v = d .before .before .before in
     let y = v .before .before .before in
-    let x = y .before in
-    let g = x .before .before in
+    let g = y .before in
     let a = g .before .before in
     let s = a .pre .0 .sound in
-    let m = account-read _ s (a .args .e .account) in
-    let changed = rw (y .pay-topup .ensures, x .account-numbered .ensures, m) at (v .write-account .ensures) in
-    let added = rw (r .new-row .ensures, d .get2 .ensures, day-read _ s, x .account-numbered .ensures, m) at (w .add-row .ensures) in
+    let changed = rw (y .pay-topup .ensures, a .pre .2) at (v .write-account .ensures) in
+    let added = rw (r .new-row .ensures, d .get2 .ensures, day-read _ s, a .pre .2) at (w .add-row .ensures) in
     let settled = rw (g .get .ensures) at (z .settle-from .ensures) in
     rw (c .posted .ensures, g .get .ensures) (paid-posts _ _ (a .pre .0) _ _ _ _ changed added settled)
 
@@ -102,7 +94,6 @@ pay-topup-spec =
     tie.close
     (tie.spec
     get-requires
-    account-numbered-requires
     pay-topup-requires
     sub-write-account
     write-account-requires

@@ -4,7 +4,7 @@ use borrow.Author.Tests.{ne-eqb}
 use native.Mathlib.Omega.{arith}
 use mathlib.Core.Path.{sym, _∙_}
 use Rattle.rules.proofs.TableLaws.{header-length}
-use Rattle.posting.proofs.BookLaws.{account-read, day-read, used-small}
+use Rattle.posting.proofs.BookLaws.{day-read, used-small}
 use Rattle.posting_laws.proofs.AddedLaws.{posts-refused}
 use Rattle.posting_laws.proofs.AccountEventLaws.{named-inside, named-in}
 use Rattle.event_topup.proofs.DeclinedLaws.{declined-storable, declined-posts}
@@ -39,7 +39,7 @@ pay-topup-requires c κs =
     let i = p .before .before in
     let n = i .before in
     let a = n .before .before .before .before in
-    (record { sound = a .pre .0; kind = a .pre .1; accepted = sym (i .if1 .left) ∙ n .result-refusal .ensures; paid = p .if2 .taken }, a .pre .2)
+    (record { sound = a .pre .0; kind = a .pre .1; accepted = sym (i .if1 .left) ∙ n .result-refusal .ensures; paid = p .if2 .taken }, a .pre .2, a .pre .4)
 
 same-length-4 : tie.Need-same-length-4
 same-length-4 c = search needs
@@ -53,18 +53,15 @@ same-length-6 c = search needs
 returns-2 : tie.Need-returns-2
 returns-2 c = search needs
 
-account-numbered-requires : tie.Need-account-numbered-requires
-account-numbered-requires c κs = search needs
-
 get-requires : tie.Need-get-requires
-get-requires c κs = omega (arith, header-length _ (c .before .before .before .before .before .before .before .before .before .before .pre .0))
+get-requires c κs = omega (arith, header-length _ (c .before .before .before .before .before .before .before .before .pre .0))
 
 decline-requires : tie.Need-decline-requires
 decline-requires c κs = search needs
 
 sub-write-account : tie.Need-sub-write-account
 sub-write-account c =
-    let p = c .before .before .before .before .before .before .before in
+    let p = c .before .before .before .before .before in
     let i = p .before .before in
     let n = i .before in
     let a = n .before .before .before .before in
@@ -74,17 +71,16 @@ write-account-requires : tie.Need-write-account-requires
 write-account-requires c κs =
     let y = c .before .before in
     let g = y .before in
-    let x = g .before .before in
-    let i = x .before .before .before .before in
+    let i = g .before .before .before .before in
     let n = i .before in
     let a = n .before .before .before .before in
     let s = a .pre .0 in (
       named-in _ s _ (rw (a .pre .1)) (sym (i .if1 .left) ∙ n .result-refusal .ensures),
-      rw (y .decline .ensures, g .get .ensures, x .account-numbered .ensures, account-read _ s (a .args .e .account), day-read _ s) (declined-storable _ s (a .args .e)),
+      rw (y .decline .ensures, g .get .ensures, a .pre .4, day-read _ s) (declined-storable _ s (a .args .e)),
     )
 
 get-requires-2 : tie.Need-get-requires-2
-get-requires-2 c κs = omega (arith, header-length _ (c .before .before .before .before .before .before .before .before .before .before .before .before .before .before .before .before .before .pre .0))
+get-requires-2 c κs = omega (arith, header-length _ (c .before .before .before .before .before .before .before .before .before .before .before .before .before .before .before .pre .0))
 
 removed-by-decline-requires : tie.Need-removed-by-decline-requires
 removed-by-decline-requires c κs = search needs
@@ -92,7 +88,7 @@ removed-by-decline-requires c κs = search needs
 posted-requires : tie.Need-posted-requires
 posted-requires c κs =
     let u = c .before .get2 .ensures in
-    omega (arith, used-small _ (c .before .before .before .before .before .before .before .before .before .before .before .before .before .before .before .before .before .before .before .pre .0))
+    omega (arith, used-small _ (c .before .before .before .before .before .before .before .before .before .before .before .before .before .before .before .before .before .pre .0))
 
 same-length-7 : tie.Need-same-length-7
 same-length-7 c = search needs
@@ -109,15 +105,13 @@ returns-3 c =
     let w = o .before .before .before .before in
     let y = w .before .before .before in
     let g = y .before in
-    let x = g .before .before in
-    let p = x .before .before in
+    let p = g .before .before in
     let i = p .before .before in
     let n = i .before in
     let a = n .before .before .before .before in
     let s = a .pre .0 in
-    let m = account-read _ s (a .args .e .account) in
-    let changed = rw (y .decline .ensures, g .get .ensures, x .account-numbered .ensures, m, day-read _ s) at (w .write-account .ensures) in
-    rw (c .posted .ensures, o .removed-by-decline .ensures, x .account-numbered .ensures, m)
+    let changed = rw (y .decline .ensures, g .get .ensures, a .pre .4, day-read _ s) at (w .write-account .ensures) in
+    rw (c .posted .ensures, o .removed-by-decline .ensures, a .pre .4)
     (declined-posts _ s _ (a .pre .1) (sym (i .if1 .left) ∙ n .result-refusal .ensures) (p .if2 .left) _ changed)
 
 pub topup-result-spec : {M : Type 1} → statement M
@@ -135,7 +129,6 @@ topup-result-spec =
     same-length-5
     same-length-6
     returns-2
-    account-numbered-requires
     get-requires
     decline-requires
     sub-write-account

@@ -1,10 +1,11 @@
--- `post_known` meets its contract: each kind has its function, and another is malformed.
-use mathlib.Core.Path.{refl}
-use Rattle.posting_laws.proofs.AddedLaws.{posts-refused}
-use Rattle.events.proofs.KindLaws.{other-kind}
+-- `post_admitted` meets its contract: each kind has its function, and another is not admitted.
+use mathlib.Core.Path.{refl, sym, _∙_}
+use mathlib.Core.Bool.{true≢false}
+use Rattle.rules.proofs.RefusalLaws.{shared-formed}
+use Rattle.event_forms.proofs.KindLaws.{no-form, wellFormed-of}
 use borrow.Author.Needs.{needs}
-use Rattle.events.proofs.post_known.Statement.{statement}
-use Rattle.events.proofs.post_known.Tie as tie
+use Rattle.events.proofs.post_admitted.Statement.{statement}
+use Rattle.events.proofs.post_admitted.Tie as tie
 
 open-account-requires : tie.Need-open-account-requires
 open-account-requires c κs = search needs
@@ -146,11 +147,13 @@ returns-9 c = search needs
 
 returns-10 : tie.Need-returns-10
 returns-10 c =
-    rw (c .refused .ensures)
-    (posts-refused _ (c .before .before .pre .0) _ 2 (other-kind _ _ (c .before .match .rest .0 .0 .0 .0 .0 .0 .0 .0 .1) (c .before .match .rest .0 .0 .0 .0 .0 .0 .0 .1) (c .before .match .rest .0 .0 .0 .0 .0 .0 .1) (c .before .match .rest .0 .0 .0 .0 .0 .1) (c .before .match .rest .0 .0 .0 .0 .1) (c .before .match .rest .0 .0 .0 .1) (c .before .match .rest .0 .0 .1) (c .before .match .rest .0 .1) (c .before .match .rest .1)) refl)
+    let r = c .before .match .rest in
+    let formed = shared-formed _ _ (c .before .before .pre .2) in
+    let none = no-form _ _ (r .0 .0 .0 .0 .0 .0 .0 .0 .1) (r .0 .0 .0 .0 .0 .0 .0 .1) (r .0 .0 .0 .0 .0 .0 .1) (r .0 .0 .0 .0 .0 .1) (r .0 .0 .0 .0 .1) (r .0 .0 .0 .1) (r .0 .0 .1) (r .0 .1) (r .1) in
+    absurd (true≢false (sym formed ∙ sym (wellFormed-of _ _ refl) ∙ none))
 
-pub post-known-spec : {M : Type 1} → statement M
-post-known-spec =
+pub post-admitted-spec : {M : Type 1} → statement M
+post-admitted-spec =
     tie.close
     (tie.spec
     open-account-requires
