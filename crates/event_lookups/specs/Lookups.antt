@@ -10,6 +10,7 @@ use Rattle.lists.specs.Tests.{_is_}
 use Rattle.lists.specs.Lists.{only, exists}
 use Rattle.rules.specs.Rows.{Test, toll, remaining, sourceOf, debitOf}
 use Rattle.rules.specs.Book.{Instruction, topupDue}
+use Rattle.rules.specs.Refusals.{postsOn}
 use Rattle.rules.specs.Tables.{Tables, rowsUsed, bookOf}
 use Rattle.event_lookups.specs.declared.Lookup.{Lookup}
 
@@ -24,5 +25,5 @@ pub record LooksUp (t : Tables) (e : Instruction) (k : Lookup) : Type 0 where
   pub due : e .kind ≡ EventTopupResult → k .due ≡ topupDue (bookOf t) (e .account)
   pub source-in : k .source ≤ rowsUsed t
   pub debit-in : k .debit ≤ rowsUsed t
-  pub sources : NothingLeft (sourceOf (e .account)) (t .journal) (k .source)
-  pub debits : NothingLeft (debitOf (e .account)) (t .journal) (k .debit)
+  pub sources : NothingLeft (sourceOf (postsOn (bookOf t) e)) (t .journal) (k .source)
+  pub debits : NothingLeft (debitOf (postsOn (bookOf t) e)) (t .journal) (k .debit)

@@ -12,7 +12,7 @@ use Rattle.records.specs.Codes.{EventOpen, EventTick}
 use Rattle.lists.specs.Tests.{_is_, _from_to_}
 use Rattle.lists.proofs.TestLaws.{and-left, and-right, or-left}
 use Rattle.rules.specs.Book.{Account, Instruction, StateUnused, Book, account, putAccount}
-use Rattle.rules.specs.Refusals.{changeOf, after, unknown}
+use Rattle.rules.specs.Refusals.{wholeBook, changeOf, after, unknown}
 use Rattle.rules.specs.Tables.{Tables, accountsIn, bookOf, soundTables}
 use Rattle.rules.proofs.TableLaws.{sound-book, sound-rows}
 use Rattle.preservation.proofs.NamedLaws.{settled-unmoved}
@@ -24,7 +24,7 @@ use Rattle.posting.specs.Written.{Written}
 
 -- ---- the account that an event other than a tick names is one of the table's, where refusal 3 does not apply
 
-pub known-inside : (b : Book) (e : Instruction) → e .kind is EventTick ≡ false → unknown b e ≡ false → (1 ≤ e .account) × (e .account ≤ length (b .accounts))
+pub known-inside : (b : Book) (e : Instruction) → wholeBook e ≡ false → unknown b e ≡ false → (1 ≤ e .account) × (e .account ≤ length (b .accounts))
 unfolding unknown
 known-inside b e k u =
     let n : ℕ = e .account in

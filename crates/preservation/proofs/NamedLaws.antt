@@ -9,7 +9,7 @@ use Rattle.records.specs.Codes.{EventTick}
 use Rattle.rules.specs.Rows.{Row}
 use Rattle.rules.specs.Settlement.{moved, settle}
 use Rattle.rules.specs.Book.{Instruction, Book, withRows, settled}
-use Rattle.rules.specs.Refusals.{changeOf, after}
+use Rattle.rules.specs.Refusals.{postsOn, changeOf, after}
 use Rattle.rules.proofs.SettlementAccountsLaws.{settleAccounts-same, settleAccounts-one}
 use Rattle.rules.specs.SoundFacts.{Sound}
 use Rattle.preservation.proofs.Accepted.{Accepted}
@@ -43,9 +43,9 @@ settled-unmoved b b′ s r e =
     ap (λ (rows : List Row). withRows rows b′)
     (settleAccounts-same (length (b′ .accounts)) (b′ .rows) (λ m i j. rw r (sound-moved b s m i (rw e at j))))
 
-pub after-named : (b : Book) (e : Instruction) → Sound b → e .kind ≢ EventTick → Accepted b e → 1 ≤ e .account → e .account ≤ length (b .accounts)
+pub after-named : (b : Book) (e : Instruction) → Sound b → e .kind ≢ EventTick → Accepted b e → 1 ≤ postsOn b e → postsOn b e ≤ length (b .accounts)
     → length (changeOf (e .kind) b e .accounts) ≡ length (b .accounts)
-    → after b e ≡ withRows (settle (e .account) (changeOf (e .kind) b e .rows)) (changeOf (e .kind) b e)
+    → after b e ≡ withRows (settle (postsOn b e) (changeOf (e .kind) b e .rows)) (changeOf (e .kind) b e)
 unfolding after
 after-named b e s ne q l h z =
     settled-named b (changeOf (e .kind) b e) s (e .account)

@@ -17,7 +17,7 @@ use Rattle.rules.specs.Rows.{Row, blank, rowNo, held, heldToll, remaining, paya
 use Rattle.rules.specs.Settlement.{money, debt, moved}
 use Rattle.rules.specs.Book.{Instruction, Book, account, settled}
 use Rattle.rules.specs.Soundness.{accountUsed, noIdleMoney, sound}
-use Rattle.rules.specs.Refusals.{changeOf, after, answerNumber}
+use Rattle.rules.specs.Refusals.{postsOn, changeOf, after, answerNumber}
 use Rattle.rules.specs.Posting.{post}
 use Rattle.rules.proofs.SettlementAccountsLaws.{length-settleAccounts, settleAccounts-row, settleAccounts-still}
 use Rattle.rules.specs.SoundFacts.{Near, Sound}
@@ -80,10 +80,10 @@ row-no-idle-money b s i l = go (getD (b .rows) i blank .account) (not-true _ (s 
     go (suc k) e = no-idle-money-moved (b .rows) (suc k) (s .no-idle-money k (used-inside (b .accounts) (suc k) e))
 
 module _ (b : Book) (e : Instruction) (s : Sound b) (ne : e .kind ≢ EventTick) (q : Accepted b e) where
-  changed : Others (e .account) (b .rows) (changeOf (e .kind) b e .rows)
+  changed : Others (postsOn b e) (b .rows) (changeOf (e .kind) b e .rows)
   changed = change-others b e (e .kind) (s .near) ne q
 
-  after-row : (k : ℕ) → k < length (b .rows) → getD (b .rows) k blank .account ≢ e .account → getD (after b e .rows) k blank ≡ getD (b .rows) k blank
+  after-row : (k : ℕ) → k < length (b .rows) → getD (b .rows) k blank .account ≢ postsOn b e → getD (after b e .rows) k blank ≡ getD (b .rows) k blank
   unfolding after settled moved
   after-row k l w =
       let rows₁ : List Row = changeOf (e .kind) b e .rows in
@@ -92,37 +92,37 @@ module _ (b : Book) (e : Instruction) (s : Sound b) (ne : e .kind ≢ EventTick)
       let z : moved m rows₁ ≡ 0 = rw (money-others (e .account) (b .rows) rows₁ changed m w, debt-others b (s .near) (e .account) rows₁ changed m w) (row-no-idle-money b s k l) in
       settleAccounts-still m (length (changeOf (e .kind) b e .accounts)) rows₁ k (ap (λ (r : Row). r .account) f) z ∙ f
 
-  after-added : (k : ℕ) → length (b .rows) ≤ k → k < length (after b e .rows) → getD (after b e .rows) k blank .account ≡ e .account
+  after-added : (k : ℕ) → length (b .rows) ≤ k → k < length (after b e .rows) → getD (after b e .rows) k blank .account ≡ postsOn b e
   unfolding after settled
   after-added k l h =
       let rows₁ : List Row = changeOf (e .kind) b e .rows in
       let n : ℕ = length (changeOf (e .kind) b e .accounts) in
       ap (λ (r : Row). r .account) (settleAccounts-row n rows₁ k .kept) ∙ changed .added k l (rw (length-settleAccounts n rows₁) at h)
 
-  after-account : (n : ℕ) → n ≢ e .account → account (after b e) n ≡ account b n
+  after-account : (n : ℕ) → n ≢ postsOn b e → account (after b e) n ≡ account b n
   unfolding after settled
   after-account n w = change-account b e (e .kind) ne q n w
 
 -- ---- post
 
 module _ (b : Book) (e : Instruction) (s : sound b ≡ true) (ne : e .kind ≢ EventTick) where
-  pub post-frame-account : (n : ℕ) → n ≢ e .account → account (post b e .book) n ≡ account b n
+  pub post-frame-account : (n : ℕ) → n ≢ postsOn b e → account (post b e .book) n ≡ account b n
   post-frame-account n w = go (eqb (answerNumber b e) 0) refl
     where
       go : (t : Bool) → eqb (answerNumber b e) 0 ≡ t → account (post b e .book) n ≡ account b n
       go true q = rw (post-accepted b e q) (after-account b e (sound-facts b s) ne (accepted b e (eqb-true (answerNumber b e) 0 q)) n w)
       go false q = rw (post-refused b e q)
 
-  pub post-frame-row : (k : ℕ) → k < length (b .rows) → getD (b .rows) k blank .account ≢ e .account → getD (post b e .book .rows) k blank ≡ getD (b .rows) k blank
+  pub post-frame-row : (k : ℕ) → k < length (b .rows) → getD (b .rows) k blank .account ≢ postsOn b e → getD (post b e .book .rows) k blank ≡ getD (b .rows) k blank
   post-frame-row k l w = go (eqb (answerNumber b e) 0) refl
     where
       go : (t : Bool) → eqb (answerNumber b e) 0 ≡ t → getD (post b e .book .rows) k blank ≡ getD (b .rows) k blank
       go true q = rw (post-accepted b e q) (after-row b e (sound-facts b s) ne (accepted b e (eqb-true (answerNumber b e) 0 q)) k l w)
       go false q = rw (post-refused b e q)
 
-  pub post-frame-added : (k : ℕ) → length (b .rows) ≤ k → k < length (post b e .book .rows) → getD (post b e .book .rows) k blank .account ≡ e .account
+  pub post-frame-added : (k : ℕ) → length (b .rows) ≤ k → k < length (post b e .book .rows) → getD (post b e .book .rows) k blank .account ≡ postsOn b e
   post-frame-added k l h = go (eqb (answerNumber b e) 0) refl
     where
-      go : (t : Bool) → eqb (answerNumber b e) 0 ≡ t → getD (post b e .book .rows) k blank .account ≡ e .account
+      go : (t : Bool) → eqb (answerNumber b e) 0 ≡ t → getD (post b e .book .rows) k blank .account ≡ postsOn b e
       go true q = rw (post-accepted b e q) (after-added b e (sound-facts b s) ne (accepted b e (eqb-true (answerNumber b e) 0 q)) k l (rw (post-accepted b e q) at h))
       go false q = let h′ : k < length (b .rows) = rw (post-refused b e q) at h in absurd (omega arith)

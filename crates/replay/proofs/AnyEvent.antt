@@ -10,7 +10,7 @@ use Rattle.lists.specs.Tests.{_is_}
 use Rattle.lists.proofs.TestLaws.{and-left, and-right, and-then, or-left, or-right}
 use Rattle.rules.specs.Rows.{heldToll, unsettled}
 use Rattle.rules.specs.Book.{StateUnused, StateOpen, Instruction, Book, account, row, topupDue, lowBalance}
-use Rattle.rules.specs.Refusals.{changeOf, after, inTable, stateOf, unknown, taken, namedKind, noRow, untimely, answerNumber}
+use Rattle.rules.specs.Refusals.{wholeBook, changeOf, after, inTable, stateOf, unknown, taken, namedKind, noRow, untimely, answerNumber}
 use Rattle.rules.specs.SoundFacts.{Sound}
 use Rattle.rules.proofs.KindLaws.{by-kind}
 use Rattle.preservation.proofs.Accepted.{Accepted, accepted}
@@ -29,7 +29,7 @@ module _ (b : Book) (e : Instruction) (z : answerNumber b e ≡ 0) where
   acc = accepted b e z
 
   -- 3
-  known : e .kind is EventTick ≡ false → 1 ≤ e .account
+  known : wholeBook e ≡ false → 1 ≤ e .account
   unfolding unknown
   known k =
       let h : not (inTable b e) || not (e .kind is EventOpen) && stateOf b e is StateUnused ≡ false = rw k at (acc .known) in

@@ -113,9 +113,17 @@ inTable b e = e .account from 1 to length (b .accounts)
 abbrev pub stateOf : Book → Instruction → ℕ
 stateOf b e = account b (e .account) .state
 
+-- "9. Day tick, account 0": the event concerns the whole book and names no account
+abbrev pub wholeBook : Form
+wholeBook e = e .kind is EventTick
+
+-- the account whose rows an event adds, changes and settles; every other account is left alone
+abbrev pub postsOn : Book → Instruction → ℕ
+postsOn b e = e .account
+
 -- 3 "account unused, or not from 1 to the table's count"; "3 doesn't concern event 1 inside the table"
 unfoldable pub unknown : Refusal
-unknown b e = cond (e .kind is EventTick) false (not (inTable b e) || not (e .kind is EventOpen) && stateOf b e is StateUnused)
+unknown b e = cond (wholeBook e) false (not (inTable b e) || not (e .kind is EventOpen) && stateOf b e is StateUnused)
 
 -- 4 "event 1 on a used account"
 unfoldable pub taken : Refusal
