@@ -1,2 +1,3 @@
 -- The laws that the proofs of this crate cite.
 pub mod TurnLaws
+pub mod RunLaws

@@ -1,2 +1,3 @@
--- What holds between the turns of the program.
+-- What a turn of the program does, and what its turns do together.
 pub mod Turns
+pub mod Runs

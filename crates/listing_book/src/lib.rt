@@ -27,6 +27,7 @@ ghost use Rattle.rules.specs.Book.{Book, sources, debits, minus};
 ghost use Rattle.rules.specs.Tables.{accountsIn, rowsUsed, bookOf, soundTables};
 ghost use Rattle.posting.specs.Posts.{Amounts};
 ghost use Rattle.listing_rules.specs.Texts.{field, line, rowText, accountText, bookText};
+ghost use Rattle.listing_rules.specs.Sizes.{mostRowBytes, mostAccountBytes, bookNamesBytes};
 ghost use Rattle.listing_text.specs.Puts.{Puts};
 ghost use Rattle.listing_book.specs.Listed.{Dated};
 ghost use Rattle.rules.specs.Lent.{lent, atEntry};
@@ -45,8 +46,8 @@ fn write_day_field(out: &mut [u8], at: usize, day: u64) -> usize
 
 // Writes the line of row n, and returns where it ends. Every other byte stays.
 fn write_row(out: &mut [u8], at: usize, n: u64, r: Row) -> usize
-    requires { ⌜ (at + 116 ≤ length (now out)) × (1 ≤ r .day) × (r .day ≤ finalDay) ⌝ }
-    ensures { λ to. ⌜ Puts (now (out .entry)) (now (out .exit)) at to (rowText n r) × (to ≤ at + 116) ⌝ }
+    requires { ⌜ (at + mostRowBytes ≤ length (now out)) × (1 ≤ r .day) × (r .day ≤ finalDay) ⌝ }
+    ensures { λ to. ⌜ Puts (now (out .entry)) (now (out .exit)) at to (rowText n r) × (to ≤ at + mostRowBytes) ⌝ }
 {
     let account = write_field(out, at, n, 44);
     let kind = write_field(out, account, r.account, 44);
@@ -58,9 +59,9 @@ fn write_row(out: &mut [u8], at: usize, n: u64, r: Row) -> usize
 
 // Writes a line for each used row, and returns where they end. Every other byte stays.
 fn write_rows(out: &mut [u8], at: usize, journal: &[i64], used: usize) -> usize
-    requires { ⌜ (at + used * 116 ≤ length (now out)) × Dated (now journal) used ⌝ }
+    requires { ⌜ (at + used * mostRowBytes ≤ length (now out)) × Dated (now journal) used ⌝ }
     ensures { λ r. ⌜ Puts (now (out .entry)) (now (out .exit)) at r (gather rowText (rowsOf (now (journal .entry)) used))
-        × (r ≤ at + used * 116) ⌝ }
+        × (r ≤ at + used * mostRowBytes) ⌝ }
 {
     let mut to = at;
     let mut i = 0;
@@ -95,10 +96,10 @@ fn write_account(
     n: u64,
     x: Account,
 ) -> usize
-    requires { ⌜ (at + 63 ≤ length (now out)) × Amounts (now journal) used ⌝ }
+    requires { ⌜ (at + mostAccountBytes ≤ length (now out)) × Amounts (now journal) used ⌝ }
     ensures { λ r. ⌜ ((b : Book) → b .rows ≡ rowsOf (now (journal .entry)) used
         → Puts (now (out .entry)) (now (out .exit)) at r (accountText b n x))
-        × (r ≤ at + 63) ⌝ }
+        × (r ≤ at + mostAccountBytes) ⌝ }
 {
     if x.state == STATE_UNUSED {
         return at;
@@ -117,12 +118,12 @@ fn write_accounts(
     journal: &[i64],
     used: usize,
 ) -> usize
-    requires { ⌜ (at + count * 63 ≤ length (now out))
+    requires { ⌜ (at + count * mostAccountBytes ≤ length (now out))
         × (count * accountWidth ≤ length (now accounts))
         × Amounts (now journal) used ⌝ }
     ensures { λ r. ⌜ ((b : Book) → b .rows ≡ rowsOf (now (journal .entry)) used → Puts (now (out .entry)) (now (out .exit)) at
         r (gather (accountText b) (accountsOf (now (accounts .entry)) count)))
-        × (r ≤ at + count * 63) ⌝ }
+        × (r ≤ at + count * mostAccountBytes) ⌝ }
 {
     let mut to = at;
     let mut i = 0;
@@ -151,8 +152,9 @@ pub fn write_book(
     at: usize,
 ) -> usize
     requires { ⌜ soundTables (lent header accounts journal) ≡ true ⌝ }
-    requires { ⌜ at + 60 + rowsUsed (lent header accounts journal) * 116 + accountsIn (lent header accounts journal) * 63 ≤
-        length (now out) ⌝ }
+    requires { ⌜ at + bookNamesBytes
+        + rowsUsed (lent header accounts journal) * mostRowBytes
+        + accountsIn (lent header accounts journal) * mostAccountBytes ≤ length (now out) ⌝ }
     ensures { λ r. ⌜ Puts (now (out .entry)) (now (out .exit)) at r (bookText (bookOf (atEntry header accounts journal))) ⌝ }
 {
     let used = get(header, USED_PLACE) as usize;

@@ -13,6 +13,7 @@ use Rattle.decimal.proofs.FieldLaws.{take-of-drop}
 use Rattle.rules.specs.Book.{Book}
 use Rattle.listing_rules.specs.Texts.{linesOf, badLine}
 use Rattle.listing_rules.specs.Listing.{isGood, bookBy, goodText, listed}
+use Rattle.listing_rules.specs.Sizes.{mostLineBytes}
 use Rattle.listing_rules.proofs.LineLaws.{lines-cut, lines-begin}
 use Rattle.listing_rules.proofs.LengthLaws.{long-bad}
 
@@ -43,7 +44,7 @@ pub line-taken : (n : ℕ) (b : Book) (input : List ℕ) (from to stop : ℕ) (m
 line-taken n b input from to stop more e h f l = listed-line n b _ _ _ (line-at input from to stop more e h l)
 
 -- more bytes than a good line has, and no line feed among them
-pub line-too-long : (n : ℕ) (b : Book) (input : List ℕ) (from to : ℕ) (more : List ℕ) → to ≡ from + indexOf 10 (slice from to input) → from + 230 < to → to ≤ length input
+pub line-too-long : (n : ℕ) (b : Book) (input : List ℕ) (from to : ℕ) (more : List ℕ) → to ≡ from + indexOf 10 (slice from to input) → from + mostLineBytes < to → to ≤ length input
     → listed n b (linesOf (slice from to input ++ more)) ≡ badLine (n + 1)
 line-too-long n b input from to more e h l =
     let k : length (slice from to input) ≡ to - from = length-slice from to input l in

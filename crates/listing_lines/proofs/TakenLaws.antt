@@ -24,6 +24,7 @@ use Rattle.preservation.proofs.CallsKept.{bookOf-sound}
 use Rattle.posting.specs.Posts.{Posts}
 use Rattle.listing_rules.specs.Texts.{bytesOf, same, openingNames, eventNames, line, answerText}
 use Rattle.listing_rules.specs.Listing.{listedAccounts, listedRows, listingTables, opens, isGood, posted, bookBy, goodText}
+use Rattle.listing_rules.specs.Sizes.{mostAnswerBytes}
 use Rattle.listing_text.specs.Puts.{Puts}
 use Rattle.listing_lines.specs.declared.Line.{Line}
 use Rattle.listing_lines.specs.Lines.{Sized, Ready, lineText, Bad, Taken}
@@ -43,7 +44,7 @@ module _ (n : ℕ) (t u : Tables) (l : List ℕ) (b c : List ℕ) (at : ℕ) (r 
   }
 
   -- a good line with its text, and the book after it
-  pub taken-good : isGood n l ≡ true → r .good ≡ true → Puts b c at (r .at) (goodText n (bookOf t) l) → r .at ≤ at + 126
+  pub taken-good : isGood n l ≡ true → r .good ≡ true → Puts b c at (r .at) (goodText n (bookOf t) l) → r .at ≤ at + mostAnswerBytes
       → bookOf u ≡ bookBy n (bookOf t) l → Ready (n + 1) u → Taken n t u l b c at r
   unfolding lineText
   taken-good e g p s k w = record { good = g ∙ sym e; text = rw e p; short = s; book = λ q. k; ready = λ q. w }

@@ -9,6 +9,7 @@ use Rattle.rules.specs.Book.{Book}
 use Rattle.rules.specs.Tables.{Tables, bookOf, soundTables}
 use Rattle.listing_rules.specs.Texts.{badLine}
 use Rattle.listing_rules.specs.Listing.{listedAccounts, listedRows, isGood, goodText, bookBy}
+use Rattle.listing_rules.specs.Sizes.{mostAnswerBytes}
 use Rattle.listing_text.specs.Puts.{Puts}
 use Rattle.listing_lines.specs.declared.Line.{Line}
 
@@ -37,6 +38,6 @@ pub record Bad (n : ℕ) (b c : List ℕ) (at : ℕ) (r : Line) : Type 0 where
 pub record Taken (n : ℕ) (t u : Tables) (l : List ℕ) (b c : List ℕ) (at : ℕ) (r : Line) : Type 0 where
   pub good : r .good ≡ isGood n l
   pub text : Puts b c at (r .at) (lineText n (bookOf t) l)
-  pub short : r .at ≤ at + 126
+  pub short : r .at ≤ at + mostAnswerBytes
   pub book : isGood n l ≡ true → bookOf u ≡ bookBy n (bookOf t) l
   pub ready : isGood n l ≡ true → Ready (n + 1) u

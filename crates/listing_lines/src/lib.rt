@@ -12,6 +12,7 @@ use records::layout::OPENING_WIDTH;
 ghost use Prim.Native.Nat.{_+_, _≤_, _<_};
 ghost use lib.ListN.{length};
 ghost use Rattle.listing_rules.specs.Listing.{mostLines};
+ghost use Rattle.listing_rules.specs.Sizes.{mostAnswerBytes};
 ghost use Rattle.listing_lines.specs.Lines.{Ready, Bad, Taken};
 ghost use Rattle.rules.specs.Lent.{lent, atEntry, atExit};
 
@@ -42,7 +43,7 @@ fn first_line(
     out: &mut [u8],
     at: usize,
 ) -> Line
-    requires { ⌜ (at + 126 ≤ length (now out)) × Ready 0 (lent header accounts journal) ⌝ }
+    requires { ⌜ (at + mostAnswerBytes ≤ length (now out)) × Ready 0 (lent header accounts journal) ⌝ }
     ensures { λ r. ⌜ Taken 0 (atEntry header accounts journal) (atEntry header accounts journal) (now (line .entry))
         (now (out .entry)) (now (out .exit)) at r ⌝ }
 {
@@ -61,7 +62,7 @@ fn second_line(
     out: &mut [u8],
     at: usize,
 ) -> Line
-    requires { ⌜ (at + 126 ≤ length (now out)) × Ready 1 (lent header accounts journal) ⌝ }
+    requires { ⌜ (at + mostAnswerBytes ≤ length (now out)) × Ready 1 (lent header accounts journal) ⌝ }
     ensures { λ r. ⌜ Taken 1 (atEntry header accounts journal) (atExit header accounts journal) (now (line .entry))
         (now (out .entry)) (now (out .exit)) at r ⌝ }
 {
@@ -84,7 +85,7 @@ fn third_line(
     out: &mut [u8],
     at: usize,
 ) -> Line
-    requires { ⌜ (at + 126 ≤ length (now out)) × Ready 2 (lent header accounts journal) ⌝ }
+    requires { ⌜ (at + mostAnswerBytes ≤ length (now out)) × Ready 2 (lent header accounts journal) ⌝ }
     ensures { λ r. ⌜ Taken 2 (atEntry header accounts journal) (atEntry header accounts journal) (now (line .entry))
         (now (out .entry)) (now (out .exit)) at r ⌝ }
 {
@@ -108,7 +109,8 @@ fn event_line(
     out: &mut [u8],
     at: usize,
 ) -> Line
-    requires { ⌜ (at + 126 ≤ length (now out)) × (3 ≤ n) × (n < mostLines) × Ready n (lent header accounts journal) ⌝ }
+    requires { ⌜ (at + mostAnswerBytes ≤ length (now out)) × (3 ≤ n) × (n < mostLines)
+        × Ready n (lent header accounts journal) ⌝ }
     ensures { λ r. ⌜ Taken n (atEntry header accounts journal) (atExit header accounts journal) (now (line .entry))
         (now (out .entry)) (now (out .exit)) at r ⌝ }
 {
@@ -135,7 +137,8 @@ pub fn take_line(
     out: &mut [u8],
     at: usize,
 ) -> Line
-    requires { ⌜ (at + 126 ≤ length (now out)) × (n < mostLines) × Ready n (lent header accounts journal) ⌝ }
+    requires { ⌜ (at + mostAnswerBytes ≤ length (now out)) × (n < mostLines)
+        × Ready n (lent header accounts journal) ⌝ }
     ensures { λ r. ⌜ Taken n (atEntry header accounts journal) (atExit header accounts journal) (now (line .entry))
         (now (out .entry)) (now (out .exit)) at r ⌝ }
 {

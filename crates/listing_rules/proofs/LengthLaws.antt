@@ -16,6 +16,7 @@ use Rattle.decimal.specs.Decimal.{plain, minus, numberOf, inFirst, fieldsOf, al
 use Rattle.decimal.proofs.ReadingLaws.{magnitude-long, minus-past, plain-past}
 use Rattle.listing_rules.specs.Texts.{bytesOf, same}
 use Rattle.listing_rules.specs.Listing.{opens, isGood}
+use Rattle.listing_rules.specs.Sizes.{mostLineBytes}
 
 -- ---- lengths
 
@@ -77,7 +78,7 @@ refuted false h = refl
 
 -- ---- isGood
 
-pub long-bad : (n : ℕ) (l : List ℕ) → 230 < length l → isGood n l ≡ false
+pub long-bad : (n : ℕ) (l : List ℕ) → mostLineBytes < length l → isGood n l ≡ false
 unfolding isGood opens bytesOf
 long-bad zero l h = refuted _ (λ e. omega (arith, same-length l _ e))
 long-bad (suc zero) l h = refuted _ (λ e. omega (arith, line-width 11 l (and-left _ _ e)))

@@ -14,6 +14,7 @@ use Rattle.rules.specs.Tables.{Tables, accountsIn, roomIn, rowsUsed, bookOf}
 use Rattle.rules.proofs.TableLaws.{used-le}
 use Rattle.listing_rules.specs.Texts.{linesOf, bookText, badLine}
 use Rattle.listing_rules.specs.Listing.{isGood, bookBy, goodText, listed}
+use Rattle.listing_rules.specs.Sizes.{mostLineBytes, mostRowBytes, mostAccountBytes, bookNamesBytes, mostBookBytes}
 use Rattle.listing_rules.proofs.LineLaws.{lines-last}
 use Rattle.listing_text.specs.Puts.{Puts}
 use Rattle.listing_text.proofs.PutsLaws.{puts-puts, puts-nothing}
@@ -21,7 +22,7 @@ use Rattle.listing_input.proofs.TakenLaws.{listed-line, line-taken, line-too-lo
 use Rattle.listing_lines.specs.declared.Line.{Line}
 use Rattle.listing_lines.specs.Lines.{Ready, lineText, Taken}
 use Rattle.listing_steps.specs.declared.Place.{Place}
-use Rattle.listing_steps.specs.Steps.{Stands, toList, Stepped}
+use Rattle.listing_steps.specs.Steps.{Stands, toList, waitingAt, Stepped}
 
 -- the lent part of the input is the line
 pub part-slice : (xs : List ℕ) (from stop : ℕ) → from ≤ stop → take (stop - from) (drop from xs) ≡ slice from stop xs
@@ -33,8 +34,8 @@ part-slice xs from stop h =
 
 module _ (t : Tables) (input b : List ℕ) (p : Place) (s : Stands t input b p) where
   -- no whole line yet
-  pub step-waits : p .to ≡ p .from + indexOf 10 (slice (p .from) (p .to) input) → p .to ≤ p .from + 230
-      → Stepped t t input b b p (record { lines = p .lines; from = p .from; to = p .to; at = p .at; waits = true; over = false })
+  pub step-waits : p .to ≡ p .from + indexOf 10 (slice (p .from) (p .to) input) → p .to ≤ p .from + mostLineBytes
+      → Stepped t t input b b p (waitingAt p)
   unfolding toList
   step-waits e h = record {
     said = [];
@@ -45,11 +46,15 @@ module _ (t : Tables) (input b : List ℕ) (p : Place) (s : Stands t input b p) 
     to = refl;
     lines = omega arith;
     short = omega arith;
+    takes = λ q z. absurd (true≢false z);
     waiting = λ q. record { unended = e; few = h };
+    stays = λ q. refl;
+    keeps = λ q. refl;
+    silent = λ q. refl;
   }
 
   -- more bytes than a good line has
-  pub step-long : (c : List ℕ) (end : ℕ) → p .to ≡ p .from + indexOf 10 (slice (p .from) (p .to) input) → p .from + 230 < p .to
+  pub step-long : (c : List ℕ) (end : ℕ) → p .to ≡ p .from + indexOf 10 (slice (p .from) (p .to) input) → p .from + mostLineBytes < p .to
       → Puts b c (p .at) end (badLine (p .lines + 1)) → end ≤ p .at + 30
       → Stepped t t input b c p (record { lines = p .lines; from = p .from; to = p .to; at = end; waits = false; over = true })
   unfolding toList
@@ -62,7 +67,11 @@ module _ (t : Tables) (input b : List ℕ) (p : Place) (s : Stands t input b p) 
     to = refl;
     lines = omega arith;
     short = omega (arith, l);
+    takes = λ q z. absurd (true≢false q);
     waiting = λ q. absurd (true≢false (sym q));
+    stays = λ q. absurd (true≢false (sym q));
+    keeps = λ q. absurd (true≢false (sym q));
+    silent = λ q. absurd (true≢false (sym q));
   }
 
   -- a whole line, good or bad
@@ -104,7 +113,11 @@ module _ (t : Tables) (input b : List ℕ) (p : Place) (s : Stands t input b p) 
       to = refl;
       lines = omega arith;
       short = w .short;
+      takes = λ q z. (omega arith, refl);
       waiting = λ q. absurd (true≢false (sym q));
+      stays = λ q. absurd (true≢false (sym q));
+      keeps = λ q. absurd (true≢false (sym q));
+      silent = λ q. absurd (true≢false (sym q));
     }
 
 -- ---- the end of the input
@@ -120,7 +133,8 @@ unfolding listed
 end-book n b h = rw (le-ltb n 3 h) refl
 
 -- its rows and accounts have room
-pub end-room : (n : ℕ) (t : Tables) (at size : ℕ) → Ready n t → 3 ≤ n → at + 63484 ≤ size → at + 60 + rowsUsed t * 116 + accountsIn t * 63 ≤ size
+pub end-room : (n : ℕ) (t : Tables) (at size : ℕ) → Ready n t → 3 ≤ n → at + mostBookBytes ≤ size
+    → at + bookNamesBytes + rowsUsed t * mostRowBytes + accountsIn t * mostAccountBytes ≤ size
 end-room n t at size r h k =
     let a : accountsIn t ≡ 64 = rw (r .sized .accounts) refl in
     let j : roomIn t ≡ 512 = rw (r .sized .journal) refl in

@@ -13,6 +13,7 @@ ghost use Rattle.bytes.specs.Bytes.{indexOf};
 ghost use Rattle.rules.specs.Tables.{bookOf};
 ghost use Rattle.listing_rules.specs.Texts.{linesOf};
 ghost use Rattle.listing_rules.specs.Listing.{mostLines, listed};
+ghost use Rattle.listing_rules.specs.Sizes.{mostBookBytes, mostEndBytes};
 ghost use Rattle.listing_text.specs.Puts.{Puts};
 ghost use Rattle.listing_lines.specs.Lines.{Ready};
 ghost use Rattle.listing_steps.specs.Steps.{Stands, Stepped};
@@ -29,6 +30,12 @@ pub struct Place {
     pub over: bool,
 }
 
+// A good line of the input has at most so many bytes, without its line feed (mostLineBytes).
+const MOST_LINE_BYTES: usize = 230;
+
+// Lines 1 to 3 are names and the opening; an input with fewer lines is bad.
+const FIRST_LINES: u64 = 3;
+
 // No line feed is among the bytes: it waits for more of them, unless they are already more than a good line has.
 fn unended_line(
     header: &[i64],
@@ -40,10 +47,13 @@ fn unended_line(
 ) -> Place
     requires { ⌜ Stands (lent header accounts journal) (now input) (now out) p
         × (p .to ≡ p .from + indexOf 10 (slice (p .from) (p .to) (now input))) ⌝ }
-    ensures { λ q. ⌜ Stepped (atEntry header accounts journal) (atEntry header accounts journal) (now (input .entry))
-        (now (out .entry)) (now (out .exit)) p q ⌝ }
+    ensures { λ q.
+        ⌜ Stepped
+        (atEntry header accounts journal)
+        (atEntry header accounts journal)
+        (now (input .entry)) (now (out .entry)) (now (out .exit)) p q ⌝ }
 {
-    if p.to - p.from <= 230 {
+    if p.to - p.from <= MOST_LINE_BYTES {
         return Place {
             lines: p.lines,
             from: p.from,
@@ -74,8 +84,11 @@ pub fn take_next(
     out: &mut [u8],
 ) -> Place
     requires { ⌜ Stands (lent header accounts journal) (now input) (now out) p ⌝ }
-    ensures { λ q. ⌜ Stepped (atEntry header accounts journal) (atExit header accounts journal) (now (input .entry))
-        (now (out .entry)) (now (out .exit)) p q ⌝ }
+    ensures { λ q.
+        ⌜ Stepped
+        (atEntry header accounts journal)
+        (atExit header accounts journal)
+        (now (input .entry)) (now (out .entry)) (now (out .exit)) p q ⌝ }
 {
     let from = p.from;
     let to = p.to;
@@ -111,11 +124,12 @@ fn write_end(
     out: &mut [u8],
     at: usize,
 ) -> usize
-    requires { ⌜ Ready lines (lent header accounts journal) × (at + 63484 ≤ length (now out)) ⌝ }
-    ensures { λ r. ⌜ Puts (now (out .entry)) (now (out .exit)) at r
+    requires { ⌜ Ready lines (lent header accounts journal) × (at + mostBookBytes ≤ length (now out)) ⌝ }
+    ensures { λ r.
+        ⌜ Puts (now (out .entry)) (now (out .exit)) at r
         (listed lines (bookOf (atEntry header accounts journal)) []) ⌝ }
 {
-    if lines < 3 {
+    if lines < FIRST_LINES {
         return write_bad_line(out, at, lines + 1);
     }
     write_book(header, accounts, journal, out, at)
@@ -132,10 +146,9 @@ pub fn write_rest(
     out: &mut [u8],
 ) -> usize
     requires { ⌜ Ready lines (lent header accounts journal)
-        × (indexOf 10 (now rest) ≡ length (now rest))
-        × (63610 ≤ length (now out))
-        × (lines < mostLines) ⌝ }
-    ensures { λ r. ⌜ Puts (now (out .entry)) (now (out .exit)) 0 r
+        × (indexOf 10 (now rest) ≡ length (now rest)) × (mostEndBytes ≤ length (now out)) × (lines < mostLines) ⌝ }
+    ensures { λ r.
+        ⌜ Puts (now (out .entry)) (now (out .exit)) 0 r
         (listed lines (bookOf (atEntry header accounts journal)) (linesOf (now (rest .entry)))) ⌝ }
 {
     if rest.len() == 0 {

@@ -3,7 +3,8 @@ use mathlib.Core.Path.{_≡_, sym, ap, _∙_}
 use mathlib.Core.List.{List, [], _∷_, _++_, append-nil}
 use Prim.Native.Nat.{ℕ, _+_, _≤_, _<_}
 use native.Mathlib.Omega.{arith}
-use lib.ListN.{length, set, take, length-append, take-append-drop}
+use lib.ListN.{length, set, take, drop, length-append, take-append-drop}
+use lib.Seq.{take-at, length-take-le}
 use Rattle.decimal.specs.Decimal.{written}
 use Rattle.decimal.proofs.WritingLaws.{length-written, written-after, set-written}
 use Rattle.listing_text.specs.Puts.{Puts}
@@ -21,6 +22,13 @@ puts-puts b c d at to end s t p q = record {
   room = omega (arith, q .room, length-puts b c at to s p);
   bytes = q .bytes ∙ ap (λ (l : List ℕ). written l to t) (p .bytes) ∙ written-after b at s t to (p .ends) (omega (arith, p .ends, p .room));
 }
+
+-- the bytes up to its end
+pub take-puts : (b c : List ℕ) (at to : ℕ) (t : List ℕ) → Puts b c at to t → take to c ≡ take at b ++ t
+unfolding written
+take-puts b c at to t p =
+    let l : length (take at b) ≡ at = length-take-le at b (omega (arith, p .ends, p .room)) in
+    rw (p .bytes) (take-at (take at b ++ t) (drop (at + length t) b) to (omega (arith, p .ends, length-append (take at b) t)))
 
 -- one byte
 pub puts-byte : (b : List ℕ) (at x : ℕ) → at < length b → Puts b (set b at x) at (at + 1) (x ∷ [])

@@ -8,6 +8,7 @@ ghost use Prim.Native.Nat.{_+_, _≤_};
 ghost use lib.ListN.{length};
 ghost use Rattle.decimal.specs.Decimal.{digitsOf};
 ghost use Rattle.listing_rules.specs.Texts.{same, answerText, badLine};
+ghost use Rattle.listing_rules.specs.Sizes.{mostAnswerBytes};
 ghost use Rattle.listing_text.specs.Puts.{Puts};
 
 // Whether the two have the same bytes.
@@ -48,8 +49,8 @@ pub fn write_field(out: &mut [u8], at: usize, n: u64, end: u8) -> usize
 
 // Writes the answer to the n-th event, and returns where its line ends. Every other byte stays.
 pub fn write_answer(out: &mut [u8], at: usize, n: u64, a: Answer) -> usize
-    requires { ⌜ at + 126 ≤ length (now out) ⌝ }
-    ensures { λ r. ⌜ Puts (now (out .entry)) (now (out .exit)) at r (answerText n a) × (r ≤ at + 126) ⌝ }
+    requires { ⌜ at + mostAnswerBytes ≤ length (now out) ⌝ }
+    ensures { λ r. ⌜ Puts (now (out .entry)) (now (out .exit)) at r (answerText n a) × (r ≤ at + mostAnswerBytes) ⌝ }
 {
     let number = write_field(out, at, n, 44);
     let first = write_field(out, number, a.number, 44);

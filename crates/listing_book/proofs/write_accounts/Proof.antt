@@ -7,6 +7,7 @@ use Rattle.lists.specs.Lists.{gather}
 use Rattle.records.specs.Encoding.{rowsOf, accountAt, accountsOf}
 use Rattle.rules.specs.Book.{Book}
 use Rattle.listing_rules.specs.Texts.{accountText}
+use Rattle.listing_rules.specs.Sizes.{mostAccountBytes}
 use Rattle.listing_text.specs.Puts.{Puts}
 use Rattle.listing_book.proofs.ListedLaws.{listed-none, listed-more}
 use Rattle.listing_book.proofs.write_accounts.Statement.{statement}
@@ -14,7 +15,7 @@ use Rattle.listing_book.proofs.write_accounts.Tie as tie
 
 abbrev Inv-loop : tie.InvT-loop
 Inv-loop out₀ at accounts count journal used to₀ i₀ out to i =
-    (i ≤ count) × (to ≤ at + i * 63) × (length out ≡ length out₀)
+    (i ≤ count) × (to ≤ at + i * mostAccountBytes) × (length out ≡ length out₀)
     × ((b : Book) → b .rows ≡ rowsOf journal used → Puts out₀ out at to (gather (accountText b) (accountsOf accounts i)))
 
 abbrev μ-loop : tie.MeasureT-loop

@@ -6,6 +6,7 @@ use lib.ListN.{length}
 use Rattle.lists.specs.Lists.{gather}
 use Rattle.records.specs.Encoding.{rowAt, rowsOf}
 use Rattle.listing_rules.specs.Texts.{rowText}
+use Rattle.listing_rules.specs.Sizes.{mostRowBytes}
 use Rattle.listing_text.specs.Puts.{Puts}
 use Rattle.listing_text.proofs.PutsLaws.{length-puts}
 use Rattle.listing_book.proofs.ListedLaws.{listed-none, listed-more, row-dated}
@@ -13,7 +14,7 @@ use Rattle.listing_book.proofs.write_rows.Statement.{statement}
 use Rattle.listing_book.proofs.write_rows.Tie as tie
 
 abbrev Inv-loop : tie.InvT-loop
-Inv-loop out₀ at journal used to₀ i₀ out to i = (i ≤ used) × (to ≤ at + i * 116) × (length out ≡ length out₀) × Puts out₀ out at to (gather rowText (rowsOf journal i))
+Inv-loop out₀ at journal used to₀ i₀ out to i = (i ≤ used) × (to ≤ at + i * mostRowBytes) × (length out ≡ length out₀) × Puts out₀ out at to (gather rowText (rowsOf journal i))
 
 abbrev μ-loop : tie.MeasureT-loop
 μ-loop out₀ at journal used to₀ i₀ out to i = used - i
