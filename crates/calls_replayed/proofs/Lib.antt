@@ -1,1 +1,2 @@
 pub mod RunLaws
+pub mod Contracts

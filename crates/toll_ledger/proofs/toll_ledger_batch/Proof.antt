@@ -24,7 +24,6 @@ use denote.Plain.{uint-lawful, uint-makes}
 use denote.RattleType.{RattleType}
 use denote.Memory.{pointee}
 use denote.Ref.{now}
-use denote.Signed.{SInt}
 use denote.Slice.{sliceTy}
 use denote.Ask.Run.{routine-mono}
 use denote.Triple.Entry.{onEntry}
@@ -36,13 +35,13 @@ use borrow.Fn.Call.{sub-id}
 use borrow.Fn.Enter.{tysP}
 use borrow.Fn.Frame.{EnvOf, rowsFrom}
 use borrow.Fn.Function.{Γin, Δret, init, fnOf, plainOf, goP}
-use borrow.Fn.Kinds.{PK, RK, In, Out, Dens, GoodsP, stays, rSNum}
+use borrow.Fn.Kinds.{Dens, GoodsP, stays}
 use borrow.Fn.Leases.{leases}
 use borrow.Fn.Plain.{Known, t-call-plain, t-fn-plain}
 use borrow.Fn.Run.{Over, any-entry}
-use borrow.Kind.MutSlice.{pMutS, fix-len}
+use borrow.Kind.MutSlice.{fix-len}
 use borrow.Kind.Num.{vAt}
-use borrow.Kind.ShrSlice.{pShrS, spares-sslice}
+use borrow.Kind.ShrSlice.{spares-sslice}
 use borrow.Rule.Array.Init.{room-arr}
 use borrow.Rule.Array.Repeat.{t-repeat, whole-arr}
 use borrow.Rule.Array.Rows.{arrF}
@@ -69,7 +68,6 @@ use borrow.Table.Typed.{inLoop₀, inBlock₀, withNext, Mo, Tf, TF, Outs, Typed
 use Rattle.records.proofs.Event as T
 use Rattle.records.proofs.Event.Laws as T′
 use Rattle.posting.specs.Posts.{tablesAt}
-use Rattle.rules.specs.Calls.{Gives, batchCall}
 use Rattle.batch_index.specs.Index.{Indexed, indexSize}
 use Rattle.call_batch.proofs.BatchCallLaws.{noEvent, taken, batch-refused, After, after-none, after-sound, after-room, after-more, after-all}
 use Rattle.call_batch.proofs.begin_batch.Kinds as begin-kinds
@@ -82,6 +80,7 @@ use Rattle.call_batch.proofs.post_record.Reads as record-reads
 use Rattle.call_batch.proofs.post_record.Symbol as record-def
 use Rattle.call_batch.proofs.post_record.Symbol.{name as #post·record}
 use Rattle.call_batch.proofs.post_record.Met as record-thm
+use Rattle.toll_ledger.proofs.BatchContract.{I, Ev, ps, r, Pre, Post}
 use Rattle.toll_ledger.proofs.NumberLaws.{batch-small, number-fits, signed-gives}
 use Rattle.toll_ledger.proofs.toll_ledger_batch as f
 use Rattle.toll_ledger.proofs.toll_ledger_batch.Statement as stated
@@ -89,13 +88,7 @@ use Rattle.toll_ledger.proofs.toll_ledger_batch.Code as code
 use Rattle.toll_ledger.proofs.toll_ledger_batch.Code.Mir as body
 use Rattle.toll_ledger.proofs.toll_ledger_batch.Key.{name as #batch·call}
 
--- ---- the types: a word, an event, and the references' types in MIR
-abbrev I : RattleType
-I = SInt w64
-
-abbrev Ev : RattleType
-Ev = T.the-row
-
+-- ---- the types: how an event is copied, and the references' types in MIR
 abbrev copies : Cp Ev
 copies = cStruct T.the-type T′.the-laws T′.the-copy
 
@@ -140,13 +133,7 @@ toCells = tyRef erased mut cells
 abbrev toSlots : Ty
 toSlots = tyRef erased mut slots
 
--- ---- the signature, the other locals' types, and the contract
-abbrev ps : List (PK 5)
-ps = pMutS I 0 tt ∷ pMutS I 1 tt ∷ pMutS I 2 tt ∷ pShrS Ev 3 tt ∷ pMutS I 4 tt ∷ []
-
-abbrev r : RK 5
-r = rSNum w64
-
+-- ---- the other locals' types
 -- the two arrays; n; i; the four that are shown to the beginning, with the count, and the arrays lent to it; its test; a length, then a
 -- distance; the loop's test; what a turn returns; the four that are lent to a turn; the record's place; the record; the arrays lent
 abbrev xs : List Ty
@@ -157,16 +144,6 @@ xs = cells ∷ slots ∷ num ∷ num ∷ shown ∷ sliceTy shown ∷ shown ∷ s
 -- where each local lives: the arrays in memory, since they are lent
 abbrev homes : List Home
 homes = replicate 6 valueLocal ++ (memorySlot ∷ memorySlot ∷ replicate 29 valueLocal)
-
-abbrev Pre : In 5 ps
-Pre κs a = Unit {0}
-
-abbrev Post : Out 5 ps r
-Post κs a n e =
-    Gives (batchCall (tablesAt (now (a .0)) (now (a .1 .0)) (now (a .1 .1 .0))) (now (a .1 .1 .1 .0)) (now (a .1 .1 .1 .1 .0)))
-    n
-    (tablesAt (now (e .0)) (now (e .1 .0)) (now (e .1 .1 .0)))
-    (now (e .1 .1 .1 .1 .0))
 
 -- ---- the loop: its head's context, and its variables, the four tables, the two arrays and i
 
