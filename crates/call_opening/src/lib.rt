@@ -21,7 +21,6 @@ ghost use lib.ListN.{length, getD, set, replicate};
 ghost use Rattle.records.specs.Layout.{headerWidth, firstDayPlace, openingSchedule};
 ghost use Rattle.records.specs.Encoding.{word};
 ghost use Rattle.rules.specs.Tables.{scheduleFrom, scheduleWords};
-ghost use Rattle.sound_header.specs.Clauses.{tablesAt};
 ghost use Rattle.rules.specs.Calls.{openCall, Gives};
 ghost use Rattle.call_opening.specs.OpeningFits.{openingFits};
 ghost use Rattle.rules.specs.Lent.{atEntry, atExit};

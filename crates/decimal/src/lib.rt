@@ -62,7 +62,7 @@ pub fn write_number(buffer: &mut [u8], at: usize, v: i64) -> usize
 {
     let n = size_of(v);
     if v < 0 {
-        let next = write_byte(buffer, at, 45);
+        let next = write_byte(buffer, at, b'-');
         write_digits(buffer, next, n)
     } else {
         write_digits(buffer, at, n)
@@ -75,8 +75,8 @@ fn write_two(buffer: &mut [u8], at: usize, n: u64) -> usize
     ensures { λ r. ⌜ r ≡ at + 2 ⌝ }
     ensures { λ _. ⌜ now (buffer .exit) ≡ written (now (buffer .entry)) at (twoDigits n) ⌝ }
 {
-    buffer[at] = 48 + (n / 10 % 10) as u8;
-    buffer[at + 1] = 48 + (n % 10) as u8;
+    buffer[at] = b'0' + (n / 10 % 10) as u8;
+    buffer[at + 1] = b'0' + (n % 10) as u8;
     at + 2
 }
 
@@ -87,7 +87,7 @@ fn write_part(buffer: &mut [u8], at: usize, n: u64) -> usize
     ensures { λ _. ⌜ now (buffer .exit) ≡ written (now (buffer .entry)) at (twoDigits n ++ (45 ∷ [])) ⌝ }
 {
     let next = write_two(buffer, at, n);
-    write_byte(buffer, next, 45)
+    write_byte(buffer, next, b'-')
 }
 
 // Writes the date of a day number as yyyy-mm-dd, and returns where its text ends. Every other byte stays.
@@ -112,10 +112,10 @@ pub fn write_date(buffer: &mut [u8], at: usize, day: u64) -> usize
 fn digit_value(b: u8) -> u64
     ensures { λ r. ⌜ r ≡ digitValue b ⌝ }
 {
-    if b < 48 {
+    if b < b'0' {
         return 10;
     }
-    if b > 57 {
+    if b > b'9' {
         return 10;
     }
     b as u64 - 48
@@ -188,7 +188,7 @@ pub fn read_number(line: &[u8], from: usize, to: usize) -> Number
             value: 0,
         };
     }
-    if line[from] == 45 {
+    if line[from] == b'-' {
         return read_minus(line, from + 1, to);
     }
     read_plain(line, from, to)
@@ -205,7 +205,7 @@ pub fn read_fields(line: &[u8], end: usize, values: &mut [i64], count: usize) ->
     let mut from = 0;
     let mut i = 0;
     while i < count {
-        let stop = bytes::scan::find(line, from, end, 44);
+        let stop = bytes::scan::find(line, from, end, b',');
         let n = read_number(line, from, stop);
         if !n.ok {
             return false;

@@ -49,7 +49,7 @@ use Rattle.posting_laws.proofs.AddedLaws.{acceptance-plain, posts-accepted}
 use Rattle.posting.specs.Written.{UsedRows}
 use Rattle.posting_laws.proofs.UsedRowsLaws.{used-rows-before, rows-put, used-rows-add, rows-settle, rows-written, used-rows-room, rows-day, used-rows-settles, SmallAmounts, small-before, small-put, small-add}
 use Rattle.posting_laws.proofs.PutRowLaws.{row-read-by}
-use Rattle.event_return.specs.Return.{returnRefusals, Counts, ReturnCounted, Marks, Marked}
+use Rattle.event_return.specs.Return.{returnRefusals, Counts, Marks, Marked}
 
 -- ---- what event 4 writes: the payment marked, its reversal and the fee, and the account
 

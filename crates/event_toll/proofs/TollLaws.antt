@@ -1,22 +1,21 @@
 -- Event 2: which refusals concern it, and the book that it makes.
 use mathlib.Core.Path.{_≡_, refl, sym, ap, _∙_}
 use mathlib.Core.Logic.{_≢_}
-use mathlib.Core.Bool.{Bool, true, false, not, cond, _&&_, _||_}
+use mathlib.Core.Bool.{Bool, true, false, not, _&&_, _||_}
 use Prim.Native.Nat.{ℕ, _+_, _≤_, _<_}
 use native.Mathlib.Omega.{arith}
 use mathlib.Core.List.{List, [], _∷_, _++_}
 use lib.ListN.{length}
 use lib.IntN.{ℤ}
 use lib.Dec.{leb, ltb}
-use borrow.Author.Tests.{leb-true, ltb-false, eqb-false, not-false, lt-ltb, le-ltb}
+use borrow.Author.Tests.{leb-true, ltb-false, eqb-false, not-false}
 use Rattle.records.specs.Numbers.{Unclassed, Misdated, Duplicate, Full}
 use Rattle.records.specs.Codes.{EventToll, EventTick}
 use Rattle.records.specs.Layout.{dayPlace, headerSchedule, stagePlace}
-use Rattle.records.specs.Encoding.{word, rowAt, rowsOf, accountsOf, StorableRow}
+use Rattle.records.specs.Encoding.{word, accountsOf, StorableRow}
 use Rattle.lists.specs.Tests.{_is_, _from_to_, first}
 use Rattle.lists.specs.Lists.{sumBy, count, exists}
 use Rattle.lists.proofs.TestLaws.{and-left, and-right}
-use Rattle.lists.proofs.ListLaws.{length-tabulate}
 use Rattle.records.specs.Limits.{finalDay, highestRate, highestPassage, mostAxles, highestHeight, latestDays}
 use Rattle.rules.specs.Schedule.{class, rate}
 use Rattle.rules.specs.Rows.{Row, KindToll, toll, newRow, withDue, withReference}
@@ -28,13 +27,13 @@ use Rattle.rules.specs.Posting.{removesTopup}
 use Rattle.rules.specs.Tables.{Tables, accountsIn, roomIn, rowsUsed, scheduleFrom, bookOf, soundTables}
 use Rattle.rules.proofs.RefusalLaws.{answerNumber-own, shared-formed}
 use Rattle.rules.proofs.StorableLaws.{between-le, day-le, stage-le, accounts-le}
-use Rattle.rules.proofs.TableLaws.{sound-book, sound-rows}
+use Rattle.rules.proofs.TableLaws.{sound-book}
 use Rattle.preservation.proofs.Accepted.{Accepted, accepted}
 use Rattle.preservation.proofs.FeeLaws.{schedule-parts, class-le, rate-fits}
 use Rattle.preservation.proofs.NamedLaws.{after-named}
 use Rattle.settlement.specs.Settling.{Settled}
 use Rattle.posting.specs.Posts.{tablesAt, acceptanceOf, RowAdded, Posts}
-use Rattle.posting.proofs.BookLaws.{day-read, used-read, room-read}
+use Rattle.posting.proofs.BookLaws.{used-read, room-read}
 use Rattle.posting_laws.proofs.EventLaws.{known-inside}
 use Rattle.records.specs.Updates.{ofKind}
 use Rattle.posting_laws.proofs.RefusalLaws.{at-kind, length-after, no-ceiling}

@@ -9,12 +9,12 @@ use lib.Seq.{slice}
 use Rattle.rules.specs.Book.{Book}
 use Rattle.rules.specs.Tables.{Tables, bookOf}
 use Rattle.listing_rules.specs.Texts.{linesOf}
-use Rattle.listing_rules.specs.Listing.{isGood, bookBy, goodText, listed, listing}
+use Rattle.listing_rules.specs.Listing.{bookBy, goodText, listed, listing}
 use Rattle.listing_text.proofs.PutsLaws.{take-puts}
 use Rattle.listing_lines.specs.Lines.{Sized}
 use Rattle.listing_steps.specs.declared.Place.{Place}
 use Rattle.listing_steps.specs.Steps.{toList}
-use Rattle.listing.specs.Turns.{bufferBytes, State, startPlace, placeAt, Standing, Gets, Ends, Steps, Turned}
+use Rattle.listing.specs.Turns.{bufferBytes, State, startPlace, Standing, Gets, Ends, Steps, Turned}
 use Rattle.listing.specs.Turns.{due, handed, withAt, printed, afterPrint}
 use Rattle.listing.specs.Runs.{mostTurns, turnsPerByte, Run, begins, steps, reads, ends, Going, Listed, Unended, Ran}
 use Rattle.listing.proofs.TurnLaws.{due-over, prints-printed, standing-start, standing-turned, lines-turned}

@@ -18,9 +18,9 @@ ghost use Rattle.bytes.specs.Bytes.{indexOf};
 ghost use Rattle.listing_rules.specs.Listing.{mostLines};
 ghost use Rattle.listing_rules.specs.Sizes.{mostEndBytes};
 ghost use Rattle.listing_lines.specs.Lines.{Sized, Ready};
-ghost use Rattle.listing.specs.Turns.{bufferBytes, stateAt, startPlace, placeAt, endAt, Standing, Filled, AfterRead, Reads, Turned};
+ghost use Rattle.listing.specs.Turns.{bufferBytes, stateAt, startPlace, placeAt, Standing, Filled, AfterRead, Reads, Turned};
 ghost use Rattle.listing.specs.Turns.{due, printed};
-ghost use Rattle.listing.specs.Runs.{mostTurns, Ran};
+ghost use Rattle.listing.specs.Runs.{Ran};
 ghost use Rattle.rules.specs.Lent.{lent, atEntry, atExit};
 
 // The bytes of either buffer.

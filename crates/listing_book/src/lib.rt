@@ -27,7 +27,7 @@ ghost use Rattle.rules.specs.Book.{Book, sources, debits, minus};
 ghost use Rattle.rules.specs.Tables.{accountsIn, rowsUsed, bookOf, soundTables};
 ghost use Rattle.posting.specs.Posts.{Amounts};
 ghost use Rattle.listing_rules.specs.Texts.{field, line, rowText, accountText, bookText};
-ghost use Rattle.listing_rules.specs.Sizes.{mostRowBytes, mostAccountBytes, bookNamesBytes};
+ghost use Rattle.listing_rules.specs.Sizes.{mostRowBytes, mostAccountBytes, bookNamesBytes, mostFieldBytes};
 ghost use Rattle.listing_text.specs.Puts.{Puts};
 ghost use Rattle.listing_book.specs.Listed.{Dated};
 ghost use Rattle.rules.specs.Lent.{lent, atEntry};
@@ -40,7 +40,7 @@ fn write_day_field(out: &mut [u8], at: usize, day: u64) -> usize
     ensures { λ r. ⌜ Puts (now (out .entry)) (now (out .exit)) at r (field (dateText day)) × (r ≤ at + 11) ⌝ }
 {
     let next = write_date(out, at, day);
-    out[next] = 44;
+    out[next] = b',';
     next + 1
 }
 
@@ -49,12 +49,12 @@ fn write_row(out: &mut [u8], at: usize, n: u64, r: Row) -> usize
     requires { ⌜ (at + mostRowBytes ≤ length (now out)) × (1 ≤ r .day) × (r .day ≤ finalDay) ⌝ }
     ensures { λ to. ⌜ Puts (now (out .entry)) (now (out .exit)) at to (rowText n r) × (to ≤ at + mostRowBytes) ⌝ }
 {
-    let account = write_field(out, at, n, 44);
-    let kind = write_field(out, account, r.account, 44);
-    let day = write_field(out, kind, r.kind, 44);
+    let account = write_field(out, at, n, b',');
+    let kind = write_field(out, account, r.account, b',');
+    let day = write_field(out, kind, r.kind, b',');
     let amount = write_day_field(out, day, r.day);
-    let settled = write_field(out, amount, r.amount, 44);
-    write_field(out, settled, r.settled, 10)
+    let settled = write_field(out, amount, r.amount, b',');
+    write_field(out, settled, r.settled, b'\n')
 }
 
 // Writes a line for each used row, and returns where they end. Every other byte stays.
@@ -76,14 +76,14 @@ fn write_rows(out: &mut [u8], at: usize, journal: &[i64], used: usize) -> usize
 
 // Writes the balance of account n, its sources less its debits, as the last field of a line, and returns where that ends. Every other byte stays.
 fn write_balance(out: &mut [u8], at: usize, journal: &[i64], used: usize, n: u64) -> usize
-    requires { ⌜ (at + 21 ≤ length (now out)) × Amounts (now journal) used ⌝ }
+    requires { ⌜ (at + mostFieldBytes ≤ length (now out)) × Amounts (now journal) used ⌝ }
     ensures { λ r. ⌜ Puts (now (out .entry)) (now (out .exit)) at r (line (textOf
         (minus (sources (rowsOf (now (journal .entry)) used) n) (debits (rowsOf (now (journal .entry)) used) n))))
-        × (r ≤ at + 21) ⌝ }
+        × (r ≤ at + mostFieldBytes) ⌝ }
 {
     let s = sums_of(journal, used, n);
     let next = write_number(out, at, minus(s.sources, s.debits));
-    out[next] = 10;
+    out[next] = b'\n';
     next + 1
 }
 
@@ -104,8 +104,8 @@ fn write_account(
     if x.state == STATE_UNUSED {
         return at;
     }
-    let state = write_field(out, at, n, 44);
-    let balance = write_field(out, state, x.state, 44);
+    let state = write_field(out, at, n, b',');
+    let balance = write_field(out, state, x.state, b',');
     write_balance(out, balance, journal, used, n)
 }
 

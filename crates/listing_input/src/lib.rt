@@ -11,7 +11,7 @@ pub fn line_end(input: &[u8], from: usize, to: usize) -> usize
     requires { ⌜ (from ≤ to) × (to ≤ length (now input)) ⌝ }
     ensures { λ r. ⌜ (r ≡ from + indexOf 10 (slice from to (now (input .entry)))) × (r ≤ to) ⌝ }
 {
-    bytes::scan::find(input, from, to, 10)
+    bytes::scan::find(input, from, to, b'\n')
 }
 
 // Moves the bytes to the start of the buffer, and returns where they end.

@@ -66,7 +66,7 @@ fn second_line(
     ensures { λ r. ⌜ Taken 1 (atEntry header accounts journal) (atExit header accounts journal) (now (line .entry))
         (now (out .entry)) (now (out .exit)) at r ⌝ }
 {
-    let mut values = [0i64; 11];
+    let mut values = [0i64; OPENING_WIDTH];
     if !read_fields(line, line.len(), &mut values, OPENING_WIDTH) {
         return bad_line(out, at, 1);
     }
@@ -114,7 +114,7 @@ fn event_line(
     ensures { λ r. ⌜ Taken n (atEntry header accounts journal) (atExit header accounts journal) (now (line .entry))
         (now (out .entry)) (now (out .exit)) at r ⌝ }
 {
-    let mut values = [0i64; 7];
+    let mut values = [0i64; EVENT_WIDTH];
     if !read_fields(line, line.len(), &mut values, EVENT_WIDTH) {
         return bad_line(out, at, n);
     }

@@ -8,7 +8,7 @@ ghost use Prim.Native.Nat.{_+_, _≤_};
 ghost use lib.ListN.{length};
 ghost use Rattle.decimal.specs.Decimal.{digitsOf};
 ghost use Rattle.listing_rules.specs.Texts.{same, answerText, badLine};
-ghost use Rattle.listing_rules.specs.Sizes.{mostAnswerBytes};
+ghost use Rattle.listing_rules.specs.Sizes.{mostAnswerBytes, mostFieldBytes};
 ghost use Rattle.listing_text.specs.Puts.{Puts};
 
 // Whether the two have the same bytes.
@@ -39,8 +39,8 @@ pub fn write_text(out: &mut [u8], at: usize, text: &[u8]) -> usize
 
 // Writes a number and the byte that ends its field, and returns where that ends. Every other byte stays.
 pub fn write_field(out: &mut [u8], at: usize, n: u64, end: u8) -> usize
-    requires { ⌜ at + 21 ≤ length (now out) ⌝ }
-    ensures { λ r. ⌜ Puts (now (out .entry)) (now (out .exit)) at r (digitsOf n ++ (end ∷ [])) × (r ≤ at + 21) ⌝ }
+    requires { ⌜ at + mostFieldBytes ≤ length (now out) ⌝ }
+    ensures { λ r. ⌜ Puts (now (out .entry)) (now (out .exit)) at r (digitsOf n ++ (end ∷ [])) × (r ≤ at + mostFieldBytes) ⌝ }
 {
     let next = write_digits(out, at, n);
     out[next] = end;
@@ -52,12 +52,12 @@ pub fn write_answer(out: &mut [u8], at: usize, n: u64, a: Answer) -> usize
     requires { ⌜ at + mostAnswerBytes ≤ length (now out) ⌝ }
     ensures { λ r. ⌜ Puts (now (out .entry)) (now (out .exit)) at r (answerText n a) × (r ≤ at + mostAnswerBytes) ⌝ }
 {
-    let number = write_field(out, at, n, 44);
-    let first = write_field(out, number, a.number, 44);
-    let added = write_field(out, first, a.first, 44);
-    let raised = write_field(out, added, a.added, 44);
-    let removed = write_field(out, raised, a.raised, 44);
-    write_field(out, removed, a.removed, 10)
+    let number = write_field(out, at, n, b',');
+    let first = write_field(out, number, a.number, b',');
+    let added = write_field(out, first, a.first, b',');
+    let raised = write_field(out, added, a.added, b',');
+    let removed = write_field(out, raised, a.raised, b',');
+    write_field(out, removed, a.removed, b'\n')
 }
 
 // Writes that line n is bad, and returns where that line ends. Every other byte stays.
@@ -66,5 +66,5 @@ pub fn write_bad_line(out: &mut [u8], at: usize, n: u64) -> usize
     ensures { λ r. ⌜ Puts (now (out .entry)) (now (out .exit)) at r (badLine n) × (r ≤ at + 30) ⌝ }
 {
     let number = write_text(out, at, b"bad line ");
-    write_field(out, number, n, 10)
+    write_field(out, number, n, b'\n')
 }

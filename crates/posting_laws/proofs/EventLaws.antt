@@ -8,7 +8,7 @@ use lib.ListN.{length, length-set}
 use lib.IntN.{ℤ}
 use lib.Dec.{leb}
 use borrow.Author.Tests.{leb-true, not-false}
-use Rattle.records.specs.Codes.{EventOpen, EventTick}
+use Rattle.records.specs.Codes.{EventOpen}
 use Rattle.lists.specs.Tests.{_is_, _from_to_}
 use Rattle.lists.proofs.TestLaws.{and-left, and-right, or-left}
 use Rattle.rules.specs.Book.{Account, Instruction, StateUnused, Book, account, putAccount}

@@ -1,45 +1,30 @@
--- What the refusals that concern every event come to: an account that is unknown, rows that an event adds, a ceiling that none but a tick can meet.
+-- What the refusals of an event's own come to: rows that an event adds, a ceiling that none but a tick can meet.
 use mathlib.Core.Path.{_≡_, refl, sym, ap, subst, _∙_}
-use mathlib.Core.Bool.{Bool, true, false, not, cond, _&&_, _||_, true≢false, or-true}
+use mathlib.Core.Bool.{true, false, cond, _&&_}
 use Prim.Native.Nat.{ℕ, zero, suc, _+_, _≤_, _<_}
-use native.Mathlib.Omega.{arith}
 use mathlib.Core.List.{List, [], _∷_, _++_, map}
 use lib.ListN.{length, drop, length-append}
 use lib.Seq.{drop-at}
 use lib.Dec.{ltb}
-use borrow.Author.Tests.{le-leb, lt-ltb, le-ltb}
+use borrow.Author.Tests.{lt-ltb, le-ltb}
 use Rattle.records.specs.Updates.{ofKind}
-use Rattle.lists.specs.Tests.{_is_, _from_to_}
+use Rattle.lists.specs.Tests.{_is_}
 use Rattle.lists.specs.Lists.{sumBy, count, exists}
 use Rattle.lists.proofs.SumLaws.{sumBy-ext, sumBy-map}
 use Rattle.records.specs.Limits.{highestRefund}
 use Rattle.rules.specs.Rows.{Row, KindRefund, Test}
 use Rattle.rules.specs.Settlement.{settleAccounts}
-use Rattle.rules.specs.Book.{Instruction, Book, account, settled}
+use Rattle.rules.specs.Book.{Instruction, Book, settled}
 use Rattle.rules.specs.Refusals.{changeOf, after, ceiling}
 use Rattle.rules.specs.Tables.{Tables, roomIn, rowsUsed, bookOf, soundTables}
 use Rattle.rules.proofs.AllocationLaws.{bare}
 use Rattle.rules.proofs.SettlementAccountsLaws.{length-settleAccounts, settleAccounts-bare}
-use Rattle.rules.proofs.StorableLaws.{used-inside}
 use Rattle.posting.proofs.BookLaws.{used-read, room-read}
 
 -- ---- an event of a known kind: its laws are stated at that number, at which the tests on the kind compute
 
 pub at-kind : (P : Instruction → Type 0) (e : Instruction) (k : ℕ) → e .kind ≡ k → P (ofKind k e) → P e
 at-kind P e k q p = subst (λ (n : ℕ). P (ofKind n e)) (sym q) p
-
--- ---- 3: an account outside the table is unused
-
-pub unknown-unused : (b : Book) (n : ℕ) → not (n from 1 to length (b .accounts)) || account b n .state is 0 ≡ account b n .state is 0
-unknown-unused b n = go (account b n .state is 0) refl
-  where
-    inside : (m : ℕ) → account b m .state is 0 ≡ false → m from 1 to length (b .accounts) ≡ true
-    inside zero e = absurd (true≢false e)
-    inside (suc k) e = rw (le-leb 1 (suc k) (omega arith)) (le-leb (suc k) (length (b .accounts)) (used-inside (b .accounts) (suc k) e))
-
-    go : (t : Bool) → account b n .state is 0 ≡ t → not (n from 1 to length (b .accounts)) || t ≡ t
-    go true e = or-true (not (n from 1 to length (b .accounts)))
-    go false e = rw (inside n e)
 
 -- ---- 13 and 14: the rows that an event adds
 

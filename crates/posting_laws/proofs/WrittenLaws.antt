@@ -8,15 +8,15 @@ use lib.ListN.{length, drop, length-drop}
 use lib.Seq.{getD-drop}
 use lib.IntN.{ℤ, pos}
 use borrow.Author.Tests.{le-leb, eq-eqb, eqb-true}
-use Rattle.records.specs.Layout.{dayPlace, usedPlace, headerSchedule, rowWidth}
-use Rattle.records.specs.Encoding.{word, rowFrom, rowAt, rowsOf, accountsOf}
+use Rattle.records.specs.Layout.{rowWidth}
+use Rattle.records.specs.Encoding.{word, rowFrom, rowAt}
 use Rattle.lists.specs.Tests.{allOf}
 use Rattle.lists.specs.Lists.{everyFrom}
 use Rattle.lists.proofs.ListLaws.{every-at, every-all}
 use Rattle.rules.specs.Rows.{Row}
 use Rattle.rules.specs.Book.{Book}
 use Rattle.rules.specs.Soundness.{sound}
-use Rattle.rules.specs.Tables.{Tables, accountsIn, roomIn, rowsUsed, scheduleFrom, bookOf, tablesOf, wholeRecords, lengthsFit, usedFits, zeroWord, laterRowsZero, soundTables}
+use Rattle.rules.specs.Tables.{Tables, roomIn, rowsUsed, bookOf, tablesOf, wholeRecords, lengthsFit, usedFits, zeroWord, laterRowsZero, soundTables}
 use Rattle.rules.proofs.SoundnessLaws.{sound-facts}
 use Rattle.rules.proofs.StorableLaws.{rows-le}
 use Rattle.rules.proofs.TableLaws.{tablesOf-bookOf, sound-part}

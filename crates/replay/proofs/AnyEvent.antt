@@ -5,7 +5,7 @@ use Prim.Native.Nat.{ℕ, suc, _≤_, _<_}
 use native.Mathlib.Omega.{arith}
 use lib.Dec.{leb, ltb}
 use borrow.Author.Tests.{eqb-true, leb-true, ltb-true, lt-ltb, not-false}
-use Rattle.records.specs.Codes.{MethodCheck, EventOpen, EventReturnedCheck, EventDispute, EventDecision, EventTopupResult, EventTick}
+use Rattle.records.specs.Codes.{MethodCheck, EventOpen, EventReturnedCheck, EventDispute, EventDecision, EventTopupResult}
 use Rattle.lists.specs.Tests.{_is_}
 use Rattle.lists.proofs.TestLaws.{and-left, and-right, and-then, or-left, or-right}
 use Rattle.rules.specs.Rows.{heldToll, unsettled}

@@ -11,7 +11,7 @@ use Rattle.rules.specs.Rows.{Row, withSettled, withMark, withDue, withDi
 use Rattle.rules.specs.Book.{Account, Instruction, Book, account, row}
 use Rattle.rules.specs.Events.{tollRate}
 use Rattle.rules.specs.Refusals.{wellFormed, answerNumber}
-use Rattle.rules.specs.Posting.{bookAfter, answersTo}
+use Rattle.rules.specs.Posting.{bookAfter}
 use Rattle.rules.specs.Opening.{opening, dayFits, sizesFit}
 use Rattle.rules.specs.Soundness.{kindFits, amountFits, settledFits, markFits, tollWordsFit, noReference, rowDayFits, dueFits, holdFits, accountUsed, referenceFits, passageOnce, feesFit, stateFits, unusedZero, requestFits, topupFits, declineFits, returnedFits, usedIsPaid, noIdleMoney, closedClear}
 use Rattle.rules.specs.Tables.{Tables, soundTables}

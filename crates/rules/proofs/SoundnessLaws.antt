@@ -2,9 +2,9 @@
 -- that each law of preservation touches few of them.
 use mathlib.Core.Path.{_≡_}
 use mathlib.Core.Bool.{true}
-use Prim.Native.Nat.{ℕ, suc, _+_, _<_}
+use Prim.Native.Nat.{ℕ, suc, _<_}
 use native.Mathlib.Omega.{arith}
-use mathlib.Core.List.{List, [], _∷_}
+use mathlib.Core.List.{[], _∷_}
 use lib.ListN.{length, getD}
 use lib.Dec.{leb}
 use Rattle.lists.specs.Tests.{allOf}
@@ -12,11 +12,11 @@ use Rattle.lists.specs.Lists.{every}
 use Rattle.lists.proofs.TestLaws.{allOf-at}
 use Rattle.lists.proofs.ListLaws.{every-at, every-all}
 use Rattle.rules.specs.Schedule.{scheduleFits}
-use Rattle.rules.specs.Rows.{Row, blank}
-use Rattle.rules.specs.Book.{Account, unused, Book}
+use Rattle.rules.specs.Rows.{blank}
+use Rattle.rules.specs.Book.{unused, Book}
 use Rattle.rules.specs.Opening.{dayFits, sizesFit}
-use Rattle.rules.specs.Soundness.{kindFits, amountFits, settledFits, markFits, tollWordsFit, noReference, rowDayFits, dueWithin, holdFits, accountUsed, referenceFits, passageOnce, feesFit, rowSound, stateFits, unusedZero, requestFits, topupFits, declineFits, returnedFits, usedIsPaid, noIdleMoney, closedClear, accountSound, sound}
-use Rattle.rules.specs.SoundFacts.{Shape, Live, Standing, SumsFit, Near, Sound}
+use Rattle.rules.specs.Soundness.{rowSound, accountSound, sound}
+use Rattle.rules.specs.SoundFacts.{Sound}
 
 -- ---- the test gives the facts
 

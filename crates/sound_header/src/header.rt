@@ -21,7 +21,7 @@ use records::limits::MOST_ACCOUNTS;
 use records::limits::MOST_ROWS;
 use tables::words::get;
 ghost use mathlib.Core.Path.{_≡_};
-ghost use Prim.Native.Nat.{_+_, _≤_, _<_};
+ghost use Prim.Native.Nat.{_+_, _<_};
 ghost use lib.ListN.{length};
 ghost use lib.Dec.{leb};
 ghost use Rattle.lists.specs.Tests.{_from_to_};
@@ -30,7 +30,7 @@ ghost use Rattle.records.specs.Limits.{highestFee, highestRate};
 ghost use Rattle.rules.specs.Opening.{dayFits, sizesFit};
 ghost use Rattle.rules.specs.Schedule.{ratesFit, scheduleFits};
 ghost use Rattle.rules.specs.Tables.{scheduleFrom, lengthsFit};
-ghost use Rattle.sound_header.specs.Clauses.{tablesAt, ScheduleIn};
+ghost use Rattle.sound_header.specs.Clauses.{ScheduleIn};
 ghost use Rattle.rules.specs.Lent.{atEntry};
 
 pub fn day_fits(day: u64) -> bool

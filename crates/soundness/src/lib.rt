@@ -22,7 +22,7 @@ ghost use mathlib.Core.Path.{_≡_};
 ghost use Prim.Native.Nat.{_≤_};
 ghost use Rattle.records.specs.Limits.{mostRows};
 ghost use Rattle.rules.specs.Tables.{soundTables};
-ghost use Rattle.sound_header.specs.Clauses.{tablesAt, Bounds};
+ghost use Rattle.sound_header.specs.Clauses.{Bounds};
 ghost use Rattle.sound_passages.specs.Trees.{TreesOf};
 ghost use Rattle.sound_fees.specs.Fees.{FeesCounted};
 ghost use Rattle.soundness.specs.Book.{Stands};
