@@ -270,9 +270,10 @@ cases =
     ∷ event 6 1 1 0 0 0 0 ∷ event 5 1 1 0 0 0 0 ∷ event 5 1 1 0 0 0 0 ∷ event 6 1 1 0 0 0 0 ∷ event 5 1 1 0 0 0 0
     ∷ event 3 2 500 2 0 0 0 ∷ event 2 2 42 5 2 60 2 ∷ event 5 2 3 0 0 0 0 ∷ event 4 2 2 0 0 0 0 ∷ event 6 2 2 0 0 0 0 ∷ [])
     gives 0 ∷ 0 ∷ 0 ∷ 10 ∷ 10 ∷ 10 ∷ 10 ∷ 11 ∷ 0 ∷ 11 ∷ 0 ∷ 11 ∷ 0 ∷ 0 ∷ 11 ∷ 11 ∷ 10 ∷ [])
-    -- 11: a top-up of 0, of a pending account; a second request
-    ∷ (numbers (small 1) (openOne ∷ event 7 1 0 1 0 0 0 ∷ event 1 2 0 9 0 0 0 ∷ event 8 2 0 0 0 0 0 ∷ event 7 2 0 1 0 0 0 ∷ event 8 2 0 0 0 0 0 ∷ [])
-    gives 0 ∷ 11 ∷ 0 ∷ 0 ∷ 11 ∷ 11 ∷ [])
+    -- 11: a top-up of 0, but not of 1; of a pending account; a second request
+    ∷ (numbers (small 1) (openOne ∷ event 7 1 0 1 0 0 0 ∷ event 1 2 5 1 0 0 0 ∷ event 7 2 0 1 0 0 0 ∷ event 8 2 0 0 0 0 0
+    ∷ event 7 2 0 1 0 0 0 ∷ event 8 2 0 0 0 0 0 ∷ [])
+    gives 0 ∷ 11 ∷ 0 ∷ 0 ∷ 0 ∷ 11 ∷ 11 ∷ [])
     -- 12: the last day
     ∷ (numbers (small 36_524) (ticks 2) gives 0 ∷ 12 ∷ [])
     -- 13: one free row for a payment, none; two rows for a returned check
