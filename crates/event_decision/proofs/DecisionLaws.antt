@@ -10,6 +10,7 @@ use lib.IntN.{ℤ}
 use borrow.Author.Tests.{ltb-false}
 use Rattle.records.specs.Codes.{Yes, EventDecision}
 use Rattle.records.specs.Layout.{usedPlace}
+use Rattle.records.specs.Updates.{ofKind}
 use Rattle.records.specs.Encoding.{word, rowAt, rowsOf, StorableRow}
 use Rattle.lists.specs.Tests.{_is_}
 use Rattle.rules.specs.Rows.{Row, rowNo, settleWhole, feeNaming}
@@ -71,8 +72,8 @@ module _ (t : Tables) (s : soundTables t ≡ true) (e : Instruction) (k : e .kin
 
   -- ---- the toll that it names
 
-  its-toll : Decided b (e .account) (e .a) (e .b) (e .c) (e .d) (e .e)
-  its-toll = at-kind (λ x. Accepted b x → Decided b (x .account) (x .a) (x .b) (x .c) (x .d) (x .e)) e 6 k (decided b (e .account) (e .a) (e .b) (e .c) (e .d) (e .e)) acc
+  its-toll : Decided b e
+  its-toll = at-kind (λ x. Accepted b x → Decided b x) e EventDecision k (decided b (ofKind EventDecision e)) acc
 
   has-kind : 0 < row b (e .a) .kind
   has-kind = omega (arith, its-toll .toll)

@@ -2,6 +2,8 @@
 // top-up is due, and from which rows on something of the account's can be left.
 use balances::topup_due;
 use records::Instruction;
+use records::codes::EVENT_TOLL;
+use records::codes::EVENT_TOPUP_RESULT;
 use records::codes::KIND_TOLL;
 use records::layout::USED_PLACE;
 use table_rows::kind_at;
@@ -19,12 +21,6 @@ ghost use Rattle.rules.specs.Rows.{toll};
 ghost use Rattle.rules.specs.Tables.{soundTables};
 ghost use Rattle.event_lookups.specs.Lookups.{LooksUp};
 ghost use Rattle.rules.specs.Lent.{lent, atEntry};
-
-// The kinds of the events that are a toll and a top-up result.
-
-pub const EVENT_TOLL: u64 = 2;
-
-pub const EVENT_TOPUP_RESULT: u64 = 7;
 
 // Of a toll, whether its passage number stands in the journal; of a top-up result, whether it is due; and the rows, counted from 0, from
 // which on a source and a debit of the account are looked for.

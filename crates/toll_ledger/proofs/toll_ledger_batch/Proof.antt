@@ -583,5 +583,5 @@ toll-ledger-batch-spec {M} 𝓤 H 𝓜 𝓖 𝓡 =
     (λ y. via 𝓤 (plainOf 𝓤 H (𝓖 .A) 5 ps r Pre Post .pre y) (monoR 𝓤 (onEntry 𝓤 H (𝓖 .A) f.signature (y .0 .0) (y .0 .1) (y .0 .3) (y .0 .4)) (factI 𝓤 (Unit {0}) (emp 𝓤) tt))
     (any-entry 𝓤 H 𝓜 𝓖 𝓡 code.env (plainOf 𝓤 H (𝓖 .A) 5 ps r Pre Post) #batch·call code.function (code.unfolded 𝓤 H 𝓜 𝓡)
     (walks 𝓤 H (𝓖 .A) (givenOf 𝓤 H 𝓜 𝓖) (Over 𝓤 H 𝓜 𝓖 𝓡 code.env)
-    (begin-reads.known (record { M = M; 𝓤 = 𝓤; H = H; 𝓜 = 𝓜; 𝓖 = 𝓖; 𝓡 = 𝓡 }) code.env #begin·batch begin-def.routine code.calls-batch-call·begin-batch (begin-thm.met 𝓤 H 𝓜 𝓖 𝓡))
-    (record-reads.known (record { M = M; 𝓤 = 𝓤; H = H; 𝓜 = 𝓜; 𝓖 = 𝓖; 𝓡 = 𝓡 }) code.env #post·record record-def.routine code.calls-batch-call·post-record (record-thm.met 𝓤 H 𝓜 𝓖 𝓡))) y))
+    (begin-reads.known (record { M = M; 𝓤 = 𝓤; H = H; 𝓜 = 𝓜; 𝓖 = 𝓖; 𝓡 = 𝓡 }) code.env #begin·batch begin-def.routine code.calls-call-batch·begin-batch (begin-thm.met 𝓤 H 𝓜 𝓖 𝓡))
+    (record-reads.known (record { M = M; 𝓤 = 𝓤; H = H; 𝓜 = 𝓜; 𝓖 = 𝓖; 𝓡 = 𝓡 }) code.env #post·record record-def.routine code.calls-call-batch·post-record (record-thm.met 𝓤 H 𝓜 𝓖 𝓡))) y))
