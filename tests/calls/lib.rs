@@ -87,6 +87,13 @@ impl Book {
         }
     }
 
+    /// Takes the words of a book of the same lengths, without new tables.
+    pub fn copy_words(&mut self, from: &Book) {
+        self.header.copy_from_slice(&from.header);
+        self.accounts.copy_from_slice(&from.accounts);
+        self.journal.copy_from_slice(&from.journal);
+    }
+
     pub fn guarded(&self) -> bool {
         self.header.guarded() && self.accounts.guarded() && self.journal.guarded()
     }

@@ -88,13 +88,13 @@ fn next_call(random: &mut Random, host: &mut Host, pair: &Pair, longest: i64, me
     if !MODEL.is_sound(&pair.model) {
         return Call::Balance(n);
     }
-    let mut book = pair.model.clone();
+    let (mut before, mut book) = (pair.model.clone(), pair.model.clone());
     let single = random.below(100) < 55;
     let count = if single { 1 } else { random.range(0, longest) };
     let mut events = Vec::new();
     for _ in 0..count {
         let event = host.event(random, &book);
-        let before = book.clone();
+        before.copy_words(&book);
         let mut answer = Table::answers(ANSWER_WORDS);
         MODEL.event(&mut book, &event, &mut answer);
         met.note(&before, &event, &answer, &book);

@@ -57,7 +57,7 @@ fn damage_book(seed: u64, number: u64, times: u64, random: &mut Random, pair: &P
 /// Books of the largest sizes, few of them: each event of a list is a call on the whole book.
 fn large_books(seed: u64, met: &mut lists::Met, damaged: &mut damage::Met) {
     let plans = [
-        (MOST_ACCOUNTS, MOST_ROWS, Plan { events: 600, longest: 300, fill: 0 }),
+        (MOST_ACCOUNTS, MOST_ROWS, Plan { events: 6_000, longest: MOST_EVENTS as i64, fill: 0 }),
         (4, MOST_ROWS, Plan { events: 12_000, longest: MOST_EVENTS as i64, fill: MOST_ROWS }),
         (MOST_ACCOUNTS, 700, Plan { events: 1200, longest: 400, fill: 600 }),
     ];
