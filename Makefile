@@ -63,9 +63,9 @@ times: $(LIBRARY)
 	$(CC) $(CFLAGS) -Iinclude -o target/times tests/c/times.c tests/c/book.c $(LIBRARY)
 	target/times
 
-# The calls beside the same calls in plain C: first that both agree, then how long each takes.
+# The calls beside the same calls in plain C, the model of the tests: how long each takes.
 bench: $(LIBRARY)
-	$(CC) $(CFLAGS) -O3 -Iinclude -o target/bench bench/*.c $(LIBRARY)
+	$(CC) $(CFLAGS) -O3 -Iinclude -Itests/model -o target/bench bench/*.c tests/model/*.c $(LIBRARY)
 	target/bench
 
 clean:

@@ -4,11 +4,11 @@
 #include <stdlib.h>
 #include <string.h>
 
-#include "ref.h"
+#include "model.h"
 
-const struct library ours = {"ours",           toll_ledger_open,    toll_ledger_event,
-                             toll_ledger_batch, toll_ledger_balance, toll_ledger_topup_due};
-const struct library plain = {"plain C", ref_open, ref_event, ref_batch, ref_balance, ref_topup_due};
+const struct library ours = {toll_ledger_open, toll_ledger_event, toll_ledger_batch,
+                             toll_ledger_balance, toll_ledger_topup_due};
+const struct library plain = {model_open, model_event, model_batch, model_balance, model_topup_due};
 
 void must(bool so, const char *what)
 {
@@ -37,15 +37,6 @@ bool once_in(struct host *host, int64_t n)
     return draw(host, 1, n) == 1;
 }
 
-int64_t wild_word(struct host *host)
-{
-    static const int64_t words[] = {INT64_MIN, -1,     0,       1,       2,       3,          4,
-                                    5,         7,      30,      100,     365,     500,        999,
-                                    36525,     99500,  100000,  1000000, 1300000, 1000000000, MOST_REFUND,
-                                    INT64_MAX - 1};
-    return words[draw(host, 0, sizeof words / sizeof words[0] - 1)] + draw(host, 0, 1);
-}
-
 struct book book_of(struct tables *t)
 {
     return (struct book){.header = (struct header *)t->header,
@@ -69,8 +60,8 @@ void copy_tables(struct tables *to, const struct tables *from)
     to->accounts_words = from->accounts_words;
     to->journal_words = from->journal_words;
     memcpy(to->header, from->header, sizeof to->header);
-    memcpy(to->accounts, from->accounts, (from->accounts_words + 1) * sizeof(int64_t));
-    memcpy(to->journal, from->journal, (from->journal_words + 1) * sizeof(int64_t));
+    memcpy(to->accounts, from->accounts, from->accounts_words * sizeof(int64_t));
+    memcpy(to->journal, from->journal, from->journal_words * sizeof(int64_t));
 }
 
 /* An account that is open or pending, where a few draws find one. */
@@ -89,13 +80,12 @@ event toll_for(struct host *host, const struct book *b, int64_t account)
 {
     static const int64_t axles[] = {1, 2, 2, 2, 2, 3, 4, 5, 6};
     const int64_t today = b->header->day;
-    const bool tame = host->mix.wild == 0 || !once_in(host, 8);
     event e = {.kind = TOLL_LEDGER_EVENT_TOLL, .account = account};
-    host->passage += tame || once_in(host, 2);
+    host->passage++;
     e.a = host->passage * 48271 % 999999937 + 1; /* each once before any comes again */
-    e.b = today - draw(host, 0, lesser(today - 1, tame ? 4 : 62));
+    e.b = today - draw(host, 0, lesser(today - 1, 4));
     e.c = axles[draw(host, 0, 8)];
-    e.d = draw(host, 50, tame && e.c == 1 ? 90 : 120);
+    e.d = draw(host, 50, e.c == 1 ? MOST_HEIGHT_1 : 120);
     e.e = draw(host, TOLL_LEDGER_MODE_TAG, TOLL_LEDGER_MODE_PLATE);
     return e;
 }
@@ -110,24 +100,14 @@ event payment_for(struct host *host, const struct book *b, int64_t account)
                    .b = draw(host, TOLL_LEDGER_METHOD_CARD, TOLL_LEDGER_METHOD_CHECK)};
 }
 
-static event open_event(struct host *host, const struct book *b)
-{
-    event e = {.kind = TOLL_LEDGER_EVENT_OPEN, .account = draw(host, 1, (int64_t)b->count)};
-    for (int64_t n = 1; n <= (int64_t)b->count; n++)
-        if (b->accounts[n - 1].state == TOLL_LEDGER_STATE_UNUSED)
-            e.account = n;
-    e.b = once_in(host, 3) ? 0 : draw(host, 1, 4000);
-    e.a = e.b == 0 ? 0 : draw(host, 0, 2000);
-    return e;
-}
-
 static bool fits_event(const struct row *r, int64_t kind)
 {
     switch (kind) {
     case TOLL_LEDGER_EVENT_RETURNED_CHECK:
         return r->kind == TOLL_LEDGER_KIND_PAYMENT && r->mark == TOLL_LEDGER_METHOD_CHECK;
     case TOLL_LEDGER_EVENT_DISPUTE:
-        return r->kind == TOLL_LEDGER_KIND_TOLL && r->dispute == 0 && left_of(r) > 0;
+        return r->kind == TOLL_LEDGER_KIND_TOLL &&
+               r->dispute == TOLL_LEDGER_DISPUTE_NEVER && left_of(r) > 0;
     default:
         return is_held_toll(r);
     }
@@ -162,10 +142,8 @@ static event fitting_event(struct host *host, const struct book *b)
 {
     const struct mix *m = &host->mix;
     const int64_t die = draw(host, 0, 999);
-    int64_t top = m->opens;
+    int64_t top = m->payments;
     if (die < top)
-        return open_event(host, b);
-    if (die < (top += m->payments))
         return payment_for(host, b, live_account(host, b));
     if (die < (top += m->returns))
         return event_on_row(host, b, TOLL_LEDGER_EVENT_RETURNED_CHECK, draw(host, 0, 2000));
@@ -184,10 +162,7 @@ static event fitting_event(struct host *host, const struct book *b)
 
 event next_event(struct host *host, const struct book *b)
 {
-    event e = fitting_event(host, b);
-    if (draw(host, 0, 999) >= host->mix.wild)
-        return e;
-    int64_t *const words[] = {&e.kind, &e.account, &e.a, &e.b, &e.c, &e.d, &e.e};
-    *words[draw(host, 0, 6)] = wild_word(host);
+    const event e = fitting_event(host, b);
+    random_word(host); /* unused: so the books stay those of all times in docs/SPEED.md */
     return e;
 }

@@ -1,15 +1,15 @@
-/* Books and event lists, made from fixed seeds, for the comparison and the timing. */
+/* Books and event lists, made from fixed seeds, for the timing. */
 #ifndef BOOKS_H
 #define BOOKS_H
 
-#include "ref_book.h"
+#include "model_book.h"
 
 /* Tables for up to the most accounts and rows; the lengths say how many. */
 struct tables {
     size_t header_words, accounts_words, journal_words;
-    int64_t header[TOLL_LEDGER_HEADER_WORDS + 1];
-    int64_t accounts[TOLL_LEDGER_MOST_ACCOUNTS * TOLL_LEDGER_ACCOUNT_WORDS + 1];
-    int64_t journal[TOLL_LEDGER_MOST_ROWS * TOLL_LEDGER_ROW_WORDS + 1];
+    int64_t header[TOLL_LEDGER_HEADER_WORDS];
+    int64_t accounts[TOLL_LEDGER_MOST_ACCOUNTS * TOLL_LEDGER_ACCOUNT_WORDS];
+    int64_t journal[TOLL_LEDGER_MOST_ROWS * TOLL_LEDGER_ROW_WORDS];
 };
 
 #define LENT(t)                                                                     \
@@ -18,7 +18,6 @@ struct tables {
 
 /* One of the two libraries. */
 struct library {
-    const char *name;
     int64_t (*open)(int64_t *, size_t, int64_t *, size_t, int64_t *, size_t, const int64_t *,
                     size_t);
     int64_t (*event)(int64_t *, size_t, int64_t *, size_t, int64_t *, size_t, const int64_t *,
@@ -35,8 +34,7 @@ extern const struct library ours, plain;
 
 /* How often a host sends each kind of event, in a thousand; the rest are tolls. */
 struct mix {
-    int opens, payments, returns, disputes, decisions, topups, closes, ticks;
-    int wild; /* events with a word that may be anything */
+    int payments, returns, disputes, decisions, topups, closes, ticks;
 };
 
 /* Where random numbers and fresh passage numbers come from. */
@@ -48,7 +46,6 @@ struct host {
 
 int64_t draw(struct host *host, int64_t least, int64_t most);
 bool once_in(struct host *host, int64_t n);
-int64_t wild_word(struct host *host);
 
 /* The book in tables whose lengths fit. */
 struct book book_of(struct tables *t);
@@ -63,8 +60,5 @@ event payment_for(struct host *host, const struct book *b, int64_t account);
 
 /* Stops the program with a message where it isn't so. */
 void must(bool so, const char *what);
-
-/* check.c: both libraries on equal books; stops where a word differs. */
-void compare_libraries(void);
 
 #endif

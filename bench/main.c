@@ -1,6 +1,7 @@
-/* How long the calls take beside the same calls in plain C: both libraries in one process, in turns,
- * on fresh copies of the same books. Prints medians in microseconds, ours to plain C, and how time
- * grows with the rows. docs/SPEED.md quotes a run. */
+/* How long the calls take beside the same calls in plain C, which are the model of the tests: both
+ * libraries in one process, in turns, on fresh copies of the same books. Prints medians in
+ * microseconds, ours to plain C, and how time grows with the rows. docs/SPEED.md quotes a run. That
+ * both answer alike is tests/compare's to show. */
 #define _POSIX_C_SOURCE 199309L
 #include <stdio.h>
 #include <stdlib.h>
@@ -169,8 +170,10 @@ static void print_book(void)
     }
     printf("%zu rows, %zu used: tolls %ld (%ld settled, %ld held), fees %ld, reversals %ld, payments %ld, "
            "credits %ld, refunds %ld; day %ld\n",
-           b.room, rows_used(&b), kinds[1], settled, held, kinds[2], kinds[3], kinds[4], kinds[5],
-           kinds[6], (long)b.header->day);
+           b.room, rows_used(&b), kinds[TOLL_LEDGER_KIND_TOLL], settled, held,
+           kinds[TOLL_LEDGER_KIND_FEE], kinds[TOLL_LEDGER_KIND_REVERSAL],
+           kinds[TOLL_LEDGER_KIND_PAYMENT], kinds[TOLL_LEDGER_KIND_CREDIT],
+           kinds[TOLL_LEDGER_KIND_REFUND], (long)b.header->day);
     copy_tables(&lent, book);
     const struct book next = book_of(&lent);
     const struct answer a = tick(&next);
@@ -266,8 +269,8 @@ static void print_batch_events(void)
     long kinds[TOLL_LEDGER_EVENT_TICK + 1] = {0};
     for (size_t i = 0; i < batch_events; i++)
         kinds[events[i].kind]++;
-    printf("\nThe batch of %zu, by kind 1 to 9:", batch_events);
-    for (int kind = 1; kind <= TOLL_LEDGER_EVENT_TICK; kind++)
+    printf("\nThe batch of %zu, by kind:", batch_events);
+    for (int kind = TOLL_LEDGER_EVENT_OPEN; kind <= TOLL_LEDGER_EVENT_TICK; kind++)
         printf(" %ld", kinds[kind]);
     printf("\n%-34s %6s %10s %10s %8s\n", "batch, us", "rows", "ours", "plain C", "ratio");
 }
@@ -318,7 +321,6 @@ int main(void)
 {
     static struct pair medians[CALLS][SIZES];
     setvbuf(stdout, NULL, _IOLBF, 0);
-    compare_libraries();
     measure_calls(medians);
     printf("\n%-34s %6s %10s %10s %8s\n", "single call, us", "rows", "ours", "plain C", "ratio");
     for (size_t c = 0; c < CALLS; c++)

@@ -183,14 +183,14 @@ static void listing(struct book *b)
 {
     const int64_t rows[4][5] = {/* account, kind, day, amount, settled */
                                 {7, 1, 1, 500, 500}, {7, 4, 1, 300, 300}, {7, 4, 1, 400, 0}, {7, 5, 1, 500, 200}};
-    CHECK(post(b, 1, 7, 0, 0, 0, 0, 0) == TOLL_LEDGER_POSTED);
-    CHECK(post(b, 2, 7, 41, 1, 2, 60, 2) == TOLL_LEDGER_POSTED);
-    CHECK(post(b, 3, 7, 300, 2, 0, 0, 0) == TOLL_LEDGER_POSTED);
-    CHECK(post(b, 5, 7, 1, 0, 0, 0, 0) == TOLL_LEDGER_POSTED);
-    CHECK(post(b, 3, 7, 400, 1, 0, 0, 0) == TOLL_LEDGER_POSTED);
-    CHECK(post(b, 6, 7, 1, 1, 0, 0, 0) == TOLL_LEDGER_POSTED);
+    CHECK(post(b, TOLL_LEDGER_EVENT_OPEN, 7, 0, 0, 0, 0, 0) == TOLL_LEDGER_POSTED);
+    CHECK(post(b, TOLL_LEDGER_EVENT_TOLL, 7, 41, 1, 2, 60, 2) == TOLL_LEDGER_POSTED);
+    CHECK(post(b, TOLL_LEDGER_EVENT_PAYMENT, 7, 300, 2, 0, 0, 0) == TOLL_LEDGER_POSTED);
+    CHECK(post(b, TOLL_LEDGER_EVENT_DISPUTE, 7, 1, 0, 0, 0, 0) == TOLL_LEDGER_POSTED);
+    CHECK(post(b, TOLL_LEDGER_EVENT_PAYMENT, 7, 400, 1, 0, 0, 0) == TOLL_LEDGER_POSTED);
+    CHECK(post(b, TOLL_LEDGER_EVENT_DECISION, 7, 1, 1, 0, 0, 0) == TOLL_LEDGER_POSTED);
     CHECK(b->answer[TOLL_LEDGER_ANSWER_FIRST_ROW] == 4 && b->answer[TOLL_LEDGER_ANSWER_NEW_ROWS] == 1);
-    CHECK(post(b, 2, 7, 41, 1, 2, 60, 2) == TOLL_LEDGER_DUPLICATE);
+    CHECK(post(b, TOLL_LEDGER_EVENT_TOLL, 7, 41, 1, 2, 60, 2) == TOLL_LEDGER_DUPLICATE);
     for (int64_t n = 1; n <= 4; n++) {
         const int64_t *row = row_of(b, n), *want = rows[n - 1];
         CHECK(row[1] == want[0] && row[0] == want[1] && row[2] == want[2] && row[3] == want[3] && row[4] == want[4]);
@@ -205,10 +205,10 @@ static void classes(struct book *b)
     const int64_t cases[][4] = {/* axles, height, mode, amount */
                                 {1, 0, 1, 250},  {2, 90, 1, 250}, {2, 90, 2, 500},  {2, 91, 1, 600},   {3, 0, 2, 900},
                                 {4, 999, 1, 600}, {5, 0, 1, 1200}, {5, 91, 2, 1600}, {99, 999, 2, 1600}};
-    CHECK(post(b, 1, 7, 0, 0, 0, 0, 0) == TOLL_LEDGER_POSTED);
+    CHECK(post(b, TOLL_LEDGER_EVENT_OPEN, 7, 0, 0, 0, 0, 0) == TOLL_LEDGER_POSTED);
     for (int64_t i = 0; i < (int64_t)(sizeof cases / sizeof cases[0]); i++) {
         const int64_t *c = cases[i];
-        CHECK(post(b, 2, 7, 41 + i, 1, c[0], c[1], c[2]) == TOLL_LEDGER_POSTED);
+        CHECK(post(b, TOLL_LEDGER_EVENT_TOLL, 7, 41 + i, 1, c[0], c[1], c[2]) == TOLL_LEDGER_POSTED);
         CHECK(row_of(b, i + 1)[TOLL_LEDGER_ROW_AMOUNT] == c[3]);
     }
 }
@@ -216,11 +216,11 @@ static void classes(struct book *b)
 /* M6: an unpaid toll rises each 30 days, with a fee from stage 2; M7: a dispute ends by itself. */
 static void stages_and_holds(struct book *b)
 {
-    CHECK(post(b, 1, 7, 0, 0, 0, 0, 0) == TOLL_LEDGER_POSTED);
-    CHECK(post(b, 2, 7, 41, 1, 2, 60, 2) == TOLL_LEDGER_POSTED);
+    CHECK(post(b, TOLL_LEDGER_EVENT_OPEN, 7, 0, 0, 0, 0, 0) == TOLL_LEDGER_POSTED);
+    CHECK(post(b, TOLL_LEDGER_EVENT_TOLL, 7, 41, 1, 2, 60, 2) == TOLL_LEDGER_POSTED);
     ticks(b, 9);
-    CHECK(post(b, 2, 7, 42, 1, 2, 60, 2) == TOLL_LEDGER_POSTED);
-    CHECK(post(b, 5, 7, 2, 0, 0, 0, 0) == TOLL_LEDGER_POSTED);
+    CHECK(post(b, TOLL_LEDGER_EVENT_TOLL, 7, 42, 1, 2, 60, 2) == TOLL_LEDGER_POSTED);
+    CHECK(post(b, TOLL_LEDGER_EVENT_DISPUTE, 7, 2, 0, 0, 0, 0) == TOLL_LEDGER_POSTED);
     ticks(b, 20);
     CHECK(row_of(b, 1)[TOLL_LEDGER_ROW_MARK] == 0);
     ticks(b, 1);
@@ -244,17 +244,17 @@ static void stages_and_holds(struct book *b)
  * comes back makes it pending again. */
 static void closing(struct book *b)
 {
-    CHECK(post(b, 1, 7, 0, 0, 0, 0, 0) == TOLL_LEDGER_POSTED);
-    CHECK(post(b, 3, 7, 700, 3, 0, 0, 0) == TOLL_LEDGER_POSTED);
+    CHECK(post(b, TOLL_LEDGER_EVENT_OPEN, 7, 0, 0, 0, 0, 0) == TOLL_LEDGER_POSTED);
+    CHECK(post(b, TOLL_LEDGER_EVENT_PAYMENT, 7, 700, 3, 0, 0, 0) == TOLL_LEDGER_POSTED);
     ticks(b, 4);
-    CHECK(post(b, 8, 7, 0, 0, 0, 0, 0) == TOLL_LEDGER_POSTED);
+    CHECK(post(b, TOLL_LEDGER_EVENT_CLOSE_REQUEST, 7, 0, 0, 0, 0, 0) == TOLL_LEDGER_POSTED);
     ticks(b, 14);
     CHECK(account_of(b, 7)[TOLL_LEDGER_ACCOUNT_STATE] == TOLL_LEDGER_STATE_PENDING);
     ticks(b, 1);
     CHECK(today(b) == 20);
     CHECK(account_of(b, 7)[TOLL_LEDGER_ACCOUNT_STATE] == TOLL_LEDGER_STATE_CLOSED);
     CHECK(row_of(b, 2)[TOLL_LEDGER_ROW_KIND] == TOLL_LEDGER_KIND_REFUND && row_of(b, 2)[TOLL_LEDGER_ROW_AMOUNT] == 700);
-    CHECK(post(b, 4, 7, 1, 200, 0, 0, 0) == TOLL_LEDGER_POSTED);
+    CHECK(post(b, TOLL_LEDGER_EVENT_RETURNED_CHECK, 7, 1, 200, 0, 0, 0) == TOLL_LEDGER_POSTED);
     CHECK(account_of(b, 7)[TOLL_LEDGER_ACCOUNT_STATE] == TOLL_LEDGER_STATE_PENDING);
     CHECK(account_of(b, 7)[TOLL_LEDGER_ACCOUNT_REQUEST_DAY] == 5);
     CHECK(balance(b, 7) == -1400);
@@ -263,13 +263,13 @@ static void closing(struct book *b)
 /* A top-up falls due, is declined once a day, and is removed by the third decline. */
 static void declines(struct book *b)
 {
-    CHECK(post(b, 1, 7, 100, 2000, 0, 0, 0) == TOLL_LEDGER_POSTED);
+    CHECK(post(b, TOLL_LEDGER_EVENT_OPEN, 7, 100, 2000, 0, 0, 0) == TOLL_LEDGER_POSTED);
     for (int i = 0; i < 3; i++) {
         CHECK(topup_due(b, 7) == 1);
-        CHECK(post(b, 7, 7, 0, 0, 0, 0, 0) == TOLL_LEDGER_POSTED);
+        CHECK(post(b, TOLL_LEDGER_EVENT_TOPUP_RESULT, 7, 0, 0, 0, 0, 0) == TOLL_LEDGER_POSTED);
         CHECK(b->answer[TOLL_LEDGER_ANSWER_REMOVED] == (i == 2));
         CHECK(topup_due(b, 7) == 0);
-        CHECK(post(b, 7, 7, 0, 0, 0, 0, 0) == TOLL_LEDGER_UNTIMELY);
+        CHECK(post(b, TOLL_LEDGER_EVENT_TOPUP_RESULT, 7, 0, 0, 0, 0, 0) == TOLL_LEDGER_UNTIMELY);
         ticks(b, 1);
     }
     for (int word = TOLL_LEDGER_ACCOUNT_THRESHOLD; word <= TOLL_LEDGER_ACCOUNT_LAST_DECLINE; word++)

@@ -41,22 +41,22 @@ static int64_t batch(struct book *book, const struct toll_ledger_event_record *e
 static struct book varied_book(void)
 {
     struct book b = open_book(5, 16, 1);
-    CHECK(post(&b, 1, 1, 100, 2000, 0, 0, 0) == 0);
-    CHECK(post(&b, 1, 2, 0, 0, 0, 0, 0) == 0);
-    CHECK(post(&b, 1, 3, 0, 0, 0, 0, 0) == 0);
-    CHECK(post(&b, 1, 4, 0, 0, 0, 0, 0) == 0);
-    CHECK(post(&b, 2, 1, 41, 1, 2, 60, 2) == 0); /* row 1 */
-    CHECK(post(&b, 2, 2, 42, 1, 5, 60, 1) == 0); /* row 2 */
-    CHECK(post(&b, 3, 3, 700, 2, 0, 0, 0) == 0); /* row 3 */
-    CHECK(post(&b, 8, 3, 0, 0, 0, 0, 0) == 0);
+    CHECK(post(&b, TOLL_LEDGER_EVENT_OPEN, 1, 100, 2000, 0, 0, 0) == 0);
+    CHECK(post(&b, TOLL_LEDGER_EVENT_OPEN, 2, 0, 0, 0, 0, 0) == 0);
+    CHECK(post(&b, TOLL_LEDGER_EVENT_OPEN, 3, 0, 0, 0, 0, 0) == 0);
+    CHECK(post(&b, TOLL_LEDGER_EVENT_OPEN, 4, 0, 0, 0, 0, 0) == 0);
+    CHECK(post(&b, TOLL_LEDGER_EVENT_TOLL, 1, 41, 1, 2, 60, 2) == 0); /* row 1 */
+    CHECK(post(&b, TOLL_LEDGER_EVENT_TOLL, 2, 42, 1, 5, 60, 1) == 0); /* row 2 */
+    CHECK(post(&b, TOLL_LEDGER_EVENT_PAYMENT, 3, 700, 2, 0, 0, 0) == 0); /* row 3 */
+    CHECK(post(&b, TOLL_LEDGER_EVENT_CLOSE_REQUEST, 3, 0, 0, 0, 0, 0) == 0);
     ticks(&b, 60);                               /* rows 4 to 6: refund of 3, fees of 1 and 2 */
-    CHECK(post(&b, 5, 1, 1, 0, 0, 0, 0) == 0);   /* row 1 held */
-    CHECK(post(&b, 5, 2, 2, 0, 0, 0, 0) == 0);
-    CHECK(post(&b, 6, 2, 2, 1, 0, 0, 0) == 0);   /* row 7: credit */
-    CHECK(post(&b, 3, 4, 900, 3, 0, 0, 0) == 0); /* row 8 */
-    CHECK(post(&b, 4, 4, 8, 100, 0, 0, 0) == 0); /* rows 9, 10: reversal and fee */
-    CHECK(post(&b, 8, 4, 0, 0, 0, 0, 0) == 0);
-    CHECK(post(&b, 7, 1, 0, 0, 0, 0, 0) == 0);   /* declined */
+    CHECK(post(&b, TOLL_LEDGER_EVENT_DISPUTE, 1, 1, 0, 0, 0, 0) == 0);   /* row 1 held */
+    CHECK(post(&b, TOLL_LEDGER_EVENT_DISPUTE, 2, 2, 0, 0, 0, 0) == 0);
+    CHECK(post(&b, TOLL_LEDGER_EVENT_DECISION, 2, 2, 1, 0, 0, 0) == 0);   /* row 7: credit */
+    CHECK(post(&b, TOLL_LEDGER_EVENT_PAYMENT, 4, 900, 3, 0, 0, 0) == 0); /* row 8 */
+    CHECK(post(&b, TOLL_LEDGER_EVENT_RETURNED_CHECK, 4, 8, 100, 0, 0, 0) == 0); /* rows 9, 10: reversal and fee */
+    CHECK(post(&b, TOLL_LEDGER_EVENT_CLOSE_REQUEST, 4, 0, 0, 0, 0, 0) == 0);
+    CHECK(post(&b, TOLL_LEDGER_EVENT_TOPUP_RESULT, 1, 0, 0, 0, 0, 0) == 0);   /* declined */
     CHECK(b.header[TOLL_LEDGER_HEADER_ROWS_USED] == 10);
     CHECK(account_of(&b, 3)[0] == 3 && account_of(&b, 4)[0] == 2 && account_of(&b, 5)[0] == 0);
     return b;
@@ -67,7 +67,7 @@ static void all_refuse_as_unsound(struct book *b)
 {
     const struct toll_ledger_event_record one = event(9, 0, 0, 0, 0, 0, 0);
     int64_t value;
-    CHECK(post(b, 9, 0, 0, 0, 0, 0, 0) == TOLL_LEDGER_UNSOUND);
+    CHECK(post(b, TOLL_LEDGER_EVENT_TICK, 0, 0, 0, 0, 0, 0) == TOLL_LEDGER_UNSOUND);
     CHECK(batch(b, &one, 1, NULL, 5) == TOLL_LEDGER_UNSOUND);
     CHECK(ask(toll_ledger_balance, b, 1, &value) == TOLL_LEDGER_UNSOUND);
     CHECK(ask(toll_ledger_topup_due, b, 1, &value) == TOLL_LEDGER_UNSOUND);
@@ -338,22 +338,22 @@ static void full_book(void)
             CHECK(answers[5 * i] == TOLL_LEDGER_POSTED);
     }
     CHECK(b.header[TOLL_LEDGER_HEADER_ROWS_USED] == 8192);
-    CHECK(post(&b, 2, 1, 1000000000, 1, 2, 60, 2) == TOLL_LEDGER_FULL);
-    CHECK(post(&b, 3, 1, 1, 1, 0, 0, 0) == TOLL_LEDGER_FULL);
+    CHECK(post(&b, TOLL_LEDGER_EVENT_TOLL, 1, 1000000000, 1, 2, 60, 2) == TOLL_LEDGER_FULL);
+    CHECK(post(&b, TOLL_LEDGER_EVENT_PAYMENT, 1, 1, 1, 0, 0, 0) == TOLL_LEDGER_FULL);
     int64_t toll = 8192; /* the last that is owed */
     while (row_of(&b, toll)[TOLL_LEDGER_ROW_KIND] != TOLL_LEDGER_KIND_TOLL || row_of(&b, toll)[TOLL_LEDGER_ROW_SETTLED] != 0)
         toll--;
     const int64_t debtor = row_of(&b, toll)[TOLL_LEDGER_ROW_ACCOUNT];
-    CHECK(post(&b, 5, debtor, toll, 0, 0, 0, 0) == TOLL_LEDGER_POSTED);
-    CHECK(post(&b, 6, debtor, toll, 1, 0, 0, 0) == TOLL_LEDGER_FULL);
-    CHECK(post(&b, 6, debtor, toll, 0, 0, 0, 0) == TOLL_LEDGER_POSTED);
+    CHECK(post(&b, TOLL_LEDGER_EVENT_DISPUTE, debtor, toll, 0, 0, 0, 0) == TOLL_LEDGER_POSTED);
+    CHECK(post(&b, TOLL_LEDGER_EVENT_DECISION, debtor, toll, 1, 0, 0, 0) == TOLL_LEDGER_FULL);
+    CHECK(post(&b, TOLL_LEDGER_EVENT_DECISION, debtor, toll, 0, 0, 0, 0) == TOLL_LEDGER_POSTED);
     CHECK(topup_due(&b, debtor) == 1);
-    CHECK(post(&b, 7, debtor, 0, 1, 0, 0, 0) == TOLL_LEDGER_FULL);
-    CHECK(post(&b, 7, debtor, 0, 0, 0, 0, 0) == TOLL_LEDGER_POSTED);
+    CHECK(post(&b, TOLL_LEDGER_EVENT_TOPUP_RESULT, debtor, 0, 1, 0, 0, 0) == TOLL_LEDGER_FULL);
+    CHECK(post(&b, TOLL_LEDGER_EVENT_TOPUP_RESULT, debtor, 0, 0, 0, 0, 0) == TOLL_LEDGER_POSTED);
     ticks(&b, 30);
     CHECK(b.answer[TOLL_LEDGER_ANSWER_RAISED] > 3000);
     ticks(&b, 29);
-    CHECK(post(&b, 9, 0, 0, 0, 0, 0, 0) == TOLL_LEDGER_FULL); /* each of these tolls would add a fee */
+    CHECK(post(&b, TOLL_LEDGER_EVENT_TICK, 0, 0, 0, 0, 0, 0) == TOLL_LEDGER_FULL); /* each of these tolls would add a fee */
     int64_t sum = 0, all = 0;
     for (int64_t n = 1; n <= 256; n++)
         sum += balance(&b, n);

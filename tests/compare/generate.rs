@@ -1,7 +1,16 @@
 //! Openings and events as a busy host might send them: most of them acceptable, some of them not.
-use crate::pair::Tables;
-use crate::random::Random;
-use model::{Book, Row};
+use calls::random::Random;
+use calls::words::*;
+use calls::{event, Book, Event, MODEL};
+
+// Limits of document 01 that the header has no name for.
+pub const LAST_STAGE: i64 = 4;
+pub const MOST_AMOUNT: i64 = 1_000_000;
+pub const MOST_FEE: i64 = 100_000;
+pub const MOST_CREDIT: i64 = 1_300_000;
+pub const MOST_REFUND: i64 = 10_649_600_000;
+pub const MOST_PASSAGE: i64 = 1_000_000_000;
+pub const MOST_BANK_CHARGE: i64 = 99_500;
 
 /// Tables for an opening and its schedule.
 pub struct Opening {
@@ -18,25 +27,25 @@ impl Opening {
         let mut schedule = vec![first, length];
         for most in [500, 2500, 3000] {
             let any = random.range(0, most);
-            schedule.push(random.pick(&[0, most, any, any, 100_000]));
+            schedule.push(random.pick(&[0, most, any, any, MOST_FEE]));
         }
         for most in [250, 500, 600, 900, 1200, 1600] {
             let any = random.range(1, most);
-            schedule.push(random.pick(&[1, most, any, any, any, 1_000_000]));
+            schedule.push(random.pick(&[1, most, any, any, any, MOST_AMOUNT]));
         }
         Opening { accounts, rows, schedule }
     }
 
-    /// Tables full of words that no book has.
-    pub fn tables(&self) -> Tables {
-        Tables { header: vec![-5; 12], accounts: vec![-6; self.accounts * 7], journal: vec![-7; self.rows * 10] }
+    /// The tables before it.
+    pub fn book(&self) -> Book {
+        Book::new(self.accounts, self.rows)
     }
 }
 
 /// Where the words of wild events and damaged tables come from, beside the limits that the book itself sets.
 pub const WORDS: [i64; 30] = [
     i64::MIN,
-    -1_000_001,
+    -MOST_AMOUNT - 1,
     -1,
     0,
     1,
@@ -55,14 +64,14 @@ pub const WORDS: [i64; 30] = [
     500,
     999,
     1000,
-    36_525,
-    36_526,
-    99_500,
-    100_000,
-    1_000_000,
-    1_300_000,
-    1_000_000_000,
-    10_649_600_000,
+    DAYS,
+    DAYS + 1,
+    MOST_BANK_CHARGE,
+    MOST_FEE,
+    MOST_AMOUNT,
+    MOST_CREDIT,
+    MOST_PASSAGE,
+    MOST_REFUND,
     1 << 32,
     i64::MAX,
 ];
@@ -81,76 +90,97 @@ impl Host {
     }
 
     /// The next event for a book.
-    pub fn event(&mut self, random: &mut Random, book: &Book) -> [i64; 7] {
+    pub fn event(&mut self, random: &mut Random, book: &Book) -> Event {
         let mut event = self.fitting(random, book);
         if random.once_in(25) {
-            let word = random.index(7);
+            let word = random.index(EVENT_WORDS);
             event[word] = random.pick(&WORDS);
         }
         event
     }
 
-    fn fitting(&mut self, random: &mut Random, book: &Book) -> [i64; 7] {
+    fn fitting(&mut self, random: &mut Random, book: &Book) -> Event {
         if self.ticks > 0 {
             self.ticks -= 1;
-            return [9, 0, 0, 0, 0, 0, 0];
+            return event(EVENT_TICK, 0, &[]);
         }
-        let state = |n: i64| book.accounts[n as usize - 1].state;
         if self.pays && random.once_in(6) {
-            if let Some(n) = account(random, book, |n| matches!(state(n), 1 | 2) && book.balance(n) < 0) {
+            if let Some(n) = account(random, book, |n| is_live(book, n) && balance(book, n) < 0) {
                 return payment(random, book, n);
             }
         }
-        let die = if book.rows.len() < self.fill { random.range(7, 42) } else { random.below(100) };
+        let die = if book.rows_used() < self.fill { random.range(7, 42) } else { random.below(100) };
         let fit = match die {
-            0..=6 => account(random, book, |n| state(n) == 0).map(|n| open(random, n)),
+            0..=6 => account(random, book, |n| book.state(n) == STATE_UNUSED).map(|n| open(random, n)),
             7..=29 => None,
-            30..=42 => account(random, book, |n| matches!(state(n), 1 | 2)).map(|n| payment(random, book, n)),
+            30..=42 => account(random, book, |n| is_live(book, n)).map(|n| payment(random, book, n)),
             43..=51 => {
-                let charge = random.pick(&[0, 0, 100, 99_500]);
-                of_row(random, book, |r| r.kind == 4 && r.mark == 3, 4, charge)
+                let charge = random.pick(&[0, 0, 100, MOST_BANK_CHARGE]);
+                of_row(random, book, is_check, EVENT_RETURNED_CHECK, charge)
             }
-            52..=61 => of_row(random, book, |r| r.kind == 1 && r.dispute == 0 && r.settled < r.amount, 5, 0),
+            52..=61 => of_row(random, book, is_disputable, EVENT_DISPUTE, 0),
             62..=69 => {
                 let verdict = random.below(2);
-                of_row(random, book, |r| r.kind == 1 && r.dispute == 1, 6, verdict)
+                of_row(random, book, is_held_toll, EVENT_DECISION, verdict)
             }
             70..=79 => {
                 let paid = random.pick(&[1, 0, 0, 0]);
-                account(random, book, |n| book.top_up_due(n)).map(|n| [7, n, 0, paid, 0, 0, 0])
+                account(random, book, |n| MODEL.topup_due(book, n).1 == 1)
+                    .map(|n| event(EVENT_TOPUP_RESULT, n, &[0, paid]))
             }
-            80..=83 => account(random, book, |n| state(n) == 1).map(|n| [8, n, 0, 0, 0, 0, 0]),
+            80..=83 => {
+                account(random, book, |n| book.state(n) == STATE_OPEN).map(|n| event(EVENT_CLOSE_REQUEST, n, &[]))
+            }
             _ => {
                 if random.once_in(5) {
                     let any = random.range(1, 40);
-                    self.ticks = random.pick(&[book.stage - 1, 14, 29, any]).min(60);
+                    self.ticks = random.pick(&[book.stage_length() - 1, 14, 29, any]).min(60);
                 }
-                Some([9, 0, 0, 0, 0, 0, 0])
+                Some(event(EVENT_TICK, 0, &[]))
             }
         };
         fit.unwrap_or_else(|| self.toll(random, book))
     }
 
-    fn toll(&mut self, random: &mut Random, book: &Book) -> [i64; 7] {
+    fn toll(&mut self, random: &mut Random, book: &Book) -> Event {
         self.passage += 1;
         let passage = if random.once_in(20) { (self.passage - random.range(1, 6)).max(1) } else { self.passage };
         let back = if random.once_in(12) { random.range(59, 62) } else { random.range(0, 60) };
-        let day = if random.once_in(40) { book.day + 1 } else { (book.day - back).max(1) };
+        let day = if random.once_in(40) { book.day() + 1 } else { (book.day() - back).max(1) };
         let axles = random.pick(&[1, 2, 2, 3, 4, 5, 6, 99]);
         let height = random.pick(&[0, 60, 90, 91, 200, 999]);
         let height = if axles == 1 && !random.once_in(6) { height.min(90) } else { height };
-        let open = account(random, book, |n| matches!(book.accounts[n as usize - 1].state, 1 | 2));
-        let Some(n) = open else {
-            let unused = (1..=book.accounts.len() as i64).find(|n| book.accounts[*n as usize - 1].state == 0);
-            return unused.map_or([9, 0, 0, 0, 0, 0, 0], |n| self::open(random, n));
+        let Some(n) = account(random, book, |n| is_live(book, n)) else {
+            let unused = (1..=book.count() as i64).find(|n| book.state(*n) == STATE_UNUSED);
+            return unused.map_or(event(EVENT_TICK, 0, &[]), |n| open(random, n));
         };
-        [2, n, passage, day, axles, height, random.range(1, 2)]
+        event(EVENT_TOLL, n, &[passage, day, axles, height, random.range(MODE_TAG, MODE_PLATE)])
     }
+}
+
+fn is_live(book: &Book, n: i64) -> bool {
+    matches!(book.state(n), STATE_OPEN | STATE_PENDING)
+}
+
+fn balance(book: &Book, n: i64) -> i64 {
+    MODEL.balance(book, n).1
+}
+
+fn is_check(r: &[i64]) -> bool {
+    r[ROW_KIND] == KIND_PAYMENT && r[ROW_MARK] == METHOD_CHECK
+}
+
+fn is_disputable(r: &[i64]) -> bool {
+    r[ROW_KIND] == KIND_TOLL && r[ROW_DISPUTE] == DISPUTE_NEVER && r[ROW_SETTLED] < r[ROW_AMOUNT]
+}
+
+fn is_held_toll(r: &[i64]) -> bool {
+    r[ROW_KIND] == KIND_TOLL && r[ROW_DISPUTE] == DISPUTE_HELD
 }
 
 /// An account that passes a test; none where none does, but now and then any number.
 fn account(random: &mut Random, book: &Book, test: impl Fn(i64) -> bool) -> Option<i64> {
-    let count = book.accounts.len() as i64;
+    let count = book.count() as i64;
     let fit: Vec<i64> = (1..=count).filter(|n| test(*n)).collect();
     if random.once_in(12) {
         return Some(random.range(0, count + 1));
@@ -162,30 +192,31 @@ fn account(random: &mut Random, book: &Book, test: impl Fn(i64) -> bool) -> Opti
     }
 }
 
-fn open(random: &mut Random, n: i64) -> [i64; 7] {
-    let amount = random.pick(&[0, 1, 500, 2000, 1_000_000]);
-    let threshold = if amount == 0 { 0 } else { random.pick(&[0, 100, 5000, 1_000_000]) };
-    [1, n, threshold, amount, 0, 0, 0]
+fn open(random: &mut Random, n: i64) -> Event {
+    let amount = random.pick(&[0, 1, 500, 2000, MOST_AMOUNT]);
+    let threshold = if amount == 0 { 0 } else { random.pick(&[0, 100, 5000, MOST_AMOUNT]) };
+    event(EVENT_OPEN, n, &[threshold, amount])
 }
 
 /// Often just what is owed, or a cent beside it.
-fn payment(random: &mut Random, book: &Book, n: i64) -> [i64; 7] {
+fn payment(random: &mut Random, book: &Book, n: i64) -> Event {
     let any = random.range(1, 3000);
-    let owed = (random.range(-1, 1) - book.balance(n)).clamp(1, 1_000_000);
-    let amount = random.pick(&[1, any, any, owed, owed, 1_000_000]);
-    [3, n, amount, random.pick(&[1, 2, 3, 3]), 0, 0, 0]
+    let owed = (random.range(-1, 1) - balance(book, n)).clamp(1, MOST_AMOUNT);
+    let amount = random.pick(&[1, any, any, owed, owed, MOST_AMOUNT]);
+    let method = random.pick(&[METHOD_CARD, METHOD_CASH, METHOD_CHECK, METHOD_CHECK]);
+    event(EVENT_PAYMENT, n, &[amount, method])
 }
 
 /// An event on a row that passes a test, with its account; none where none does, but now and then any row.
-fn of_row(random: &mut Random, book: &Book, test: impl Fn(&Row) -> bool, kind: i64, b: i64) -> Option<[i64; 7]> {
-    let used = book.rows.len() as i64;
-    let fit: Vec<i64> = (1..=used).filter(|r| test(&book.rows[*r as usize - 1])).collect();
+fn of_row(random: &mut Random, book: &Book, test: fn(&[i64]) -> bool, kind: i64, b: i64) -> Option<Event> {
+    let used = book.rows_used() as i64;
+    let fit: Vec<i64> = (1..).zip(book.used_rows()).filter(|(_, r)| test(r)).map(|(n, _)| n).collect();
     let row = match (random.once_in(12), fit.is_empty()) {
         (true, _) => random.range(0, used + 1),
         (false, true) => return None,
         (false, false) => random.pick(&fit),
     };
-    let n = book.rows.get((row - 1).max(0) as usize).map_or(1, |r| r.account);
+    let n = book.used_rows().nth((row - 1).max(0) as usize).map_or(1, |r| r[ROW_ACCOUNT]);
     let n = if random.once_in(40) { n + 1 } else { n };
-    Some([kind, n, row, b, 0, 0, 0])
+    Some(event(kind, n, &[row, b]))
 }

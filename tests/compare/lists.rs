@@ -1,15 +1,20 @@
 //! Lists of calls from an opening, made while they run; what they met; and the shortest failing part of one.
-use crate::generate::{Host, Opening};
+use crate::generate::{Host, Opening, LAST_STAGE};
 use crate::pair::{Call, Pair};
-use crate::random::Random;
+use calls::random::Random;
+use calls::words::*;
+use calls::{Book, Event, Table, EVENT_A, EVENT_KIND, MODEL};
 use std::time::{Duration, Instant};
+
+pub const KINDS: usize = EVENT_TICK as usize + 1; // of events, with 0
+pub const NUMBERS: usize = CEILING as usize + 1; // that an event may be answered by
 
 /// What the lists met: a comparison that met too little shows little.
 #[derive(Default)]
 pub struct Met {
     pub lists: u64,
     pub events: u64,
-    pub answers: [[u64; 15]; 10], // by the event's kind (0: no kind), then by number
+    pub answers: [[u64; NUMBERS]; KINDS], // by the event's kind (0: no kind), then by number
     pub raised: u64,
     pub top_stage: u64,
     pub removed: u64,
@@ -23,7 +28,7 @@ pub struct Met {
 
 impl Met {
     pub fn accepted(&self, kind: usize) -> u64 {
-        self.answers[kind][0]
+        self.answers[kind][POSTED as usize]
     }
 
     pub fn tried(&self, kind: usize) -> u64 {
@@ -31,25 +36,38 @@ impl Met {
     }
 
     /// Counts an event by what it does to the model's book.
-    fn note(&mut self, before: &model::Book, event: &[i64; 7], words: [i64; 5], after: &model::Book) {
-        let kind = if (1..=9).contains(&event[0]) { event[0] as usize } else { 0 };
+    fn note(&mut self, before: &Book, event: &Event, answer: &[i64], after: &Book) {
+        let kind = if (EVENT_OPEN..=EVENT_TICK).contains(&event[EVENT_KIND]) { event[EVENT_KIND] } else { 0 };
+        let number = answer[ANSWER_NUMBER];
         self.events += 1;
-        self.answers[kind][words[0] as usize] += 1;
-        self.raised += words[3] as u64;
-        self.removed += words[4] as u64;
-        if kind == 9 && words[0] == 0 {
-            for (old, new) in before.rows.iter().zip(&after.rows) {
-                self.holds_ended += (old.dispute == 1 && new.dispute == 2) as u64;
-                self.top_stage += (old.mark == 3 && new.mark == 4 && new.kind == 1) as u64;
-            }
-            self.refunds += after.rows[before.rows.len()..].iter().filter(|r| r.kind == 6).count() as u64;
-            let closed = |b: &model::Book| b.accounts.iter().filter(|x| x.state == 3).count() as u64;
-            self.closed += closed(after) - closed(before);
+        self.answers[kind as usize][number as usize] += 1;
+        self.raised += answer[ANSWER_RAISED] as u64;
+        self.removed += answer[ANSWER_REMOVED] as u64;
+        self.full += (after.rows_used() == after.room()) as u64;
+        if (kind, number) == (EVENT_TICK, POSTED) {
+            self.note_tick(before, after);
         }
-        self.reopened += (kind == 4 && words[0] == 0) as u64
-            * before.accounts.iter().zip(&after.accounts).filter(|(x, y)| x.state == 3 && y.state == 2).count() as u64;
-        self.full += (after.rows.len() == after.room) as u64;
+        if (kind, number) == (EVENT_RETURNED_CHECK, POSTED) {
+            self.reopened += became(before, after, STATE_CLOSED, STATE_PENDING);
+        }
     }
+
+    fn note_tick(&mut self, before: &Book, after: &Book) {
+        for (old, new) in before.used_rows().zip(after.used_rows()) {
+            self.holds_ended += (old[ROW_DISPUTE] == DISPUTE_HELD && new[ROW_DISPUTE] == DISPUTE_ENDED) as u64;
+            self.top_stage +=
+                (old[ROW_KIND] == KIND_TOLL && old[ROW_MARK] < new[ROW_MARK] && new[ROW_MARK] == LAST_STAGE) as u64;
+        }
+        self.refunds +=
+            after.used_rows().skip(before.rows_used()).filter(|r| r[ROW_KIND] == KIND_REFUND).count() as u64;
+        self.closed += became(before, after, STATE_PENDING, STATE_CLOSED);
+    }
+}
+
+/// How many accounts went from one state to another.
+fn became(before: &Book, after: &Book, old: i64, new: i64) -> u64 {
+    let accounts = before.all_accounts().zip(after.all_accounts());
+    accounts.filter(|(x, y)| x[ACCOUNT_STATE] == old && y[ACCOUNT_STATE] == new).count() as u64
 }
 
 /// A list that the library answered otherwise than the model.
@@ -61,21 +79,25 @@ pub struct Failure {
 
 /// Makes the next call for a book, and notes what its events do.
 fn next_call(random: &mut Random, host: &mut Host, pair: &Pair, longest: i64, met: &mut Met) -> Call {
-    let n = random.range(0, (pair.tables.accounts.len() / 7) as i64 + 1);
+    let n = random.range(0, pair.model.count() as i64 + 1);
     match random.below(100) {
         0..=3 => return Call::Balance(n),
         4..=7 => return Call::TopUpDue(n),
         _ => {}
     }
-    let Some(mut book) = pair.tables.book() else { return Call::Balance(n) };
+    if !MODEL.is_sound(&pair.model) {
+        return Call::Balance(n);
+    }
+    let (mut before, mut book) = (pair.model.clone(), pair.model.clone());
     let single = random.below(100) < 55;
     let count = if single { 1 } else { random.range(0, longest) };
     let mut events = Vec::new();
     for _ in 0..count {
         let event = host.event(random, &book);
-        let before = book.clone();
-        let words = book.post(&event);
-        met.note(&before, &event, words, &book);
+        before.copy_words(&book);
+        let mut answer = Table::answers(ANSWER_WORDS);
+        MODEL.event(&mut book, &event, &mut answer);
+        met.note(&before, &event, &answer, &book);
         events.push(event);
     }
     if single {
@@ -83,11 +105,11 @@ fn next_call(random: &mut Random, host: &mut Host, pair: &Pair, longest: i64, me
         if random.once_in(60) {
             words.resize(random.index(10), 0);
         }
-        let answer = if random.once_in(20) { random.index(9) } else { 5 };
+        let answer = if random.once_in(20) { random.index(9) } else { ANSWER_WORDS };
         return Call::Event { words, answer };
     }
     let spare = if random.once_in(10) { random.range(-6, 6) } else { 0 };
-    Call::Batch { answers: (5 * events.len() as i64 + spare).max(0) as usize, events }
+    Call::Batch { answers: ((ANSWER_WORDS * events.len()) as i64 + spare).max(0) as usize, events }
 }
 
 /// How a list is made: how many events at least, how many in a batch at most, and how many rows are filled first.
@@ -99,7 +121,7 @@ pub struct Plan {
 
 /// Opens a book and makes calls.
 pub fn run(random: &mut Random, opening: Opening, plan: &Plan, met: &mut Met) -> Result<Pair, Failure> {
-    let mut pair = Pair::new(opening.tables());
+    let mut pair = Pair::new(opening.book());
     let mut calls = vec![Call::Open(opening.schedule.clone())];
     let mut host = Host::new(random, plan.fill);
     let end = met.events + plan.events;
@@ -119,17 +141,19 @@ pub fn run(random: &mut Random, opening: Opening, plan: &Plan, met: &mut Met) ->
 
 /// The calls up to the first that differs, and how it does.
 fn fails(opening: &Opening, calls: &[Call]) -> Option<(usize, String)> {
-    let mut pair = Pair::new(opening.tables());
+    let mut pair = Pair::new(opening.book());
     calls.iter().enumerate().find_map(|(i, c)| pair.call(c).err().map(|difference| (i + 1, difference)))
 }
 
 /// Each batch as its events, one by one.
 fn singles(calls: &[Call]) -> Vec<Call> {
-    let one = |e: &[i64; 7]| Call::Event { words: e.to_vec(), answer: 5 };
+    let one = |e: &Event| Call::Event { words: e.to_vec(), answer: ANSWER_WORDS };
     calls
         .iter()
         .flat_map(|c| match c {
-            Call::Batch { events, answers } if *answers >= 5 * events.len() && events.len() <= 4096 => {
+            Call::Batch { events, answers }
+                if *answers >= ANSWER_WORDS * events.len() && events.len() <= MOST_EVENTS =>
+            {
                 events.iter().map(one).collect()
             }
             other => vec![other.clone()],
@@ -137,37 +161,30 @@ fn singles(calls: &[Call]) -> Vec<Call> {
         .collect()
 }
 
+fn names_row(kind: i64) -> bool {
+    matches!(kind, EVENT_RETURNED_CHECK | EVENT_DISPUTE | EVENT_DECISION)
+}
+
 /// A list without some of its calls. Later events that name a row by number follow it to its new place.
 fn without(opening: &Opening, calls: &[Call], from: usize, to: usize) -> Vec<Call> {
-    let mut tables = opening.tables();
+    let mut book = opening.book();
     let mut left = calls[..from].to_vec();
     let mut moved: Vec<(i64, i64)> = Vec::new(); // rows from a number on move down by so many
     for (i, call) in calls.iter().enumerate() {
-        let used = |t: &[i64]| if i == 0 { 0 } else { t[1] };
-        let before = used(&tables.header);
-        let mut pair_less = call.clone();
-        let (h, a, j) = (&mut tables.header, &mut tables.accounts, &mut tables.journal);
-        match call {
-            Call::Open(schedule) => {
-                model::open(h, a, j, schedule);
-            }
-            Call::Event { words, answer } => {
-                model::event(h, a, j, words, &mut vec![0; *answer]);
-            }
-            Call::Batch { events, answers } => {
-                model::batch(h, a, j, events, &mut vec![0; *answers]);
-            }
-            Call::Balance(_) | Call::TopUpDue(_) => {}
-        }
+        let before = if i == 0 { 0 } else { book.header[HEADER_ROWS_USED] };
+        call.make_by_model(&mut book);
         if (from..to).contains(&i) {
-            moved.push((before + 1, tables.header[1] - before));
+            moved.push((before + 1, book.header[HEADER_ROWS_USED] - before));
         } else if i >= to {
-            if let Call::Event { words, .. } = &mut pair_less {
-                if words.len() == 7 && (4..=6).contains(&words[0]) {
-                    words[2] -= moved.iter().filter(|m| words[2] >= m.0 + m.1).map(|m| m.1).sum::<i64>();
+            let mut follows = call.clone();
+            match &mut follows {
+                Call::Event { words, .. } if words.len() == EVENT_WORDS && names_row(words[EVENT_KIND]) => {
+                    let row = words[EVENT_A];
+                    words[EVENT_A] -= moved.iter().filter(|m| row >= m.0 + m.1).map(|m| m.1).sum::<i64>();
                 }
+                _ => {}
             }
-            left.push(pair_less);
+            left.push(follows);
         }
     }
     left
@@ -213,13 +230,13 @@ impl Failure {
         for i in 0..self.calls.len() {
             let mut event = 0;
             while let Call::Batch { events, answers } = &self.calls[i] {
-                if event == events.len() || *answers < 5 || Instant::now() >= end {
+                if event == events.len() || *answers < ANSWER_WORDS || Instant::now() >= end {
                     break;
                 }
                 let mut fewer = events.clone();
                 fewer.remove(event);
                 let mut calls = self.calls.clone();
-                calls[i] = Call::Batch { events: fewer, answers: answers - 5 };
+                calls[i] = Call::Batch { events: fewer, answers: answers - ANSWER_WORDS };
                 match fails(&self.opening, &calls) {
                     Some((length, difference)) if length == calls.len() => {
                         self.calls = calls;

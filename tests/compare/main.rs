@@ -4,15 +4,14 @@
 //!     compare [SEED]
 mod damage;
 mod generate;
-mod library;
 mod lists;
 mod pair;
-mod random;
 
+use calls::random::Random;
+use calls::words::{FULL, MOST_ACCOUNTS, MOST_EVENTS, MOST_ROWS, UNSOUND};
 use generate::{Host, Opening};
-use lists::Plan;
+use lists::{Plan, KINDS};
 use pair::Pair;
-use random::Random;
 
 const LISTS: u64 = 400;
 const EVENTS: u64 = 200; // in a list, at least
@@ -51,29 +50,29 @@ fn damage_book(seed: u64, number: u64, times: u64, random: &mut Random, pair: &P
     let mut host = Host::new(random, 0);
     for i in 0..times {
         let one = &mut Random::new(seed, (number + 1) << 32 | i);
-        damage::run(one, &mut host, &pair.tables, met).unwrap_or_else(|f| stop_damaged(seed, number, i, f));
+        damage::run(one, &mut host, &pair.model, met).unwrap_or_else(|f| stop_damaged(seed, number, i, f));
     }
 }
 
-/// Books of the largest sizes, few of them: the model takes its time.
+/// Books of the largest sizes, few of them: each event of a list is a call on the whole book.
 fn large_books(seed: u64, met: &mut lists::Met, damaged: &mut damage::Met) {
     let plans = [
-        (256, 8192, Plan { events: 600, longest: 300, fill: 0 }),
-        (4, 8192, Plan { events: 12_000, longest: 4096, fill: 8192 }),
-        (256, 700, Plan { events: 1200, longest: 400, fill: 600 }),
+        (MOST_ACCOUNTS, MOST_ROWS, Plan { events: 6_000, longest: MOST_EVENTS as i64, fill: 0 }),
+        (4, MOST_ROWS, Plan { events: 12_000, longest: MOST_EVENTS as i64, fill: MOST_ROWS }),
+        (MOST_ACCOUNTS, 700, Plan { events: 1200, longest: 400, fill: 600 }),
     ];
     for (number, (accounts, rows, plan)) in (LISTS..).zip(plans) {
         let random = &mut Random::new(seed, number);
         let opening = Opening::new(random, accounts, rows);
         let pair = lists::run(random, opening, &plan, met).unwrap_or_else(|f| stop(seed, number, f));
         damage_book(seed, number, 25, random, &pair, damaged);
-        met.largest = met.largest.max(pair.tables.header[1] as u64);
+        met.largest = met.largest.max(pair.model.rows_used() as u64);
     }
 }
 
 /// Fails where the events or the damaged books met too little to show anything.
 fn enough(met: &lists::Met, damaged: &damage::Met) -> Result<(), String> {
-    let accepted: u64 = (0..10).map(|k| met.accepted(k)).sum();
+    let accepted: u64 = (0..KINDS).map(|k| met.accepted(k)).sum();
     let wants = [
         ("events", met.events, 20_000),
         ("accepted events in a hundred", 100 * accepted / met.events, 40),
@@ -84,7 +83,7 @@ fn enough(met: &lists::Met, damaged: &damage::Met) -> Result<(), String> {
         ("closed accounts pending again", met.reopened, 10),
         ("top-ups removed", met.removed, 50),
         ("events that left a full journal", met.full, 500),
-        ("rows in the largest journal", met.largest, 8192),
+        ("rows in the largest journal", met.largest, MOST_ROWS as u64),
         ("damaged books", damaged.books, 20_000),
         ("damaged books in a hundred that are sound", 100 * damaged.sound / damaged.books, 5),
         ("damaged lengths", damaged.lengths, 2_000),
@@ -95,12 +94,12 @@ fn enough(met: &lists::Met, damaged: &damage::Met) -> Result<(), String> {
             return Err(format!("too few {what}: {found}, not {want}"));
         }
     }
-    for kind in 1..10 {
+    for kind in 1..KINDS {
         if met.accepted(kind) < 300 || 100 * met.accepted(kind) / met.tried(kind) < 40 {
             return Err(format!("event {kind}: accepted {} of {} times", met.accepted(kind), met.tried(kind)));
         }
     }
-    match (0..14).find(|&n| n != 1 && met.answers.iter().map(|k| k[n]).sum::<u64>() < 20) {
+    match (0..=FULL as usize).find(|&n| n != UNSOUND as usize && met.answers.iter().map(|k| k[n]).sum::<u64>() < 20) {
         Some(n) => Err(format!("answer {n} was met fewer than 20 times")),
         None => Ok(()),
     }
@@ -112,7 +111,7 @@ fn main() {
     let (mut met, mut damaged) = (lists::Met::default(), damage::Met::default());
     small_books(seed, &mut met, &mut damaged);
     large_books(seed, &mut met, &mut damaged);
-    let accepted: Vec<String> = (1..10).map(|k| format!("{}/{}", met.accepted(k), met.tried(k))).collect();
+    let accepted: Vec<String> = (1..KINDS).map(|k| format!("{}/{}", met.accepted(k), met.tried(k))).collect();
     println!("{} events from {} openings; events 1 to 9 accepted: {}", met.events, met.lists, accepted.join(" "));
     println!(
         "{} tolls raised, {} holds ended, {} accounts closed; {} damaged books, {} of them sound",

@@ -1,12 +1,17 @@
 //! The same calls on the model and on the library, with every word compared.
-use crate::library::{Book, Table};
+use calls::words::ANSWER_WORDS;
+use calls::{Book, Calls, Event, Table, MODEL};
 use std::fmt;
+
+/// include/toll_ledger.h.
+static LIBRARY: Calls =
+    calls::calls!(toll_ledger_open, toll_ledger_event, toll_ledger_batch, toll_ledger_balance, toll_ledger_topup_due);
 
 /// A call on a book, with the lengths of its event and answer table as a host may give them.
 #[derive(Clone)]
 pub enum Call {
     Event { words: Vec<i64>, answer: usize },
-    Batch { events: Vec<[i64; 7]>, answers: usize },
+    Batch { events: Vec<Event>, answers: usize },
     Balance(i64),
     TopUpDue(i64),
     Open(Vec<i64>),
@@ -15,7 +20,7 @@ pub enum Call {
 impl fmt::Display for Call {
     fn fmt(&self, f: &mut fmt::Formatter) -> fmt::Result {
         match self {
-            Call::Event { words, answer: 5 } => write!(f, "event {}", line(words)),
+            Call::Event { words, answer: ANSWER_WORDS } => write!(f, "event {}", line(words)),
             Call::Event { words, answer } => write!(f, "event {} into {answer} words", line(words)),
             Call::Batch { events, answers } => {
                 write!(f, "batch of {} into {answers} words", events.len())?;
@@ -33,42 +38,47 @@ pub fn line(words: &[i64]) -> String {
     words.iter().map(i64::to_string).collect::<Vec<_>>().join(",")
 }
 
-/// The tables of one book, by the model.
-#[derive(Clone, PartialEq)]
-pub struct Tables {
-    pub header: Vec<i64>,
-    pub accounts: Vec<i64>,
-    pub journal: Vec<i64>,
+/// What a call gives: its number, a question's value, the answer table.
+struct Given {
+    number: i64,
+    value: i64,
+    answers: Table,
 }
 
-impl Tables {
-    /// A book as a library is lent it.
-    fn lent(&self) -> Book {
-        Book {
-            header: Table::new(&self.header),
-            accounts: Table::new(&self.accounts),
-            journal: Table::new(&self.journal),
-        }
+impl Call {
+    fn make(&self, calls: &Calls, book: &mut Book) -> Given {
+        let room = match self {
+            Call::Event { answer: words, .. } | Call::Batch { answers: words, .. } => *words,
+            _ => 0,
+        };
+        let mut answers = Table::answers(room);
+        let (number, value) = match self {
+            Call::Event { words, .. } => (calls.event(book, words, &mut answers), 0),
+            Call::Batch { events, .. } => (calls.batch(book, events, &mut answers), 0),
+            Call::Balance(n) => calls.balance(book, *n),
+            Call::TopUpDue(n) => calls.topup_due(book, *n),
+            Call::Open(schedule) => (calls.open(book, schedule), 0),
+        };
+        Given { number, value, answers }
     }
 
-    pub fn book(&self) -> Option<model::Book> {
-        model::read_book(&self.header, &self.accounts, &self.journal)
+    /// Makes the call on the model alone.
+    pub fn make_by_model(&self, book: &mut Book) {
+        self.make(&MODEL, book);
     }
 }
 
 /// A book twice: what the model made of it and what the library made of it. The two are equal after every call.
 #[derive(Clone)]
 pub struct Pair {
-    pub tables: Tables,
-    lent: Book,
+    pub model: Book,
+    library: Book,
 }
 
-/// Words that no answer has, each another one, so that a word written or moved shows.
-fn answer_table(words: usize) -> Vec<i64> {
-    (0..words as i64).map(|i| -1000 - i).collect()
-}
-
-fn same(what: &str, want: &[i64], got: &[i64]) -> Result<(), String> {
+fn same(what: &str, want: &Table, got: &Table) -> Result<(), String> {
+    if !want.guarded() || !got.guarded() {
+        return Err(format!("a word beside {what} was written"));
+    }
     match (0..want.len()).find(|&i| want[i] != got[i]) {
         None => Ok(()),
         Some(i) => Err(format!("word {i} of {what}: {} expected, {} found", want[i], got[i])),
@@ -76,55 +86,21 @@ fn same(what: &str, want: &[i64], got: &[i64]) -> Result<(), String> {
 }
 
 impl Pair {
-    pub fn new(tables: Tables) -> Pair {
-        let lent = tables.lent();
-        Pair { tables, lent }
+    pub fn new(book: Book) -> Pair {
+        Pair { model: book.clone(), library: book }
     }
 
-    /// Makes a call on both. Gives the numbers that it answered: its own, or those of the events it has run.
-    pub fn call(&mut self, call: &Call) -> Result<Vec<i64>, String> {
-        let t = &mut self.tables;
-        let (h, a, j) = (&mut t.header, &mut t.accounts, &mut t.journal);
-        let (want, got, numbers) = match call {
-            Call::Event { words, answer } => {
-                let mut expected = answer_table(*answer);
-                let mut found = Table::new(&expected);
-                let want = model::event(h, a, j, words, &mut expected);
-                let got = self.lent.event(words, &mut found);
-                compare_answers(&expected, &found)?;
-                ((want, 0), (got, 0), vec![want])
-            }
-            Call::Batch { events, answers } => {
-                let mut expected = answer_table(*answers);
-                let mut found = Table::new(&expected);
-                let want = model::batch(h, a, j, events, &mut expected);
-                let got = self.lent.batch(events, &mut found);
-                compare_answers(&expected, &found)?;
-                let run = if want == 0 { (0..events.len()).map(|i| expected[5 * i]).collect() } else { vec![want] };
-                ((want, 0), (got, 0), run)
-            }
-            Call::Balance(n) => (model::balance(h, a, j, *n), self.lent.balance(*n), vec![]),
-            Call::TopUpDue(n) => (model::top_up_due(h, a, j, *n), self.lent.top_up_due(*n), vec![]),
-            Call::Open(schedule) => ((model::open(h, a, j, schedule), 0), (self.lent.open(schedule), 0), vec![]),
-        };
-        if want != got {
-            return Err(format!("number and value {want:?} expected, {got:?} found"));
+    /// Makes a call on both.
+    pub fn call(&mut self, call: &Call) -> Result<(), String> {
+        let want = call.make(&MODEL, &mut self.model);
+        let got = call.make(&LIBRARY, &mut self.library);
+        same("the answer table", &want.answers, &got.answers)?;
+        let (wanted, given) = ((want.number, want.value), (got.number, got.value));
+        if wanted != given {
+            return Err(format!("number and value {wanted:?} expected, {given:?} found"));
         }
-        same("the header", h, self.lent.header.words())?;
-        same("the accounts", a, self.lent.accounts.words())?;
-        same("the journal", j, self.lent.journal.words())?;
-        if !self.lent.guarded() {
-            return Err("a word beside a table was written".to_string());
-        }
-        Ok(numbers)
-    }
-}
-
-fn compare_answers(expected: &[i64], found: &Table) -> Result<(), String> {
-    same("the answer table", expected, found.words())?;
-    if found.guarded() {
-        Ok(())
-    } else {
-        Err("a word beside the answer table was written".to_string())
+        same("the header", &self.model.header, &self.library.header)?;
+        same("the accounts", &self.model.accounts, &self.library.accounts)?;
+        same("the journal", &self.model.journal, &self.library.journal)
     }
 }

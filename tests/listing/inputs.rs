@@ -1,7 +1,11 @@
 //! Random inputs of the listing: openings, events as a host might send them, and bad lines of every kind.
-use crate::random::Random;
+use calls::random::Random;
+use calls::words::*;
+use calls::Event;
 
 const NAMES: [&[u8]; 2] = [b"day,len,f2,f3,f4,r1t,r1p,r2t,r2p,r3t,r3p\n", b"kind,account,a,b,c,d,e\n"];
+
+pub const SCHEDULE: [i64; SCHEDULE_WORDS] = [1, 30, 500, 2500, 3000, 250, 500, 600, 900, 1200, 1600];
 
 /// Numbers that a line may hold, or nearly.
 const ODD: [&[u8]; 16] = [
@@ -38,28 +42,35 @@ pub fn opening(values: &[i64]) -> Vec<u8> {
 }
 
 /// An event for a book of 64 accounts, a few of them busy.
-pub fn event(random: &mut Random) -> [i64; 7] {
+pub fn event(random: &mut Random) -> Event {
     let account = random.pick(&[1, 2, 3, 4, 7, 63, 64]);
     let row = random.range(1, 60);
     match random.below(14) {
-        0 | 1 => [1, account, random.pick(&[0, 500]), random.pick(&[0, 1000]), 0, 0, 0],
+        0 | 1 => calls::event(EVENT_OPEN, account, &[random.pick(&[0, 500]), random.pick(&[0, 1000])]),
         2..=5 => {
             let back = random.pick(&[0, 0, 3, 60, 61]);
-            [2, account, random.range(1, 99_999), random.range(1, 40) - back, random.range(1, 6), random.range(20, 120), random.range(1, 2)]
+            let (passage, day) = (random.range(1, 99_999), random.range(1, 40) - back);
+            let (axles, height) = (random.range(1, 6), random.range(20, 120));
+            calls::event(EVENT_TOLL, account, &[passage, day, axles, height, random.range(MODE_TAG, MODE_PLATE)])
         }
-        6 | 7 => [3, account, random.range(1, 5000), random.range(1, 3), 0, 0, 0],
-        8 => [4, account, row, random.range(0, 900), 0, 0, 0],
-        9 => [5, account, row, 0, 0, 0, 0],
-        10 => [6, account, row, random.below(2), 0, 0, 0],
-        11 => [7, account, 0, random.below(2), 0, 0, 0],
-        12 if random.once_in(8) => [8, account, 0, 0, 0, 0, 0],
-        _ => [9, 0, 0, 0, 0, 0, 0],
+        6 | 7 => {
+            let (amount, method) = (random.range(1, 5000), random.range(METHOD_CARD, METHOD_CHECK));
+            calls::event(EVENT_PAYMENT, account, &[amount, method])
+        }
+        8 => calls::event(EVENT_RETURNED_CHECK, account, &[row, random.range(0, 900)]),
+        9 => calls::event(EVENT_DISPUTE, account, &[row]),
+        10 => calls::event(EVENT_DECISION, account, &[row, random.below(2)]),
+        11 => calls::event(EVENT_TOPUP_RESULT, account, &[0, random.below(2)]),
+        12 if random.once_in(8) => calls::event(EVENT_CLOSE_REQUEST, account, &[]),
+        _ => calls::event(EVENT_TICK, 0, &[]),
     }
 }
 
 /// An input that is good, or has one damage.
 pub fn input(random: &mut Random) -> Vec<u8> {
-    let values = [random.pick(&[1, 1, 40, 36_400, 36_525]), random.pick(&[1, 3, 30, 365]), 500, 2500, 3000, 250, 500, 600, 900, 1200, 1600];
+    let mut values = SCHEDULE;
+    values[0] = random.pick(&[1, 1, 40, 36_400, DAYS]);
+    values[1] = random.pick(&[1, 3, 30, 365]);
     let mut input = opening(&values);
     for _ in 0..random.pick(&[0, 1, 5, 50, 400, 1500]) {
         put_line(&mut input, &event(random));

@@ -3,11 +3,9 @@
 //!
 //!     listing-test PROGRAM VECTORS OUT [SEED..]
 mod inputs;
-#[allow(dead_code)] // the comparison asks for more of it
-#[path = "../compare/random.rs"]
-mod random;
+mod model;
 
-use random::Random;
+use calls::random::Random;
 use std::fs;
 use std::io::{Read, Write};
 use std::path::Path;
@@ -51,7 +49,7 @@ fn vectors(program: &str, folder: &Path, out: &Path) {
     for name in &names {
         let (input, want) = (fs::read(name).unwrap(), fs::read(name.with_extension("out")).unwrap());
         let what = name.display().to_string();
-        check(&format!("{what}, the model"), out, &input, &want, model::listing::listing(&input).as_bytes());
+        check(&format!("{what}, the model"), out, &input, &want, model::listing(&input).as_bytes());
         check(&what, out, &input, &want, &printed(program, &input, usize::MAX));
         check(&format!("{what}, in parts"), out, &input, &want, &printed(program, &input, 7));
     }
@@ -63,7 +61,7 @@ fn random_inputs(program: &str, seed: u64, out: &Path) {
     for number in 0..INPUTS {
         let random = &mut Random::new(seed, number);
         let input = inputs::input(random);
-        let want = model::listing::listing(&input);
+        let want = model::listing(&input);
         let part = random.pick(&[1, 13, 100, 4096, 65_536, usize::MAX]);
         check(&format!("seed {seed}, input {number}"), out, &input, want.as_bytes(), &printed(program, &input, part));
         events += want.lines().filter(|l| l.split(',').count() == 6).count();
@@ -89,7 +87,7 @@ fn long_input(program: &str) {
         from.read_to_end(&mut output).map(|_| output).expect("its output is read")
     });
     let random = &mut Random::new(9, 9);
-    let mut input = inputs::opening(&[1, 30, 500, 2500, 3000, 250, 500, 600, 900, 1200, 1600]);
+    let mut input = inputs::opening(&inputs::SCHEDULE);
     for _ in 0..EVENTS {
         inputs::put_line(&mut input, &inputs::event(random));
     }

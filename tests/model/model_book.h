@@ -1,6 +1,6 @@
 /* The lent tables seen as a book: records over their words, and what is asked of a row or account. */
-#ifndef REF_BOOK_H
-#define REF_BOOK_H
+#ifndef MODEL_BOOK_H
+#define MODEL_BOOK_H
 
 #include <stdbool.h>
 
@@ -11,20 +11,37 @@
 #define LATEST_PASSAGE_DAYS 60
 #define BARRING_RETURNS 3
 #define LAST_DECLINE 3
+#define FIRST_FEE_STAGE 2 /* fees stand in the header from this stage on */
 #define LAST_STAGE 4
+#define FEES (LAST_STAGE - FIRST_FEE_STAGE + 1)
 #define MOST_STAGE_DAYS 365
 #define MOST_FEE 100000
 #define MOST_AMOUNT 1000000 /* of a toll, a reversal, a payment, a rate, a top-up, a threshold */
 #define MOST_CREDIT 1300000
 #define MOST_REFUND INT64_C(10649600000)
 #define MOST_PASSAGE 1000000000
+#define MOST_AXLES 99
+#define MOST_HEIGHT 999
 #define RETURN_FEE 500
+#define RETURN_ROWS 2 /* a reversal and a fee */
 #define MOST_BANK_CHARGE 99500
+#define VERDICT_UPHELD 1
+#define TOPUP_DECLINED 0
+#define TOPUP_PAID 1
+
+/* Classes of vehicles, by axles and by height in inches. */
+enum { NO_CLASS, CLASS_1, CLASS_2, CLASS_3 };
+#define TWO_AXLES 2
+#define LEAST_AXLES_2 3 /* of class 2 at any height */
+#define LEAST_AXLES_3 5
+#define MOST_HEIGHT_1 90
+#define MODES TOLL_LEDGER_MODE_PLATE
+#define RATES (CLASS_3 * MODES)
 
 struct header {
     int64_t day, used, length; /* length: L, in days */
-    int64_t fees[3];           /* for stages 2, 3, 4 */
-    int64_t rates[6];          /* by class, then by mode */
+    int64_t fees[FEES];        /* by stage */
+    int64_t rates[RATES];      /* by class, then by mode */
 };
 
 struct account {
@@ -45,6 +62,12 @@ struct book {
 struct answer {
     int64_t number, first_row, new_rows, raised, removed;
 };
+
+_Static_assert(sizeof(struct header) == TOLL_LEDGER_HEADER_WORDS * sizeof(int64_t) &&
+                   sizeof(struct account) == TOLL_LEDGER_ACCOUNT_WORDS * sizeof(int64_t) &&
+                   sizeof(struct row) == TOLL_LEDGER_ROW_WORDS * sizeof(int64_t) &&
+                   sizeof(struct answer) == TOLL_LEDGER_ANSWER_WORDS * sizeof(int64_t),
+               "records are the words of the tables");
 
 typedef struct toll_ledger_event_record event;
 
@@ -121,17 +144,17 @@ static inline bool has_room(const struct book *b, size_t rows)
     return b->room - rows_used(b) >= rows;
 }
 
-/* ref_sound.c */
+/* model_sound.c */
 bool lengths_fit(size_t header_words, size_t accounts_words, size_t journal_words);
 bool schedule_fits(int64_t day, const int64_t *schedule); /* L, fees, rates */
 bool is_sound(const struct book *b);                      /* its lengths fit */
 
-/* ref_events.c */
+/* model_events.c */
 int64_t balance_of(const struct book *b, int64_t account);
 bool is_topup_due(const struct book *b, int64_t account);
 struct answer post(const struct book *b, const event *e); /* on a sound book */
 
-/* ref_tick.c */
+/* model_tick.c */
 struct answer tick(const struct book *b);
 
 #endif

@@ -1,5 +1,5 @@
 /* Events 1 to 8, and settlement. */
-#include "ref_book.h"
+#include "model_book.h"
 
 int64_t balance_of(const struct book *b, int64_t account)
 {
@@ -70,7 +70,7 @@ static bool is_well_formed(const event *e)
                (e->b != 0 || e->a == 0) && short_form;
     case TOLL_LEDGER_EVENT_TOLL:
         return within(1, e->a, MOST_PASSAGE) && within(1, e->b, TOLL_LEDGER_DAYS) &&
-               within(1, e->c, 99) && within(0, e->d, 999) &&
+               within(1, e->c, MOST_AXLES) && within(0, e->d, MOST_HEIGHT) &&
                within(TOLL_LEDGER_MODE_TAG, e->e, TOLL_LEDGER_MODE_PLATE);
     case TOLL_LEDGER_EVENT_PAYMENT:
         return within(1, e->a, MOST_AMOUNT) &&
@@ -80,9 +80,9 @@ static bool is_well_formed(const event *e)
     case TOLL_LEDGER_EVENT_DISPUTE:
         return e->b == 0 && short_form;
     case TOLL_LEDGER_EVENT_DECISION:
-        return within(0, e->b, 1) && short_form;
+        return within(0, e->b, VERDICT_UPHELD) && short_form;
     case TOLL_LEDGER_EVENT_TOPUP_RESULT:
-        return e->a == 0 && within(0, e->b, 1) && short_form;
+        return e->a == 0 && within(0, e->b, TOPUP_PAID) && short_form;
     case TOLL_LEDGER_EVENT_CLOSE_REQUEST:
         return e->a == 0 && e->b == 0 && short_form;
     case TOLL_LEDGER_EVENT_TICK:
@@ -102,16 +102,17 @@ static struct answer open_account(const struct book *b, struct account *x, const
     return posted(b, b->header->used);
 }
 
-/* Class 1, 2 or 3; 0 for one axle above 90 inches. */
+/* "1 for up to 2 axles and at most 90 inches; 2 for 2 axles above 90, for 3 and for 4 axles; 3 for 5
+ * or more"; none for one axle above 90. */
 static int64_t class_of(int64_t axles, int64_t height)
 {
-    if (axles >= 5)
-        return 3;
-    if (axles >= 3)
-        return 2;
-    if (height <= 90)
-        return 1;
-    return axles == 2 ? 2 : 0;
+    if (axles >= LEAST_AXLES_3)
+        return CLASS_3;
+    if (axles >= LEAST_AXLES_2)
+        return CLASS_2;
+    if (height <= MOST_HEIGHT_1)
+        return CLASS_1;
+    return axles == TWO_AXLES ? CLASS_2 : NO_CLASS;
 }
 
 static bool has_passage(const struct book *b, int64_t passage)
@@ -125,7 +126,7 @@ static bool has_passage(const struct book *b, int64_t passage)
 
 static int64_t toll_refusal(const struct book *b, const event *e)
 {
-    if (class_of(e->c, e->d) == 0)
+    if (class_of(e->c, e->d) == NO_CLASS)
         return TOLL_LEDGER_UNCLASSED;
     if (!within(b->header->day - LATEST_PASSAGE_DAYS, e->b, b->header->day))
         return TOLL_LEDGER_MISDATED;
@@ -143,7 +144,7 @@ static struct answer post_toll(const struct book *b, const event *e)
         return refused(number);
     add_row(b, (struct row){.kind = TOLL_LEDGER_KIND_TOLL,
                             .account = e->account,
-                            .amount = h->rates[2 * (class_of(e->c, e->d) - 1) + e->e - 1],
+                            .amount = h->rates[MODES * (class_of(e->c, e->d) - CLASS_1) + e->e - 1],
                             .due = h->day + h->length,
                             .reference = e->a});
     settle(b, e->account);
@@ -188,7 +189,7 @@ static struct answer return_check(const struct book *b, struct account *x, const
         return refused(TOLL_LEDGER_NO_ROW);
     if (payment->mark != TOLL_LEDGER_METHOD_CHECK)
         return refused(TOLL_LEDGER_UNTIMELY);
-    if (!has_room(b, 2))
+    if (!has_room(b, RETURN_ROWS))
         return refused(TOLL_LEDGER_FULL);
     payment->mark = TOLL_LEDGER_METHOD_CHECK_RETURNED;
     x->returned++;
@@ -250,13 +251,13 @@ static struct answer decide(const struct book *b, const event *e)
         return refused(TOLL_LEDGER_NO_ROW);
     if (toll->dispute != TOLL_LEDGER_DISPUTE_HELD)
         return refused(TOLL_LEDGER_UNTIMELY);
-    if (e->b == 1 && !has_room(b, 1))
+    if (e->b == VERDICT_UPHELD && !has_room(b, 1))
         return refused(TOLL_LEDGER_FULL);
-    if (e->b == 1)
+    if (e->b == VERDICT_UPHELD)
         uphold(b, toll, e->a);
     else
         toll->due += b->header->day - toll->hold;
-    toll->dispute = e->b == 1 ? TOLL_LEDGER_DISPUTE_UPHELD : TOLL_LEDGER_DISPUTE_ENDED;
+    toll->dispute = e->b == VERDICT_UPHELD ? TOLL_LEDGER_DISPUTE_UPHELD : TOLL_LEDGER_DISPUTE_ENDED;
     toll->hold = 0;
     settle(b, e->account);
     return posted(b, before);
@@ -279,7 +280,7 @@ static struct answer topup_result(const struct book *b, struct account *x, const
 {
     if (!is_topup_due(b, e->account))
         return refused(TOLL_LEDGER_UNTIMELY);
-    if (e->b == 0)
+    if (e->b == TOPUP_DECLINED)
         return decline(b, x);
     if (!has_room(b, 1))
         return refused(TOLL_LEDGER_FULL);

@@ -1,9 +1,9 @@
 /* The five calls: the tables' lengths and soundness on entry, then what was asked. */
-#include "ref.h"
+#include "model.h"
 
 #include <string.h>
 
-#include "ref_book.h"
+#include "model_book.h"
 
 /* The book in tables whose lengths fit. Questions hand in tables that they don't write. */
 static struct book book_in(const int64_t *header, const int64_t *accounts, size_t accounts_words,
@@ -36,9 +36,9 @@ static void write_answer(int64_t *words, struct answer answer)
     words[TOLL_LEDGER_ANSWER_REMOVED] = answer.removed;
 }
 
-int64_t ref_open(int64_t *header, size_t header_words, int64_t *accounts, size_t accounts_words,
-                 int64_t *journal, size_t journal_words, const int64_t *schedule,
-                 size_t schedule_words)
+int64_t model_open(int64_t *header, size_t header_words, int64_t *accounts, size_t accounts_words,
+                   int64_t *journal, size_t journal_words, const int64_t *schedule,
+                   size_t schedule_words)
 {
     if (!lengths_fit(header_words, accounts_words, journal_words))
         return TOLL_LEDGER_UNSOUND;
@@ -53,9 +53,9 @@ int64_t ref_open(int64_t *header, size_t header_words, int64_t *accounts, size_t
     return TOLL_LEDGER_POSTED;
 }
 
-int64_t ref_event(int64_t *header, size_t header_words, int64_t *accounts, size_t accounts_words,
-                  int64_t *journal, size_t journal_words, const int64_t *words, size_t event_words,
-                  int64_t *answer, size_t answer_words)
+int64_t model_event(int64_t *header, size_t header_words, int64_t *accounts, size_t accounts_words,
+                    int64_t *journal, size_t journal_words, const int64_t *words, size_t event_words,
+                    int64_t *answer, size_t answer_words)
 {
     struct book b;
     struct answer given;
@@ -70,9 +70,9 @@ int64_t ref_event(int64_t *header, size_t header_words, int64_t *accounts, size_
     return given.number;
 }
 
-int64_t ref_batch(int64_t *header, size_t header_words, int64_t *accounts, size_t accounts_words,
-                  int64_t *journal, size_t journal_words, const event *events, size_t count,
-                  int64_t *answers, size_t answers_words)
+int64_t model_batch(int64_t *header, size_t header_words, int64_t *accounts, size_t accounts_words,
+                    int64_t *journal, size_t journal_words, const event *events, size_t count,
+                    int64_t *answers, size_t answers_words)
 {
     struct book b;
     if (!take_up(&b, header, header_words, accounts, accounts_words, journal, journal_words))
@@ -105,17 +105,17 @@ static int64_t topup_due_of(const struct book *b, int64_t account)
     return is_topup_due(b, account);
 }
 
-int64_t ref_balance(const int64_t *header, size_t header_words, const int64_t *accounts,
-                    size_t accounts_words, const int64_t *journal, size_t journal_words,
-                    int64_t account, int64_t *value)
+int64_t model_balance(const int64_t *header, size_t header_words, const int64_t *accounts,
+                      size_t accounts_words, const int64_t *journal, size_t journal_words,
+                      int64_t account, int64_t *value)
 {
     return ask(balance_of, header, header_words, accounts, accounts_words, journal, journal_words,
                account, value);
 }
 
-int64_t ref_topup_due(const int64_t *header, size_t header_words, const int64_t *accounts,
-                      size_t accounts_words, const int64_t *journal, size_t journal_words,
-                      int64_t account, int64_t *value)
+int64_t model_topup_due(const int64_t *header, size_t header_words, const int64_t *accounts,
+                        size_t accounts_words, const int64_t *journal, size_t journal_words,
+                        int64_t account, int64_t *value)
 {
     return ask(topup_due_of, header, header_words, accounts, accounts_words, journal, journal_words,
                account, value);

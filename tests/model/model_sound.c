@@ -1,7 +1,7 @@
 /* "A book is sound when": one pass over the rows, then one over the accounts. */
 #include <string.h>
 
-#include "ref_book.h"
+#include "model_book.h"
 
 #define MOST_SLOTS ((size_t)2 * TOLL_LEDGER_MOST_ROWS)
 
@@ -9,7 +9,7 @@
 struct sums {
     int64_t used, unused;                /* of its sources */
     int64_t settled, unsettled, payable; /* of its debits; payable: unsettled and not held */
-    int64_t returned;                    /* payments with mark 4 */
+    int64_t returned;                    /* returned checks */
 };
 
 struct check {
@@ -35,10 +35,10 @@ bool schedule_fits(int64_t day, const int64_t *schedule)
 {
     if (!within(1, day, TOLL_LEDGER_DAYS) || !within(1, schedule[0], MOST_STAGE_DAYS))
         return false;
-    for (int i = 1; i < 4; i++)
+    for (int i = 1; i < 1 + FEES; i++)
         if (!within(0, schedule[i], MOST_FEE))
             return false;
-    for (int i = 4; i < 10; i++)
+    for (int i = 1 + FEES; i < 1 + FEES + RATES; i++)
         if (!within(1, schedule[i], MOST_AMOUNT))
             return false;
     return true;

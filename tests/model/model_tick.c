@@ -1,5 +1,5 @@
 /* Event 9, the day tick: one pass plans it, so that a refusal leaves the book unchanged. */
-#include "ref_book.h"
+#include "model_book.h"
 
 #define NUMBERS (TOLL_LEDGER_MOST_ACCOUNTS + 1) /* of accounts, with 0 */
 
@@ -25,10 +25,10 @@ static bool rises(const struct row *r, int64_t today)
            r->dispute != TOLL_LEDGER_DISPUTE_HELD && r->mark < LAST_STAGE && left_of(r) > 0;
 }
 
-/* The fee of a stage, 0 below stage 2. */
+/* The fee of a stage, 0 below the first that has one. */
 static int64_t fee_of_stage(const struct book *b, int64_t stage)
 {
-    return stage < 2 ? 0 : b->header->fees[stage - 2];
+    return stage < FIRST_FEE_STAGE ? 0 : b->header->fees[stage - FIRST_FEE_STAGE];
 }
 
 /* A toll that the tick frees is due after today, and an account with a rising toll has no unused

@@ -1,5 +1,9 @@
-//! The listing of document 01, on the model.
+//! The listing of document 01, over the model's calls.
+use calls::words::*;
+use calls::{Book, Table, MODEL};
 
+const ACCOUNTS: usize = 64;
+const ROWS: usize = 512;
 const NAMES: [&str; 2] = ["day,len,f2,f3,f4,r1t,r1p,r2t,r2p,r3t,r3p", "kind,account,a,b,c,d,e"];
 
 fn numbers(line: &[u8], count: usize) -> Option<Vec<i64>> {
@@ -40,11 +44,11 @@ pub fn listing(input: &[u8]) -> String {
     if lines.last() == Some(&&b""[..]) {
         lines.pop();
     }
-    let (mut h, mut a, mut j) = ([0i64; 12], vec![0i64; 64 * 7], vec![0i64; 512 * 10]);
+    let mut book = Book::new(ACCOUNTS, ROWS);
     for n in 0..3 {
         let good = match (n, lines.get(n)) {
             (0, Some(l)) => *l == NAMES[0].as_bytes(),
-            (1, Some(l)) => numbers(l, 11).map_or(false, |w| crate::open(&mut h, &mut a, &mut j, &w) == 0),
+            (1, Some(l)) => numbers(l, SCHEDULE_WORDS).map_or(false, |w| MODEL.open(&mut book, &w) == POSTED),
             (2, Some(l)) => *l == NAMES[1].as_bytes(),
             _ => false,
         };
@@ -53,22 +57,24 @@ pub fn listing(input: &[u8]) -> String {
         }
     }
     let mut out = String::from("event,answer,row,rows,raised,removed\n");
-    let Some(mut book) = crate::read_book(&h, &a, &j) else { return out };
     for (i, l) in lines[3..].iter().enumerate() {
-        let Some(e) = numbers(l, 7) else {
+        let Some(e) = numbers(l, EVENT_WORDS) else {
             out += &format!("bad line {}\n", i + 4);
             return out;
         };
-        let w = book.post(&e);
-        out += &format!("{},{},{},{},{},{}\n", i + 1, w[0], w[1], w[2], w[3], w[4]);
+        let mut answer = Table::answers(ANSWER_WORDS);
+        MODEL.event(&mut book, &e, &mut answer);
+        let words: Vec<String> = answer.iter().map(i64::to_string).collect();
+        out += &format!("{},{}\n", i + 1, words.join(","));
     }
     out += "row,account,kind,date,amount,settled\n";
-    for (i, r) in book.rows.iter().enumerate() {
-        out += &format!("{},{},{},{},{},{}\n", i + 1, r.account, r.kind, date(r.day), r.amount, r.settled);
+    for (i, r) in book.used_rows().enumerate() {
+        let (account, kind, date) = (r[ROW_ACCOUNT], r[ROW_KIND], date(r[ROW_DAY]));
+        out += &format!("{},{account},{kind},{date},{},{}\n", i + 1, r[ROW_AMOUNT], r[ROW_SETTLED]);
     }
     out += "account,state,balance\n";
-    for (i, x) in book.accounts.iter().enumerate().filter(|(_, x)| x.state != 0) {
-        out += &format!("{},{},{}\n", i + 1, x.state, book.balance(i as i64 + 1));
+    for n in (1..=ACCOUNTS as i64).filter(|n| book.state(*n) != STATE_UNUSED) {
+        out += &format!("{n},{},{}\n", book.state(n), MODEL.balance(&book, n).1);
     }
     out
 }
