@@ -50,7 +50,7 @@ const SOURCES: usize = 0;
 
 const DEBITS: usize = 1;
 
-pub const SLOT_WORDS: usize = 1028;
+pub const SLOT_WORDS: usize = SLOTS * WORDS;
 
 // ---- the slots
 

@@ -10,7 +10,7 @@ use lib.Seq.{take-suc, take-all, length-take-le}
 use lib.IntN.{ℤ, pos}
 use lib.Dec.{ltb}
 use borrow.Author.Tests.{ltb-false, not-false}
-use Rattle.records.specs.Numbers.{Unsound}
+use Rattle.records.specs.Numbers.{Unsound, Malformed}
 use Rattle.records.specs.Layout.{answerWidth}
 use Rattle.records.specs.Encoding.{instructionOf, answerWords}
 use Rattle.lists.specs.Tests.{_is_, first}
@@ -50,8 +50,8 @@ unfolding batchRefusals
 taken t es w q =
     let many : Bool = ltb mostEvents (length es) in
     let short : Bool = ltb (length w) (length es * answerWidth) in
-    let a = first-none (Unsound, not (soundTables t)) ((2, many || short) ∷ []) (omega arith) (sym q) in
-    let b = first-none (2, many || short) [] (omega arith) (a .1) in
+    let a = first-none (Unsound, not (soundTables t)) ((Malformed, many || short) ∷ []) (omega arith) (sym q) in
+    let b = first-none (Malformed, many || short) [] (omega arith) (a .1) in
     record { refusal = sym q; sound = not-false _ (a .0); room = ltb-false _ _ (or-right many short (b .0)) }
 
 -- what stands past the end of a list of events

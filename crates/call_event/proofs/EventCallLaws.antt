@@ -50,8 +50,8 @@ unfolding eventRefusals
 taken t e w q =
     let other : Bool = not (length e is eventWidth) in
     let short : Bool = ltb (length w) answerWidth in
-    let a = first-none (Unsound, not (soundTables t)) ((2, other || short) ∷ []) (omega arith) (sym q) in
-    let b = first-none (2, other || short) [] (omega arith) (a .1) in
+    let a = first-none (Unsound, not (soundTables t)) ((Malformed, other || short) ∷ []) (omega arith) (sym q) in
+    let b = first-none (Malformed, other || short) [] (omega arith) (a .1) in
     record {
       sound = not-false _ (a .0);
       event = eqb-true (length e) eventWidth (not-false _ (or-left other short (b .0)));

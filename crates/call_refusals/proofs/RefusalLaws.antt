@@ -19,6 +19,6 @@ unfolding eventRefusals
 event-refusals-by t e w s m p q = rw (p, q)
 
 pub batch-refusals-by : (t : Tables) (es : List Event) (w : List ℤ) (s m r : Bool) → soundTables t ≡ s → ltb mostEvents (length es) ≡ m → ltb (length w) (length es * answerWidth) ≡ r
-    → first ((Unsound, not s) ∷ (2, m || r) ∷ []) ≡ first (batchRefusals t es w)
+    → first ((Unsound, not s) ∷ (Malformed, m || r) ∷ []) ≡ first (batchRefusals t es w)
 unfolding batchRefusals
 batch-refusals-by t es w s m r p q z = rw (p, q, z)

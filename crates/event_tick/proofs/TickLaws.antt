@@ -8,7 +8,7 @@ use mathlib.Core.List.{[], _∷_}
 use lib.ListN.{length}
 use lib.Dec.{ltb}
 use borrow.Author.Tests.{eqb-false, ltb-false, lt-ltb, le-leb, le-ltb}
-use Rattle.records.specs.Numbers.{LastDay, Full, Ceiling}
+use Rattle.records.specs.Numbers.{Unclassed, Misdated, Duplicate, Barred, NoRow, Untimely, LastDay, Full, Ceiling}
 use Rattle.records.specs.Codes.{EventTick}
 use Rattle.lists.specs.Tests.{_is_, first}
 use Rattle.records.specs.Limits.{finalDay}
@@ -31,8 +31,8 @@ use Rattle.event_tick.specs.TickEvent.{tickRefusals, Judges}
 
 -- 14 where nothing before it applies is no number of its own; 13 is told from the book before the tick, which has a day to come
 in-order : (d r r′ c : Bool) → (d ≡ false → r ≡ r′) → (d ≡ false → r ≡ false → c ≡ false)
-    → first ((6, false) ∷ (7, false) ∷ (8, false) ∷ (9, false) ∷ (10, false) ∷ (11, false) ∷ (LastDay, d) ∷ (Full, r) ∷ (Ceiling, c) ∷ [])
-    ≡ first ((LastDay, d) ∷ (13, r′) ∷ [])
+    → first ((Unclassed, false) ∷ (Misdated, false) ∷ (Duplicate, false) ∷ (Barred, false) ∷ (NoRow, false) ∷ (Untimely, false) ∷ (LastDay, d) ∷ (Full, r) ∷ (Ceiling, c) ∷ [])
+    ≡ first ((LastDay, d) ∷ (Full, r′) ∷ [])
 unfolding first
 in-order true r r′ c p q = refl
 in-order false true r′ c p q = rw (← p refl)

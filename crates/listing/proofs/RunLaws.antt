@@ -261,7 +261,7 @@ ran-unended s turns l e = record {
   unended = λ z. (omega (arith, l .count), l .on);
 }
 
--- where it ends because the listing is over, it has printed the listing of what it got
+-- where it ends because the listing is over, it has handed the listing of what it got to be printed
 pub ran-listing : (t : Tables) (input out : List ℕ) (r : Ran t input out Listed) → r .said ≡ listing (r .got)
 ran-listing t input out r = run-listing (r .run) (r .listed refl)
 

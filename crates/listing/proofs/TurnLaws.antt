@@ -1,6 +1,6 @@
 -- A turn of the program: what is read and printed, and that the program can take its next turn.
 use mathlib.Core.Path.{_≡_, refl, sym, ap, _∙_}
-use mathlib.Core.Bool.{Bool, true, false, true≢false, _||_}
+use mathlib.Core.Bool.{Bool, true, false, true≢false, _||_, or-true}
 use Prim.Native.Nat.{ℕ, zero, suc, _+_, _-_, _≤_, _<_}
 use native.Mathlib.Omega.{arith}
 use mathlib.Core.List.{List, _++_, append-nil}
@@ -9,6 +9,7 @@ use lib.Dec.{leb}
 use lib.ListN.{length, take, drop, length-append, length-take, length-drop, take-append-drop}
 use lib.Seq.{slice, take-at, take-take, length-take-le, length-slice}
 use Rattle.bytes.specs.Bytes.{indexOf}
+use Rattle.lists.proofs.TestLaws.{or-right}
 use Rattle.rules.specs.Tables.{Tables}
 use Rattle.listing_rules.specs.Listing.{mostLines}
 use Rattle.listing_text.proofs.PutsLaws.{length-puts}
@@ -30,22 +31,15 @@ pub record Prints (p r : Place) : Type 0 where
   pub room : r .at < nearlyFull
   pub empty : p .waits ≡ true → r .at ≡ 0
 
--- a test that fails fails on its right
-or-right : (a b : Bool) → a || b ≡ false → b ≡ false
-or-right true b e = absurd (true≢false e)
-or-right false b e = e
-
-or-true : (a b : Bool) → b ≡ true → a || b ≡ true
-or-true true b e = refl
-or-true false b e = e
-
 pub due-waits : (p : Place) → p .waits ≡ true → due p ≡ true
 unfolding due
 due-waits p e = ap (λ (w : Bool). w || p .over || leb nearlyFull (p .at)) e
 
 pub due-over : (p : Place) → p .over ≡ true → due p ≡ true
 unfolding due
-due-over p e = ap (λ (w : Bool). w || leb nearlyFull (p .at)) (or-true (p .waits) (p .over) e)
+due-over p e =
+    let o : p .waits || p .over ≡ true = rw e (or-true (p .waits)) in
+    ap (λ (w : Bool). w || leb nearlyFull (p .at)) o
 
 pub due-else : (p : Place) → p .waits ≡ false → p .over ≡ false → due p ≡ leb nearlyFull (p .at)
 unfolding due

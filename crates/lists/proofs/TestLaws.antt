@@ -96,14 +96,6 @@ unfoldable pub positive : Cases → Bool
 positive [] = true
 positive (c ∷ cs) = ltb 0 (c .0) && positive cs
 
--- such a table gives 0 only where each test fails
-pub first-fails : (cs : Cases) → positive cs ≡ true → first cs ≡ 0 → (k : ℕ) → getD cs k (1, false) .1 ≡ false
-unfolding positive
-first-fails [] p e k = refl
-first-fails (c ∷ cs) p e zero = first-none c cs (ltb-true 0 (c .0) (and-left (ltb 0 (c .0)) (positive cs) p)) e .0
-first-fails (c ∷ cs) p e (suc k) =
-    first-fails cs (and-right (ltb 0 (c .0)) (positive cs) p) (first-none c cs (ltb-true 0 (c .0) (and-left (ltb 0 (c .0)) (positive cs) p)) e .1) k
-
 -- where a case of the first table holds, those of a second table after it do not matter
 pub first-append : (cs ds : Cases) → first cs is 0 ≡ false → first (cs ++ ds) ≡ first cs
 unfolding first

@@ -1,5 +1,5 @@
 -- The layout of the lent tables (document 01, "The book"): how many words a record has, and the place of each.
--- A later word goes to the end of its record; no other file has a bare width or place.
+-- A later word goes to the end of its record; definitions and code have no bare width or place of a record beside these.
 use Prim.Native.Nat.{ℕ}
 
 -- ---- "Header, 12 words: day, rows used, stage length L, fees for stages 2, 3, 4, six rates"

@@ -1,4 +1,4 @@
--- A row, an account and an instruction with one field changed: the only places that list all the fields of one.
+-- A row, an account and an instruction with one field changed: with their reading and writing (Encoding), the only definitions that list all the fields of one.
 use Prim.Native.Nat.{ℕ}
 use Rattle.records.specs.declared.Row.{Row}
 use Rattle.records.specs.declared.Account.{Account}

@@ -19,7 +19,6 @@ use Rattle.rules.specs.Calls.{batchRefusals, openCall, eventCall, batchC
 use Rattle.rules.proofs.Computing.{computing}
 use Rattle.rules.proofs.Examples.{Case, _gives_, _amounts-to_, event, ticks, schedule, small, numbers}
 use Rattle.rules.proofs.CallExamples.{lent, scheduleWords, opened, words, sent, day, posted}
-use Rattle.records.specs.Limits.{slotCount}
 
 -- ---- how cases are written
 
@@ -134,7 +133,7 @@ pub cases : List Case
 cases =
     -- the book: day, sizes, schedule
     (map dayFits (0 ∷ 1 ∷ 36_525 ∷ 36_526 ∷ []) are 0 ∷ 1 ∷ 1 ∷ 0 ∷ [])
-    ∷ (sizesFit 0 1 ∷ sizesFit 1 0 ∷ sizesFit 1 1 ∷ sizesFit 256 8_192 ∷ sizesFit slotCount 8_192 ∷ sizesFit 256 8_193 ∷ [] are 0 ∷ 0 ∷ 1 ∷ 1 ∷ 0 ∷ 0 ∷ [])
+    ∷ (sizesFit 0 1 ∷ sizesFit 1 0 ∷ sizesFit 1 1 ∷ sizesFit 256 8_192 ∷ sizesFit 257 8_192 ∷ sizesFit 256 8_193 ∷ [] are 0 ∷ 0 ∷ 1 ∷ 1 ∷ 0 ∷ 0 ∷ [])
     ∷ (map scheduleFits
     (feesOf 0 0 0 0 ∷ feesOf 1 0 0 0 ∷ feesOf 365 100_000 100_000 100_000 ∷ feesOf 366 0 0 0
     ∷ feesOf 1 100_001 0 0 ∷ feesOf 1 0 100_001 0 ∷ feesOf 1 0 0 100_001 ∷ [])

@@ -4,14 +4,15 @@ use mathlib.Core.Bool.{Bool, true, false, _&&_}
 use Prim.Native.Nat.{ℕ}
 use native.Mathlib.Omega.{arith}
 use mathlib.Core.List.{List}
-use lib.ListN.{length, getD, length-replicate}
+use lib.ListN.{length, length-replicate}
 use lib.IntN.{ℤ}
 use borrow.Author.Tests.{le-leb, not-false, eq-eqb}
+use Rattle.records.specs.Numbers.{Unsound, Malformed}
 use Rattle.records.specs.Layout.{openingWidth, firstDayPlace, openingSchedule}
 use Rattle.records.specs.Encoding.{word}
 use Rattle.lists.specs.Tests.{_is_, first, allOf}
 use Rattle.lists.specs.Lists.{sumBy, count, everyFrom}
-use Rattle.lists.proofs.TestLaws.{and-left, and-right, positive, first-fails}
+use Rattle.lists.proofs.TestLaws.{and-left, and-right, positive, caseOf, first-zero}
 use Rattle.lists.proofs.ListLaws.{every-replicate}
 use Rattle.rules.specs.Schedule.{Schedule, scheduleFits}
 use Rattle.rules.specs.Settlement.{money, debt, used, paid, owed}
@@ -42,9 +43,9 @@ opening-sound day s accounts room d f n =
 -- ---- the call: where it gives 0, its tables are those of the opened book, and sound
 
 module _ (t : Tables) (w : List ℤ) (e : openCall t w .number ≡ 0) where
-  refusals-fail : (k : ℕ) → getD (openingRefusals t w) k (1, false) .1 ≡ false
+  refusals-fail : (n : ℕ) → caseOf (openingRefusals t w) n ≡ false
   unfolding openCall openingRefusals positive
-  refusals-fail = first-fails (openingRefusals t w) refl e
+  refusals-fail = first-zero (openingRefusals t w) refl e
 
   abbrev width-part : Bool
   width-part = length w is openingWidth
@@ -56,12 +57,12 @@ module _ (t : Tables) (w : List ℤ) (e : openCall t w .number ≡ 0) where
   schedule-part = scheduleFits (scheduleFrom w openingSchedule)
 
   lengths-fit : lengthsFit t ≡ true
-  unfolding openingRefusals
-  lengths-fit = not-false (lengthsFit t) (refusals-fail 0)
+  unfolding openingRefusals caseOf
+  lengths-fit = not-false (lengthsFit t) (refusals-fail Unsound)
 
   words-fit : width-part && day-part && schedule-part ≡ true
-  unfolding openingRefusals
-  words-fit = not-false (width-part && day-part && schedule-part) (refusals-fail 1)
+  unfolding openingRefusals caseOf
+  words-fit = not-false (width-part && day-part && schedule-part) (refusals-fail Malformed)
 
   pub openedBook-sound : sound (openedBook t w) ≡ true
   unfolding openedBook lengthsFit

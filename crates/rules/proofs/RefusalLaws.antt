@@ -4,8 +4,9 @@ use mathlib.Core.Bool.{true, false}
 use mathlib.Core.List.{_++_}
 use lib.ListN.{take-append-drop}
 use borrow.Author.Tests.{not-false}
+use Rattle.records.specs.Numbers.{Malformed}
 use Rattle.lists.specs.Tests.{_is_, first}
-use Rattle.lists.proofs.TestLaws.{positive, first-fails, first-append, first-append-none}
+use Rattle.lists.proofs.TestLaws.{positive, caseOf, first-zero, first-append, first-append-none}
 use Rattle.rules.specs.Book.{Instruction, Book}
 use Rattle.rules.specs.Refusals.{wellFormed, sharedCount, refusals, answerNumber, sharedRefusals, ownRefusals}
 
@@ -26,5 +27,5 @@ module _ (b : Book) (e : Instruction) where
 
   -- the event then has the words of its kind
   pub shared-formed : first (sharedRefusals b e) ≡ 0 → wellFormed e ≡ true
-  unfolding sharedRefusals sharedCount refusals positive
-  shared-formed q = not-false (wellFormed e) (first-fails (sharedRefusals b e) refl q 0)
+  unfolding sharedRefusals sharedCount refusals positive caseOf
+  shared-formed q = not-false (wellFormed e) (first-zero (sharedRefusals b e) refl q Malformed)
