@@ -3,7 +3,7 @@ use mathlib.Core.Path.{_≡_, sym, _∙_}
 use mathlib.Core.Bool.{Bool, true, false, _&&_}
 use Prim.Native.Nat.{ℕ, _+_, _^_, _<_}
 use native.Mathlib.Omega.{arith}
-use Rattle.records.specs.Layout.{dayPlace}
+use Rattle.records.specs.Layout.{dayPlace, thresholdPlace}
 use Rattle.records.specs.Encoding.{word, accountsOf}
 use Rattle.rules.specs.Book.{Account, account, accountNo, lowBalance, topupDue}
 use Rattle.rules.specs.Tables.{Tables, accountsIn, rowsUsed, bookOf, soundTables}
@@ -27,7 +27,7 @@ module _ (t : Tables) (s : soundTables t ≡ true) (n : ℕ) (x : Account) (e : 
   module _ (used : ℕ) (q : Sums) (u : used ≡ rowsUsed t) (g : Summed (t .journal) n used q) where
     pub debits-fit : q .debits + x .threshold < 2 ^ 64
     debits-fit =
-        let h : x .threshold < 2 ^ 63 = rw read (account-holds t s n .threshold) in
+        let h : x .threshold < 2 ^ 63 = rw read (account-holds t s n .each thresholdPlace) in
         omega (arith, sums-fit (t .journal) used (rw u (journal-summable t s)) n q g .1)
 
     pub due-by-balance : (today : ℕ) → today ≡ word (t .header) dayPlace → mayTopup x today ≡ true → isLow x q ≡ topupDue (bookOf t) n

@@ -10,7 +10,7 @@ use lib.IntN.{ℤ}
 use lib.ListN.{length, getD, List·getD-eq-default}
 use borrow.Author.Tests.{lt-ltb, le-ltb, le-leb, lt-leb}
 use Rattle.records.specs.Codes.{EventToll, EventTopupResult}
-use Rattle.records.specs.Layout.{dayPlace}
+use Rattle.records.specs.Layout.{dayPlace, thresholdPlace}
 use Rattle.records.specs.Encoding.{word, rowAt, rowsOf, accountsOf}
 use Rattle.lists.specs.Lists.{sumBy, only, exists}
 use Rattle.lists.proofs.ListLaws.{every-all}
@@ -126,7 +126,7 @@ module _ (t : Tables) (s : soundTables t ≡ true) (cells slots : List ℕ) (w :
   pub charged-fits : charged + x .threshold < 2 ^ 64
   unfolding slotWord
   charged-fits =
-      let h : x .threshold < 2 ^ 63 = rw read (account-holds t s n .threshold) in
+      let h : x .threshold < 2 ^ 63 = rw read (account-holds t s n .each thresholdPlace) in
       let r = sound-indexable t s .rows in
       let l = r .few in
       let small : charged ≤ rowsUsed t * highestRefund = go (decLt n slotCount) in

@@ -9,12 +9,14 @@ use lib.IntN.{ℤ}
 use lib.Dec.{leb}
 use borrow.Author.Tests.{leb-true, not-false}
 use Rattle.records.specs.Codes.{EventOpen}
+use Rattle.records.specs.Layout.{statePlace, thresholdPlace, topupPlace, accountWidth}
 use Rattle.records.specs.Encoding.{StorableAccount}
+use Rattle.records.proofs.FieldLaws.{storable-zeros, storable-set}
 use Rattle.records.specs.AccountOperations.{opened}
 use Rattle.lists.specs.Tests.{_is_, _implies_, first}
 use Rattle.lists.proofs.TestLaws.{and-left, and-right}
 use Rattle.records.specs.Limits.{highestTopup}
-use Rattle.rules.specs.Book.{Account, Instruction, Book, putAccount}
+use Rattle.rules.specs.Book.{Account, Instruction, StateOpen, Book, putAccount}
 use Rattle.rules.specs.Events.{openAccount}
 use Rattle.rules.specs.Refusals.{changeOf, zeroFrom-c, openForm, formOf, wellFormed, unclassed, misdated, duplicate, barred, noRow, untimely, lastDay, refusals, answerNumber, sharedCount, ownRefusals}
 use Rattle.rules.specs.Posting.{removesTopup}
@@ -66,15 +68,9 @@ module _ (t : Tables) (s : soundTables t ≡ true) (e : Instruction) (k : e .kin
       let amount-part : Bool = leb (e .b) highestTopup in
       let zero-part : Bool = e .b is 0 implies e .a is 0 in
       let both = and-left (threshold-part && amount-part) zero-part (and-left (threshold-part && amount-part && zero-part) (zeroFrom-c e) formed) in
-      record {
-        state = omega arith;
-        request = omega arith;
-        returned = omega arith;
-        threshold = omega (arith, leb-true (e .a) highestTopup (and-left threshold-part amount-part both));
-        topup = omega (arith, leb-true (e .b) highestTopup (and-right threshold-part amount-part both));
-        declines = omega arith;
-        declined = omega arith;
-      }
+      storable-set _ topupPlace (e .b) (omega (arith, leb-true (e .b) highestTopup (and-right threshold-part amount-part both)))
+      (storable-set _ thresholdPlace (e .a) (omega (arith, leb-true (e .a) highestTopup (and-left threshold-part amount-part both)))
+      (storable-set _ statePlace StateOpen (omega arith) (storable-zeros accountWidth)))
 
   pub open-posts : (acc : List ℤ) → AccountChanged (t .accounts) acc (e .account - 1) newAccount
       → Posts t (tablesAt (t .header) acc (t .journal)) e (acceptanceOf (rowsUsed t) 0 0 0)

@@ -8,7 +8,9 @@ use lib.ListN.{length}
 use lib.IntN.{ℤ}
 use Rattle.records.specs.Numbers.{Untimely}
 use Rattle.records.specs.Codes.{EventCloseRequest}
+use Rattle.records.specs.Layout.{statePlace, requestPlace}
 use Rattle.records.specs.Encoding.{StorableAccount}
+use Rattle.records.proofs.FieldLaws.{storable-set}
 use Rattle.records.specs.AccountOperations.{closeRequestedOn}
 use Rattle.lists.specs.Tests.{_is_, first}
 use Rattle.rules.specs.Book.{Account, Instruction, StatePending, Book, account, putAccount}
@@ -56,16 +58,8 @@ module _ (t : Tables) (s : soundTables t ≡ true) (e : Instruction) where
 
   pub request-storable : StorableAccount pendingAccount
   request-storable =
-      let x = account-holds t s (e .account) in
-      record {
-        state = omega arith;
-        request = omega (arith, day-le (bookOf t .day) (bookOf t) (sound-book t s .near));
-        returned = x .returned;
-        threshold = x .threshold;
-        topup = x .topup;
-        declines = x .declines;
-        declined = x .declined;
-      }
+      storable-set _ requestPlace (bookOf t .day) (omega (arith, day-le (bookOf t .day) (bookOf t) (sound-book t s .near)))
+      (storable-set _ statePlace StatePending (omega arith) (account-holds t s (e .account)))
 
   module _ (k : e .kind ≡ EventCloseRequest) (q : 0 ≡ answerNumber (bookOf t) e) where
     changed : changeOf (e .kind) (bookOf t) e ≡ putAccount (e .account) pendingAccount (bookOf t)

@@ -1,7 +1,7 @@
 -- Event 4: which refusals concern it, and the book that it makes.
 use mathlib.Core.Path.{_≡_, refl, sym, ap, _∙_}
 use mathlib.Core.Logic.{_≢_}
-use mathlib.Core.Bool.{Bool, true, false, not, cond, _&&_, _||_, or-false}
+use mathlib.Core.Bool.{Bool, true, false, not, _&&_, _||_, or-false}
 use Prim.Native.Nat.{ℕ, zero, suc, _+_, _-_, _^_, _≤_, _<_}
 use native.Mathlib.Omega.{arith}
 use mathlib.Core.List.{List, [], _∷_, _++_, append-assoc}
@@ -11,13 +11,14 @@ use lib.Dec.{leb, ltb}
 use borrow.Author.Tests.{leb-true, le-leb, ltb-false, eqb-true, not-false}
 use Rattle.records.specs.Numbers.{NoRow, Untimely, Full}
 use Rattle.records.specs.Codes.{MethodCheck, MethodCheckReturned, EventReturnedCheck, EventTick}
-use Rattle.records.specs.Layout.{dayPlace, usedPlace}
+use Rattle.records.specs.Layout.{dayPlace, usedPlace, statePlace, returnedPlace}
 use Rattle.records.specs.Encoding.{word, rowsOf, accountsOf, StorableRow, StorableAccount}
+use Rattle.records.proofs.FieldLaws.{storable-set}
 use Rattle.records.specs.AccountOperations.{checkReturned}
-use Rattle.records.specs.Updates.{withState, withReturned}
+use Rattle.records.specs.Updates.{withState}
 use Rattle.lists.specs.Tests.{_is_, _from_to_, first}
 use Rattle.lists.specs.Lists.{sumBy, count}
-use Rattle.lists.proofs.TestLaws.{and-left, and-both}
+use Rattle.lists.proofs.TestLaws.{and-left, and-both, cond-either}
 use Rattle.lists.proofs.SumLaws.{count-le}
 use Rattle.records.specs.Limits.{mostRows, highestCharge, returnFee}
 use Rattle.rules.specs.Rows.{Row, KindFee, KindReversal, KindPayment, rowNo, newRow, withMark, withReference}
@@ -113,7 +114,7 @@ answer-by b e k a n m r v w z = rw (answer-return b e k a, neither (row b (e .a)
 
 pub counts-below : (x : Account) → StorableAccount (checkReturned x) → x .returned < 2 ^ 63
 unfolding checkReturned
-counts-below x s = let r = s .returned in omega arith
+counts-below x s = let r : x .returned + 1 < 2 ^ 63 = s .each returnedPlace in omega arith
 
 pub mark-storable : (r : Row) (m : ℕ) → m < 2 ^ 63 → StorableRow r → StorableRow (withMark m r)
 mark-storable r m l s = record {
@@ -131,27 +132,9 @@ mark-storable r m l s = record {
 
 counted-storable : (x : Account) → StorableAccount x → x .returned + 1 < 2 ^ 63 → StorableAccount (checkReturned x)
 unfolding checkReturned
-counted-storable x s l = go (x .state is StateClosed)
-  where
-    go : (t : Bool) → StorableAccount (withReturned (x .returned + 1) (cond t (withState StatePending x) x))
-    go true = record {
-      state = omega arith;
-      request = s .request;
-      returned = l;
-      threshold = s .threshold;
-      topup = s .topup;
-      declines = s .declines;
-      declined = s .declined;
-    }
-    go false = record {
-      state = s .state;
-      request = s .request;
-      returned = l;
-      threshold = s .threshold;
-      topup = s .topup;
-      declines = s .declines;
-      declined = s .declined;
-    }
+counted-storable x s l =
+    let reopened = storable-set _ statePlace StatePending (omega arith) s in
+    storable-set _ returnedPlace (x .returned + 1) l (cond-either StorableAccount (x .state is StateClosed) (withState StatePending x) x reopened s)
 
 -- ---- what an accepted event 4 leaves
 

@@ -9,7 +9,9 @@ use lib.IntN.{ℤ}
 use lib.Dec.{leb}
 use borrow.Author.Tests.{leb-true, leb-false, ne-eqb, not-false}
 use Rattle.records.specs.Codes.{Yes, EventTopupResult}
+use Rattle.records.specs.Layout.{thresholdPlace, topupPlace, declinesPlace, declinedPlace}
 use Rattle.records.specs.Encoding.{StorableAccount}
+use Rattle.records.proofs.FieldLaws.{storable-set}
 use Rattle.records.specs.AccountOperations.{lastDecline, declinedOn}
 use Rattle.records.specs.Updates.{withTopup, withDeclines}
 use Rattle.lists.specs.Tests.{_is_}
@@ -44,27 +46,12 @@ module _ (t : Tables) (s : soundTables t ≡ true) (e : Instruction) where
     where
       go : (z : Bool) → leb 2 (named .declines) ≡ z → StorableAccount (cond z (withDeclines 0 0 (withTopup 0 0 named)) (withDeclines (named .declines + 1) (b .day) named))
       go true q =
-          let x = account-holds t s (e .account) in
-          record {
-            state = x .state;
-            request = x .request;
-            returned = x .returned;
-            threshold = omega arith;
-            topup = omega arith;
-            declines = omega arith;
-            declined = omega arith;
-          }
+          storable-set _ declinedPlace 0 (omega arith)
+          (storable-set _ declinesPlace 0 (omega arith)
+          (storable-set _ topupPlace 0 (omega arith) (storable-set _ thresholdPlace 0 (omega arith) (account-holds t s (e .account)))))
       go false q =
-          let x = account-holds t s (e .account) in
-          record {
-            state = x .state;
-            request = x .request;
-            returned = x .returned;
-            threshold = x .threshold;
-            topup = x .topup;
-            declines = omega (arith, leb-false 2 (named .declines) q);
-            declined = omega (arith, day-le (b .day) b (sound-book t s .near));
-          }
+          storable-set _ declinedPlace (b .day) (omega (arith, day-le (b .day) b (sound-book t s .near)))
+          (storable-set _ declinesPlace (named .declines + 1) (omega (arith, leb-false 2 (named .declines) q)) (account-holds t s (e .account)))
 
   module _ (k : e .kind ≡ EventTopupResult) (q : 0 ≡ answerNumber b e) (n : e .b ≢ Yes) where
     changed : changeOf (e .kind) b e ≡ putAccount (e .account) declinedAccount b

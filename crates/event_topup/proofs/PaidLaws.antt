@@ -8,7 +8,9 @@ use lib.ListN.{length, set, length-set}
 use lib.IntN.{ℤ}
 use borrow.Author.Tests.{ltb-false}
 use Rattle.records.specs.Codes.{EventTick}
+use Rattle.records.specs.Layout.{topupPlace, declinesPlace, declinedPlace}
 use Rattle.records.specs.Encoding.{accountsOf, StorableRow, StorableAccount}
+use Rattle.records.proofs.FieldLaws.{storable-set}
 use Rattle.records.specs.AccountOperations.{topupPaid}
 use Rattle.lists.specs.Tests.{_is_}
 use Rattle.rules.specs.Settlement.{settle}
@@ -73,7 +75,7 @@ module _ (t : Tables) (e : Instruction) (p : PaidResult t e) where
         kind = omega arith;
         account = omega (arith, paid-inside .1, count-read t (p .sound), accounts-le (b .day) b near);
         day = omega (arith, day-le (b .day) b near);
-        amount = account-holds t (p .sound) n .topup;
+        amount = account-holds t (p .sound) n .each topupPlace;
         settled = omega arith;
         mark = omega arith;
         due = omega arith;
@@ -84,16 +86,7 @@ module _ (t : Tables) (e : Instruction) (p : PaidResult t e) where
 
   pub paid-account-storable : StorableAccount paidAccount
   paid-account-storable =
-      let x = account-holds t (p .sound) n in
-      record {
-        state = x .state;
-        request = x .request;
-        returned = x .returned;
-        threshold = x .threshold;
-        topup = x .topup;
-        declines = omega arith;
-        declined = omega arith;
-      }
+      storable-set _ declinedPlace 0 (omega arith) (storable-set _ declinesPlace 0 (omega arith) (account-holds t (p .sound) n))
 
   after-paid : after b e ≡ withRows (settle n (b .rows ++ (topupRow b e ∷ []))) (putAccount n paidAccount b)
   after-paid =

@@ -3,10 +3,10 @@ use mathlib.Core.Path.{_≡_, refl, sym, _∙_}
 use mathlib.Core.Bool.{Bool, true, false, not, cond, _&&_, _||_, false≢true, true≢false, and-true, and-assoc}
 use Prim.Native.Nat.{ℕ, zero, suc, _<_}
 use native.Mathlib.Omega.{arith}
-use mathlib.Core.List.{List, [], _∷_, _++_}
+use mathlib.Core.List.{List, [], _∷_, _++_, map}
 use lib.ListN.{getD}
 use lib.Dec.{eqb, ltb}
-use borrow.Author.Tests.{ltb-true}
+use borrow.Author.Tests.{ltb-true, eqb-true}
 use Rattle.lists.specs.Tests.{_is_, _implies_, allOf, Cases, first}
 
 -- ---- _&&_
@@ -80,6 +80,13 @@ pub all-left : (b : Bool) (ts : List Bool) → allLeft b ts ≡ allOf (b ∷ ts)
 unfolding allOf
 all-left b [] = sym (and-true b)
 all-left b (t ∷ ts) = all-left (b && t) ts ∙ and-assoc b t (allOf ts)
+
+-- each number of a list where all are 0
+pub allOf-zero : (xs : List ℕ) → allOf (map (λ n. n is 0) xs) ≡ true → (k : ℕ) → getD xs k 0 ≡ 0
+unfolding allOf
+allOf-zero [] e k = refl
+allOf-zero (x ∷ xs) e zero = eqb-true x 0 (and-left (x is 0) (allOf (map (λ n. n is 0) xs)) e)
+allOf-zero (x ∷ xs) e (suc k) = allOf-zero xs (and-right (x is 0) (allOf (map (λ n. n is 0) xs)) e) k
 
 -- ---- first
 

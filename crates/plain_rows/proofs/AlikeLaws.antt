@@ -1,17 +1,20 @@
 -- Words read as they are, what tests tell of them, and rows of which each word is small.
-use Prim.Native.Nat.{ℕ, suc, _-_, _^_, _<_}
+use Prim.Native.Nat.{ℕ, zero, suc, _-_, _^_, _<_}
 use native.Mathlib.Omega.{arith}
 use mathlib.Core.Path.{_≡_, refl, sym, ap, _∙_}
 use mathlib.Core.Bool.{Bool, true, false}
+use mathlib.Core.List.{List, [], _∷_, map}
+use lib.ListN.{length, getD}
 use lib.IntN.{ℤ, pos, negsuc, _-ℤ_}
 use lib.Signed.{ltZ}
 use mir.Syntax.{w64}
 use mir.Val.{SFits}
 use lib.Dec.{eqb, leb}
 use borrow.Author.Tests.{ltb-true, le-ltb, eqb-true, leb-true, leb-false}
+use Rattle.lists.specs.Tests.{_is_}
 use Rattle.records.specs.Encoding.{natOf, StorableRow}
 use Rattle.rules.specs.Rows.{Row}
-use Rattle.plain_rows.specs.Alike.{Alike, AlikeRow}
+use Rattle.plain_rows.specs.Alike.{Alike, AlikeRow, AlikeWords}
 
 -- ---- one word
 
@@ -73,6 +76,26 @@ module _ (a b : ℕ) (w : Alike a b) (n : ℕ) (h : n < 2 ^ 63) where
       go true true p q = refl
       go true false p q = sym p ∙ ap (leb n) (w .second (omega (arith, leb-false n b q))) ∙ q
       go false y p q = sym p ∙ ap (leb n) (w .first (omega (arith, leb-false n a p))) ∙ q
+
+-- ---- lists of words
+
+pub alike-none : AlikeWords [] []
+alike-none = record { each = λ k. alike-same 0 0 refl }
+
+pub alike-more : {a b : ℕ} {xs ys : List ℕ} → Alike a b → AlikeWords xs ys → AlikeWords (a ∷ xs) (b ∷ ys)
+alike-more {a} {b} {xs} {ys} h w = record { each = go }
+  where
+    go : (k : ℕ) → Alike (getD (a ∷ xs) k 0) (getD (b ∷ ys) k 0)
+    go zero = h
+    go (suc k) = w .each k
+
+-- which of them are 0
+pub alike-zeros : (xs ys : List ℕ) → length xs ≡ length ys → AlikeWords xs ys → map (λ n. n is 0) xs ≡ map (λ n. n is 0) ys
+alike-zeros [] [] e w = refl
+alike-zeros [] (y ∷ ys) e w = absurd (omega arith)
+alike-zeros (x ∷ xs) [] e w = absurd (omega arith)
+alike-zeros (x ∷ xs) (y ∷ ys) e w =
+    rw (alike-is x y (w .each 0) 0 (omega arith), alike-zeros xs ys (omega arith) (record { each = λ k. w .each (suc k) }))
 
 -- ---- rows
 

@@ -1,6 +1,9 @@
 -- A word whose bits are read as they are: the number, or past every limit where the word is negative.
 use Prim.Native.Nat.{ℕ, _^_, _<_}
 use mathlib.Core.Path.{_≡_}
+use mathlib.Core.List.{List}
+use lib.ListN.{getD}
+use Rattle.records.specs.Encoding.{accountFields}
 use Rattle.rules.specs.Rows.{Row}
 use Rattle.rules.specs.Book.{Account}
 
@@ -22,11 +25,9 @@ pub record AlikeRow (a b : Row) : Type 0 where
   pub hold : Alike (a .hold) (b .hold)
   pub reference : Alike (a .reference) (b .reference)
 
-pub record AlikeAccount (a b : Account) : Type 0 where
-  pub state : Alike (a .state) (b .state)
-  pub request : Alike (a .request) (b .request)
-  pub returned : Alike (a .returned) (b .returned)
-  pub threshold : Alike (a .threshold) (b .threshold)
-  pub topup : Alike (a .topup) (b .topup)
-  pub declines : Alike (a .declines) (b .declines)
-  pub declined : Alike (a .declined) (b .declined)
+-- lists of words, each word found by its place
+pub record AlikeWords (xs ys : List ℕ) : Type 0 where
+  pub each : (k : ℕ) → Alike (getD xs k 0) (getD ys k 0)
+
+abbrev pub AlikeAccount : Account → Account → Type 0
+AlikeAccount a b = AlikeWords (accountFields a) (accountFields b)

@@ -6,8 +6,9 @@ use native.Mathlib.Omega.{arith}
 use native.Mathlib.Decide.{decLt}
 use mathlib.Core.List.{List, _∷_}
 use lib.ListN.{length, getD, List·getD-eq-default}
-use Rattle.records.specs.Layout.{dayPlace, headerSchedule, stagePlace, rowWidth}
+use Rattle.records.specs.Layout.{dayPlace, headerSchedule, stagePlace, rowWidth, accountWidth}
 use Rattle.records.specs.Encoding.{word, rowAt, rowsOf, accountsOf, StorableRow, StorableAccount}
+use Rattle.records.proofs.FieldLaws.{storable-zeros}
 use Rattle.lists.proofs.ListLaws.{tabulate-at}
 use Rattle.records.specs.Limits.{finalDay, mostAccounts, mostRows, longestStage, highestRefund}
 use Rattle.rules.specs.Rows.{blank, rowNo}
@@ -44,15 +45,7 @@ blank-storable = record {
 }
 
 unused-storable : StorableAccount unused
-unused-storable = record {
-  state = omega arith;
-  request = omega arith;
-  returned = omega arith;
-  threshold = omega arith;
-  topup = omega arith;
-  declines = omega arith;
-  declined = omega arith;
-}
+unused-storable = storable-zeros accountWidth
 
 module _ (t : Tables) (s : soundTables t ≡ true) where
   near : Near (bookOf t .day) (bookOf t)

@@ -5,17 +5,19 @@ use native.Mathlib.Omega.{arith}
 use lib.ListN.{length}
 use lib.Dec.{eqb, leb}
 use borrow.Author.Tests.{le-leb, eqb-true, not-false}
+use Rattle.records.specs.Layout.{returnedPlace}
 use Rattle.records.specs.Updates.{ofKind}
 use Rattle.records.specs.Codes.{EventOpen, EventCloseRequest}
 use Rattle.records.specs.AccountOperations.{opened, closeRequestedOn}
 use Rattle.lists.specs.Tests.{_is_, _from_to_, _implies_}
 use Rattle.lists.proofs.TestLaws.{and-left, and-right}
 use Rattle.records.specs.Limits.{highestTopup}
-use Rattle.rules.specs.Book.{Account, Instruction, Book, account}
+use Rattle.rules.specs.Book.{Instruction, Book, account}
 use Rattle.rules.specs.Events.{openAccount, requestClose}
 use Rattle.rules.specs.Soundness.{stateFits, unusedZero, requestFits, topupFits, declineFits, returnedFits, usedIsPaid, closedClear}
 use Rattle.rules.specs.Refusals.{changeOf, wellFormed, formOf, openForm, unknown, taken}
 use Rattle.rules.specs.SoundFacts.{Standing, SumsFit, Near}
+use Rattle.rules.proofs.StorableLaws.{unused-zero}
 use Rattle.preservation.proofs.Accepted.{Accepted}
 use Rattle.preservation.proofs.LookupLaws.{today-fits, standing-of, counted-of, near-putAccount, inside}
 
@@ -35,16 +37,7 @@ module _ (b : Book) (i : Instruction) where
     was-unused = eqb-true (account b (i .account) .state) 0 (not-false (eqb (account b (i .account) .state) 0) (q .free))
 
     was-zero : account b (i .account) .returned ≡ 0
-    unfolding unusedZero
-    was-zero =
-        let y : Account = account b (i .account) in
-        let z : y .request is 0 && y .returned is 0 && y .threshold is 0 && y .topup is 0 && y .declines is 0 && y .declined is 0 ≡ true = rw was-unused at (standing-of (b .day) b s (i .account) in-table .zero) in
-        let p1 : Bool = y .request is 0 in
-        let p2 : Bool = y .returned is 0 in
-        let p3 : Bool = y .threshold is 0 in
-        let p4 : Bool = y .topup is 0 in
-        let p5 : Bool = y .declines is 0 in
-        eqb-true (y .returned) 0 (and-right p1 p2 (and-left (p1 && p2) p3 (and-left (p1 && p2 && p3) p4 (and-left (p1 && p2 && p3 && p4) p5 (and-left (p1 && p2 && p3 && p4 && p5) (y .declined is 0) z)))))
+    was-zero = unused-zero (account b (i .account)) was-unused (standing-of (b .day) b s (i .account) in-table .zero) returnedPlace
 
     standing : Standing (b .day) (opened (i .a) (i .b))
     unfolding stateFits unusedZero requestFits topupFits declineFits wellFormed formOf openForm

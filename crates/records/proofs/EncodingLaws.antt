@@ -2,15 +2,15 @@
 use Prim.Native.Nat.{ℕ, zero, suc, _+_, _*_, _^_, _≤_, _<_}
 use native.Mathlib.Omega.{arith}
 use native.Mathlib.Nat.{suc-mul, zero-mul}
-use mathlib.Core.Path.{_≡_, refl, sym, _∙_}
-use mathlib.Core.List.{List, [], _∷_, _++_, append-assoc, append-nil}
+use mathlib.Core.Path.{_≡_, refl, sym, ap, _∙_}
+use mathlib.Core.List.{List, [], _∷_, _++_, map, append-assoc, append-nil}
 use lib.IntN.{ℤ, pos, negsuc}
 use lib.ListN.{length, getD, take, drop, length-append}
 use lib.Seq.{getD-append-add, ext-getD, take-add}
 use Rattle.lists.specs.Lists.{tabulate}
-use Rattle.lists.proofs.ListLaws.{length-tabulate, tabulate-at, tabulate-getD}
+use Rattle.lists.proofs.ListLaws.{length-tabulate, tabulate-at, tabulate-getD, tabulate-map}
 use Rattle.records.specs.Layout.{accountWidth, rowWidth}
-use Rattle.records.specs.Encoding.{natOf, word, accountFrom, rowFrom, accountWords, rowWords, writeAll, StorableAccount, StorableRow}
+use Rattle.records.specs.Encoding.{natOf, word, accountFrom, rowFrom, accountFields, accountWords, rowWords, writeAll, Storable, StorableAccount, StorableRow}
 
 -- a word below 2 ^ 63 is not negative
 pub pos-natOf : (z : ℤ) → natOf z < 2 ^ 63 → pos (natOf z) ≡ z
@@ -104,20 +104,22 @@ row-codec = record {
       );
 }
 
+-- a record that is a list of fields, each read from its place
+pub fields-codec : {A : Type 0} (k : ℕ) (read : List ℤ → ℕ → A) (fields : A → List ℕ) → ((x : A) → length (map pos (fields x)) ≡ k)
+    → ((p s : List ℤ) (x : A) → read (p ++ (map pos (fields x) ++ s)) (length p) ≡ x)
+    → ((t : List ℤ) (a : ℕ) → fields (read t a) ≡ tabulate (λ j. word t (a + j)) k)
+    → Codec k read (λ x. map pos (fields x)) (λ x. Storable (fields x))
+fields-codec k read fields width back each = record {
+  width = width;
+  read-words = back;
+  words-read = λ t a h s.
+      ap (map pos) (each t a)
+      ∙ sym
+      (tabulate-map pos (λ j. getD t (a + j) (pos 0)) (λ j. word t (a + j)) k
+      (λ j q. sym (plain t (a + j) (rw (each t a, tabulate-at (λ i. word t (a + i)) k j 0 q) at (s .each j)))))
+      ∙ tabulate-getD t a k (pos 0) h;
+}
+
 pub account-codec : Codec accountWidth accountFrom accountWords StorableAccount
 unfolding accountFrom accountWords word natOf tabulate
-account-codec = record {
-  width = λ x. refl;
-  read-words = λ p s x. simp getD-append-add;
-  words-read = λ t a h s.
-      rw (
-        ← tabulate-getD t a accountWidth (pos 0) h,
-        plain t (a + 0) (s .state),
-        plain t (a + 1) (s .request),
-        plain t (a + 2) (s .returned),
-        plain t (a + 3) (s .threshold),
-        plain t (a + 4) (s .topup),
-        plain t (a + 5) (s .declines),
-        plain t (a + 6) (s .declined),
-      );
-}
+account-codec = fields-codec accountWidth accountFrom accountFields (λ x. refl) (λ p s x. simp getD-append-add) (λ t a. refl)

@@ -92,8 +92,12 @@ instructionFrom t = record {
 -- ---- writing: the words of each record, in order of their places
 
 -- "Accounts, 7 words each: state, close request day, returned checks, top-up threshold, top-up amount, declines, day of last decline"
+abbrev pub accountFields : Account → List ℕ
+accountFields x = x .state ∷ x .request ∷ x .returned ∷ x .threshold ∷ x .topup ∷ x .declines ∷ x .declined ∷ []
+
+-- the same numbers as signed words
 unfoldable pub accountWords : Account → List ℤ
-accountWords x = map pos (x .state ∷ x .request ∷ x .returned ∷ x .threshold ∷ x .topup ∷ x .declines ∷ x .declined ∷ [])
+accountWords x = map pos (accountFields x)
 
 -- "Journal, 10 words a row: kind, account, day, amount, settled, mark, due day, dispute, hold start, reference"
 unfoldable pub rowWords : Row → List ℤ
@@ -111,14 +115,13 @@ writeAll words (x ∷ xs) = words x ++ writeAll words xs
 
 -- ---- what a signed word can hold
 
-pub record StorableAccount (x : Account) : Type 0 where
-  pub state : x .state < 2 ^ 63
-  pub request : x .request < 2 ^ 63
-  pub returned : x .returned < 2 ^ 63
-  pub threshold : x .threshold < 2 ^ 63
-  pub topup : x .topup < 2 ^ 63
-  pub declines : x .declines < 2 ^ 63
-  pub declined : x .declined < 2 ^ 63
+-- a signed word can hold each number of the list, found by its place
+pub record Storable (xs : List ℕ) : Type 0 where
+  pub each : (k : ℕ) → getD xs k 0 < 2 ^ 63
+
+-- each word of an account
+abbrev pub StorableAccount : Account → Type 0
+StorableAccount x = Storable (accountFields x)
 
 pub record StorableRow (r : Row) : Type 0 where
   pub kind : r .kind < 2 ^ 63

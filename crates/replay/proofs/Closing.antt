@@ -15,16 +15,18 @@ use Rattle.lists.proofs.TestLaws.{and-left, and-right}
 use Rattle.lists.proofs.SumLaws.{sumBy-some}
 use Rattle.lists.proofs.PairLaws.{Pairs, pairs-to, pairs-sum}
 use Rattle.records.specs.Limits.{closingDays}
+use Rattle.records.specs.Layout.{requestPlace}
 use Rattle.rules.specs.Rows.{Row, blank, unsettled, debitOf, remaining}
 use Rattle.rules.specs.Settlement.{money, used, paid, owed}
 use Rattle.rules.specs.Book.{Account, StateUnused, StateOpen, StatePending, StateClosed, unused, Book, settled, account}
 use Rattle.rules.specs.Soundness.{stateFits, unusedZero, requestFits}
 use Rattle.rules.specs.Tick.{nextDay, endHolds, beforeRaising, raiseTolls, closes}
 use Rattle.rules.specs.SoundFacts.{Sound}
+use Rattle.rules.proofs.StorableLaws.{unused-zero}
 use Rattle.replay.specs.Entries.{Entry, isToll, moneyIn, moneyOut}
 use Rattle.replay.specs.Replay.{Note, Replay, noteNo, addFees, closing}
 use Rattle.replay.proofs.Relation.{SameLine, Match, Rows, Agrees}
-use Rattle.replay.proofs.PlainEvents.{noted-no, zero-request}
+use Rattle.replay.proofs.PlainEvents.{noted-no}
 use Rattle.replay.proofs.Balances.{sources-same, debits-same}
 use Rattle.replay.proofs.Raising.{unraisedEntries}
 use Rattle.replay.proofs.RaisedFees.{raise-rows}
@@ -41,7 +43,7 @@ request-none today x z q f p c = go (x .state is StateOpen) refl
     go false e =
         let l : x .state ≤ StateClosed = leb-true _ _ f in
         let n : x .state ≡ StateUnused = omega (arith, eqb-false (x .state) StateOpen e, eqb-false (x .state) StatePending p, eqb-false (x .state) StateClosed c) in
-        zero-request x n z
+        unused-zero x n z requestPlace
 
 request-some : (today : ℕ) (x : Account) → requestFits today x ≡ true → x .state ≡ StatePending → 1 ≤ x .request
 unfolding requestFits

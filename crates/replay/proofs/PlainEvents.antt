@@ -1,23 +1,22 @@
 -- Events 1, 2, 3, 7 and 8 keep the relation: they change a note, or add a row and its entry.
 use mathlib.Core.Path.{_≡_, refl, sym, _∙_}
-use mathlib.Core.Bool.{Bool, true, false, cond, _&&_, false≢true}
+use mathlib.Core.Bool.{Bool, true, false, cond, false≢true}
 use Prim.Native.Nat.{ℕ, zero, suc, _+_, _*_, _-_, _≤_, _<_}
 use native.Mathlib.Omega.{arith}
 use native.Mathlib.Decide.{decLt}
 use mathlib.Core.List.{[], _∷_, _++_}
 use lib.ListN.{length, getD, List·getD-eq-default}
-use borrow.Author.Tests.{eqb-true}
 use Rattle.records.specs.Codes.{Yes}
+use Rattle.records.specs.Layout.{requestPlace}
 use Rattle.records.specs.Updates.{withTopup, withDeclines}
 use Rattle.records.specs.AccountOperations.{opened, declinedOn, topupPaid, closeRequestedOn, lastDecline}
 use Rattle.lists.specs.Tests.{_is_}
-use Rattle.lists.proofs.TestLaws.{and-left}
 use Rattle.lists.proofs.PairLaws.{none, more, pairs-at, pairs-set, pairs-set-left, pairs-self, pairs-to}
 use Rattle.rules.specs.Rows.{Row}
 use Rattle.rules.specs.Book.{Account, unused, StateUnused, Instruction, Book, account, putAccount, addRow}
 use Rattle.rules.specs.Events.{openAccount, tollRate, postToll, postPayment, payTopup, declineTopup, topupResult, requestClose}
-use Rattle.rules.specs.Soundness.{unusedZero}
 use Rattle.rules.specs.SoundFacts.{Near}
+use Rattle.rules.proofs.StorableLaws.{unused-zero}
 use Rattle.replay.specs.Entries.{Entry, KindPayment, newEntry}
 use Rattle.replay.specs.Replay.{Note, noNote, Replay, noteNo, putNote, addEntry, noteTopup, noteRequest, addToll, addPayment, addTopup}
 use Rattle.replay.specs.Demand3.{tollNamed}
@@ -45,19 +44,10 @@ account-agrees b p a (suc n) h x q =
     record { day = a .day; schedule = a .schedule; rows = a .rows; notes = rw z (pairs-set-left n x noNote q (a .notes)) }
 
 -- an unused account has no request day
-pub zero-request : (x : Account) → x .state ≡ StateUnused → unusedZero x ≡ true → x .request ≡ 0
-unfolding unusedZero
-zero-request x e f =
-    let a : Bool = x .request is 0 && x .returned is 0 && x .threshold is 0 && x .topup is 0 && x .declines is 0 in
-    let c : Bool = x .request is 0 && x .returned is 0 && x .threshold is 0 && x .topup is 0 in
-    let d : Bool = x .request is 0 && x .returned is 0 && x .threshold is 0 in
-    let f1 : a && x .declined is 0 ≡ true = rw e at f in
-    eqb-true (x .request) 0 (and-left (x .request is 0) (x .returned is 0) (and-left (x .request is 0 && x .returned is 0) (x .threshold is 0) (and-left d (x .topup is 0) (and-left c (x .declines is 0) (and-left a (x .declined is 0) f1)))))
-
 unused-request : (b : Book) → Near (b .day) b → (n : ℕ) → account b n .state ≡ StateUnused → account b n .request ≡ 0
 unused-request b near zero e = refl
 unused-request b near (suc n) e = elim (decLt n (length (b .accounts))) [
-  | yes h ↦ zero-request (getD (b .accounts) n unused) e (near .standing n h .zero)
+  | yes h ↦ unused-zero (getD (b .accounts) n unused) e (near .standing n h .zero) requestPlace
   | no h ↦ rw (List·getD-eq-default (b .accounts) unused {n = n} (omega arith))
 ]
 

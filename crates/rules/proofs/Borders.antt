@@ -6,6 +6,7 @@ use mathlib.Core.List.{List, [], _∷_, _++_, map}
 use lib.ListN.{length, take, replicate, set}
 use lib.IntN.{ℤ, pos}
 use Rattle.lists.specs.Tests.{first}
+use Rattle.records.specs.Updates.{unused, withState, withRequest, withReturned, withTopup, withDeclines}
 use Rattle.rules.specs.Schedule.{Rates, Schedule, class, ratesFit, scheduleFits}
 use Rattle.rules.specs.Rows.{Row, withSettled, withMark, withDue, withDispute, withHoldStart, withReference, newRow}
 use Rattle.rules.specs.Book.{Account, Instruction, Book, account, row}
@@ -62,7 +63,7 @@ feeOf n = withReference n (aRow 2 100)
 
 -- an account's seven words
 abbrev anAccount : ℕ → ℕ → ℕ → ℕ → ℕ → ℕ → ℕ → Account
-anAccount s q r t a n d = record { state = s; request = q; returned = r; threshold = t; topup = a; declines = n; declined = d }
+anAccount s q r t a n d = withDeclines n d (withTopup t a (withReturned r (withRequest q (withState s unused))))
 
 -- an open account by its top-up words
 abbrev toppedUp : ℕ → ℕ → ℕ → ℕ → Account

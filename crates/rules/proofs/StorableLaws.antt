@@ -8,15 +8,17 @@ use mathlib.Core.List.{List, _∷_}
 use lib.ListN.{length, getD, List·getD-eq-default}
 use lib.Dec.{eqb, leb, ltb}
 use borrow.Author.Tests.{leb-true, leb-false, ltb-true, eqb-true, eqb-false, not-true}
-use Rattle.records.specs.Encoding.{StorableAccount, StorableRow}
+use Rattle.records.specs.Layout.{requestPlace}
+use Rattle.records.specs.Encoding.{accountFields, StorableAccount, StorableRow}
+use Rattle.records.proofs.FieldLaws.{storable-none, storable-more}
 use Rattle.lists.specs.Tests.{_is_, _from_to_, _implies_}
 use Rattle.lists.specs.Lists.{count}
-use Rattle.lists.proofs.TestLaws.{and-left, and-right}
+use Rattle.lists.proofs.TestLaws.{and-left, and-right, allOf-zero}
 use Rattle.lists.proofs.SumLaws.{count-le}
 use Rattle.records.specs.Limits.{finalDay, mostAccounts, mostRows, longestStage, highestFee, highestRate, highestRefund, highestPassage, highestTopup, mostDeclines}
 use Rattle.rules.specs.Schedule.{Schedule, scheduleFits, ratesFit}
 use Rattle.rules.specs.Rows.{Row, blank, KindToll, KindFee, KindReversal, KindPayment, KindCredit, rowNo, toll, unsettled}
-use Rattle.rules.specs.Book.{Account, unused, accountNo, Book}
+use Rattle.rules.specs.Book.{Account, StateUnused, unused, accountNo, Book}
 use Rattle.rules.specs.Opening.{dayFits, sizesFit}
 use Rattle.rules.specs.Soundness.{kindFits, mostOf, amountFits, settledFits, markFits, tollWordsFit, noReference, rowDayFits, dueWithin, holdFits, accountUsed, names, referenceFits, stateFits, unusedZero, requestFits, topupFits, declineFits, returnedOf, returnedFits}
 use Rattle.rules.specs.SoundFacts.{Near}
@@ -156,18 +158,13 @@ module _ (rows : List Row) (n : ℕ) (r : Row) (k : kindFits r ≡ true) (w : to
           let h = leb-true (r .kind) 6 (and-right (leb 1 (r .kind)) (leb (r .kind) 6) k) in
           absurd (omega (arith, eqb-false))
 
--- an account's words
-first-zero : (x : Account) → x .request is 0 && x .returned is 0 && x .threshold is 0 && x .topup is 0 && x .declines is 0 && x .declined is 0 ≡ true → x .request is 0 ≡ true
-first-zero x e =
-    let q : Bool = x .request is 0 in
-    let r : Bool = x .returned is 0 in
-    let t : Bool = x .threshold is 0 in
-    let u : Bool = x .topup is 0 in
-    let d : Bool = x .declines is 0 in
-    and-left q r (and-left (q && r) t (and-left (q && r && t) u (and-left (q && r && t && u) d (and-left (q && r && t && u && d) (x .declined is 0) e))))
+-- an account's words: each is 0 where it is unused
+pub unused-zero : (x : Account) → x .state ≡ StateUnused → unusedZero x ≡ true → (k : ℕ) → getD (accountFields x) k 0 ≡ 0
+unfolding unusedZero
+unused-zero x e z = allOf-zero (accountFields x) (rw e (rw e at z))
 
 request-le : (today : ℕ) (x : Account) → stateFits x ≡ true → unusedZero x ≡ true → requestFits today x ≡ true → x .request ≤ today
-unfolding stateFits unusedZero requestFits
+unfolding stateFits requestFits
 request-le today x s z f = go (eqb (x .state) 0) (eqb (x .state) 1) (leb 2 (x .state)) refl refl refl
   where
     one-part : Bool
@@ -177,7 +174,7 @@ request-le today x s z f = go (eqb (x .state) 0) (eqb (x .state) 1) (leb 2 (x .s
     two-part = leb 2 (x .state) implies x .request from 1 to today
 
     go : (p q v : Bool) → eqb (x .state) 0 ≡ p → eqb (x .state) 1 ≡ q → leb 2 (x .state) ≡ v → x .request ≤ today
-    go true q v a c d = omega (arith, eqb-true (x .request) 0 (first-zero x (rw a at z)))
+    go true q v a c d = let r : x .request ≡ 0 = unused-zero x (eqb-true (x .state) 0 a) z requestPlace in omega arith
     go false true v a c d = omega (arith, eqb-true (x .request) 0 (rw c at (and-left one-part two-part f)))
     go false false true a c d = between-le 1 today (x .request) (rw d at (and-right one-part two-part f))
     go false false false a c d = absurd (omega (arith, eqb-false (x .state) 0 a, eqb-false (x .state) 1 c, leb-false 2 (x .state) d))
@@ -312,12 +309,11 @@ module _ (past : ℕ) (b : Book) (n : Near past b) where
       let d = day-le in
       let q = room-le in
       let w = rows-le in
-      record {
-        state = omega (arith, leb-true (x .state) 3 (s .state));
-        request = omega (arith, request-le (b .day) x (s .state) (s .zero) (s .request));
-        returned = omega (arith, eqb-true (x .returned) (count (returnedOf (suc k)) (b .rows)) (n .counted k h .returned), count-le (returnedOf (suc k)) (b .rows));
-        threshold = omega arith;
-        topup = omega arith;
-        declines = omega arith;
-        declined = omega (arith, leb-true (x .declined) (b .day) (s .decline));
-      }
+      storable-more (omega (arith, leb-true (x .state) 3 (s .state)))
+      (storable-more (omega (arith, request-le (b .day) x (s .state) (s .zero) (s .request)))
+      (storable-more (omega (arith, eqb-true (x .returned) (count (returnedOf (suc k)) (b .rows)) (n .counted k h .returned), count-le (returnedOf (suc k)) (b .rows)))
+      (storable-more (omega (arith, t .threshold))
+      (storable-more (omega (arith, t .topup))
+      (storable-more (omega (arith, t .declines))
+      (storable-more (omega (arith, leb-true (x .declined) (b .day) (s .decline)))
+      storable-none))))))

@@ -2,13 +2,14 @@
 -- tables alone, their lengths and the rows past the used ones, is in Tables.
 use mathlib.Core.Bool.{Bool, not, cond, _&&_, _||_}
 use Prim.Native.Nat.{ℕ, _+_, _-_}
-use mathlib.Core.List.{List, [], _∷_}
+use mathlib.Core.List.{List, [], _∷_, map}
 use lib.ListN.{length, getD}
 use lib.Dec.{leb, ltb}
 use Rattle.records.specs.Codes.{MethodCheckReturned, DisputeUpheld}
 use Rattle.lists.specs.Tests.{_is_, _from_to_, _implies_, allOf}
 use Rattle.lists.specs.Lists.{count, every}
 use Rattle.records.specs.Limits
+use Rattle.records.specs.Encoding.{accountFields}
 use Rattle.rules.specs.Schedule.{scheduleFits}
 use Rattle.rules.specs.Rows.{Row, KindToll, KindFee, KindReversal, KindPayment, KindCredit, KindRefund, DisputeHeld, LastStage, Test, rowNo, toll, heldToll, unsettled, feeNaming}
 use Rattle.rules.specs.Settlement.{money, debt, used, paid, owed}
@@ -119,8 +120,7 @@ stateFits x = leb (x .state) StateClosed
 
 -- "unused accounts are all 0"
 unfoldable pub unusedZero : AccountTest
-unusedZero x = x .state is StateUnused implies
-    x .request is 0 && x .returned is 0 && x .threshold is 0 && x .topup is 0 && x .declines is 0 && x .declined is 0
+unusedZero x = x .state is StateUnused implies allOf (map (λ word. word is 0) (accountFields x))
 
 -- "request day is 0 in state 1, in 2 and 3 from 1 to today"
 unfoldable pub requestFits : ℕ → AccountTest

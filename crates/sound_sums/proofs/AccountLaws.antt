@@ -1,19 +1,20 @@
 -- An account stands as it is read, and the arrays of sums are the sums of the definitions.
 use Prim.Native.Nat.{ℕ, _+_, _*_, _^_, _≤_, _<_}
 use native.Mathlib.Omega.{arith}
-use mathlib.Core.Path.{_≡_, ap, _∙_}
+use mathlib.Core.Path.{_≡_, refl, ap, _∙_}
 use mathlib.Core.List.{List}
 use lib.IntN.{ℤ}
 use lib.ListN.{getD}
 use Rattle.lists.specs.Lists.{count}
 use Rattle.lists.proofs.ListLaws.{every-ext-tabulate}
-use Rattle.records.specs.Encoding.{rowsOf, accountAt, accountsOf}
+use Rattle.records.specs.Layout.{statePlace, requestPlace, returnedPlace, thresholdPlace, topupPlace, declinesPlace, declinedPlace}
+use Rattle.records.specs.Encoding.{accountFields, rowsOf, accountAt, accountsOf}
 use Rattle.records.specs.Limits.{finalDay, mostRows, highestTopup, mostDeclines, slotCount}
 use Rattle.rules.specs.Settlement
 use Rattle.rules.specs.Book.{Account}
 use Rattle.rules.specs.Soundness.{stateFits, unusedZero, requestFits, topupFits, declineFits}
 use Rattle.plain_rows.specs.Alike.{AlikeAccount}
-use Rattle.plain_rows.proofs.AlikeLaws.{alike-is, alike-most, alike-least}
+use Rattle.plain_rows.proofs.AlikeLaws.{alike-is, alike-most, alike-least, alike-zeros}
 use Rattle.account_sums.specs.Tallies.{returnOf}
 use Rattle.account_sums.specs.Columns.{Low, Tallies}
 use Rattle.sound_accounts.specs.Alone.{accountAlone}
@@ -26,24 +27,24 @@ unfolding accountPasses accountAlone sumsAgree stateFits unusedZero requestFits 
 passes-alike today s x y d r w =
     let t : today < 2 ^ 63 = omega arith in
     rw (
-      alike-is _ _ (w .state) 0 (omega arith),
-      alike-is _ _ (w .state) 1 (omega arith),
-      alike-is _ _ (w .state) 3 (omega arith),
-      alike-most _ _ (w .state) 3 (omega arith),
-      alike-least _ _ (w .state) 2 (omega arith),
-      alike-is _ _ (w .request) 0 (omega arith),
-      alike-least _ _ (w .request) 1 (omega arith),
-      alike-most _ _ (w .request) today t,
-      alike-is _ _ (w .returned) 0 (omega arith),
-      alike-is _ _ (w .returned) (s .returned) r,
-      alike-is _ _ (w .threshold) 0 (omega arith),
-      alike-most _ _ (w .threshold) highestTopup (omega arith),
-      alike-is _ _ (w .topup) 0 (omega arith),
-      alike-most _ _ (w .topup) highestTopup (omega arith),
-      alike-is _ _ (w .declines) 0 (omega arith),
-      alike-most _ _ (w .declines) mostDeclines (omega arith),
-      alike-is _ _ (w .declined) 0 (omega arith),
-      alike-most _ _ (w .declined) today t,
+      alike-zeros (accountFields x) (accountFields y) refl w,
+      alike-is _ _ (w .each statePlace) 0 (omega arith),
+      alike-is _ _ (w .each statePlace) 1 (omega arith),
+      alike-is _ _ (w .each statePlace) 3 (omega arith),
+      alike-most _ _ (w .each statePlace) 3 (omega arith),
+      alike-least _ _ (w .each statePlace) 2 (omega arith),
+      alike-is _ _ (w .each requestPlace) 0 (omega arith),
+      alike-least _ _ (w .each requestPlace) 1 (omega arith),
+      alike-most _ _ (w .each requestPlace) today t,
+      alike-is _ _ (w .each returnedPlace) (s .returned) r,
+      alike-is _ _ (w .each thresholdPlace) 0 (omega arith),
+      alike-most _ _ (w .each thresholdPlace) highestTopup (omega arith),
+      alike-is _ _ (w .each topupPlace) 0 (omega arith),
+      alike-most _ _ (w .each topupPlace) highestTopup (omega arith),
+      alike-is _ _ (w .each declinesPlace) 0 (omega arith),
+      alike-most _ _ (w .each declinesPlace) mostDeclines (omega arith),
+      alike-is _ _ (w .each declinedPlace) 0 (omega arith),
+      alike-most _ _ (w .each declinedPlace) today t,
     )
 
 -- a count of returned checks is small

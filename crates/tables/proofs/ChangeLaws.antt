@@ -5,10 +5,13 @@ use native.Mathlib.Nat.{mul-le-mul-right, suc-mul}
 use native.Mathlib.Decide.{ℕ-discrete, decLt}
 use mathlib.Core.Path.{_≡_, refl, ap, _∙_}
 use mathlib.Core.Logic.{_≢_}
+use mathlib.Core.Bool.{true}
 use mathlib.Core.List.{List, [], _∷_, _++_, map, append-assoc}
 use lib.IntN.{ℤ, pos}
 use lib.ListN.{length, getD, set, take, drop, length-set}
 use lib.Seq.{getD-set-same, getD-set-other, sets, sets-eq, length-sets, length-take-le}
+use lib.Dec.{ltb}
+use borrow.Author.Tests.{ltb-true}
 use Rattle.lists.specs.Lists.{tabulate}
 use Rattle.lists.proofs.ListLaws.{tabulate-set, tabulate-same, tabulate-more, tabulate-map}
 use Rattle.records.specs.declared.Row.{Row}
@@ -87,12 +90,14 @@ Local k read = (t u : List ℤ) (p : ℕ) → ((j : ℕ) → j < k → word t (p
 row-local : Local rowWidth rowFrom
 unfolding rowFrom
 row-local t u p e =
-    rw (e 0 (omega arith), e 1 (omega arith), e 2 (omega arith), e 3 (omega arith), e 4 (omega arith), e 5 (omega arith), e 6 (omega arith), e 7 (omega arith), e 8 (omega arith), e 9 (omega arith))
+    let f : (j : ℕ) → ltb j rowWidth ≡ true → word t (p + j) ≡ word u (p + j) = λ j q. e j (ltb-true j rowWidth q) in
+    simp f
 
 account-local : Local accountWidth accountFrom
 unfolding accountFrom
 account-local t u p e =
-    rw (e 0 (omega arith), e 1 (omega arith), e 2 (omega arith), e 3 (omega arith), e 4 (omega arith), e 5 (omega arith), e 6 (omega arith))
+    let f : (j : ℕ) → ltb j accountWidth ≡ true → word t (p + j) ≡ word u (p + j) = λ j q. e j (ltb-true j accountWidth q) in
+    simp f
 
 -- places of two records are apart
 apart : (w k i a b : ℕ) → k ≢ i → a < w → b < w → k * w + a ≢ i * w + b

@@ -10,11 +10,12 @@ use borrow.Author.Tests.{lt-ltb}
 use Rattle.lists.specs.Lists.{tabulate, gatherFrom, changeFrom}
 use Rattle.lists.proofs.ListLaws.{length-tabulate}
 use Rattle.lists.proofs.GatherLaws.{gather-tabulate, length-gather-tabulate, length-gather-le, change-tabulate}
-use Rattle.records.specs.Layout.{usedPlace, rowWidth, accountWidth}
+use Rattle.records.specs.Layout.{usedPlace, statePlace, rowWidth, accountWidth}
 use Rattle.records.specs.Encoding.{word, rowAt, rowsOf, accountAt, accountsOf, StorableRow, StorableAccount}
+use Rattle.records.proofs.FieldLaws.{storable-set}
 use Rattle.records.specs.AccountOperations.{closed}
 use Rattle.rules.specs.Rows.{Row, source, withSettled}
-use Rattle.rules.specs.Book.{Account}
+use Rattle.rules.specs.Book.{Account, StateClosed}
 use Rattle.tables.specs.Changes.{RowChanged, AccountChanged}
 use Rattle.tables.proofs.ChangeLaws.{unchanged, changed-append}
 use Rattle.posting.specs.Posts.{tablesAt, RowRoom, RowAdded}
@@ -80,15 +81,7 @@ module _ (today money owed : ℕ) (h a j : List ℤ) (i : ℕ) where
 
   module _ (c : Closable h a j i today money owed) where
     pub closed-holds : StorableAccount (closed x)
-    closed-holds = record {
-      state = omega arith;
-      request = c .holds .request;
-      returned = c .holds .returned;
-      threshold = c .holds .threshold;
-      topup = c .holds .topup;
-      declines = c .holds .declines;
-      declined = c .holds .declined;
-    }
+    closed-holds = storable-set _ statePlace StateClosed (omega arith) (c .holds)
 
     pub refund-room : closesBy today owed x ≡ true → (money ≡ 0 → ⊥) → RowRoom h j
     unfolding refundsBy

@@ -1,5 +1,6 @@
 -- `plain_account` meets its contract: seven words, read in the layout's order.
 use Rattle.records.specs.Encoding.{accountFrom}
+use Rattle.plain_rows.proofs.AlikeLaws.{alike-none, alike-more}
 use borrow.Author.Needs.{needs}
 use Rattle.plain_rows.proofs.accounts.plain_account.Statement.{statement}
 use Rattle.plain_rows.proofs.accounts.plain_account.Tie as tie
@@ -52,15 +53,14 @@ get-bits-requires-7 c κs = search needs
 returns : tie.Need-returns
 unfolding accountFrom
 returns c =
-    record {
-      state = c .before .before .before .before .before .before .get-bits .ensures;
-      request = c .before .before .before .before .before .get-bits2 .ensures;
-      returned = c .before .before .before .before .get-bits3 .ensures;
-      threshold = c .before .before .before .get-bits4 .ensures;
-      topup = c .before .before .get-bits5 .ensures;
-      declines = c .before .get-bits6 .ensures;
-      declined = c .get-bits7 .ensures;
-    }
+    alike-more (c .before .before .before .before .before .before .get-bits .ensures)
+    (alike-more (c .before .before .before .before .before .get-bits2 .ensures)
+    (alike-more (c .before .before .before .before .get-bits3 .ensures)
+    (alike-more (c .before .before .before .get-bits4 .ensures)
+    (alike-more (c .before .before .get-bits5 .ensures)
+    (alike-more (c .before .get-bits6 .ensures)
+    (alike-more (c .get-bits7 .ensures)
+    alike-none))))))
 
 pub plain-account-spec : {M : Type 1} → statement M
 plain-account-spec =
