@@ -29,5 +29,6 @@ pub record AlikeRow (a b : Row) : Type 0 where
 pub record AlikeWords (xs ys : List ℕ) : Type 0 where
   pub each : (k : ℕ) → Alike (getD xs k 0) (getD ys k 0)
 
+-- every word of an account
 abbrev pub AlikeAccount : Account → Account → Type 0
 AlikeAccount a b = AlikeWords (accountFields a) (accountFields b)
