@@ -15,6 +15,7 @@
 #define CALL_RUNS 2001
 #define BATCH_RUNS 61
 #define PART 1024 /* events of a batch onto a book with rows */
+#define LIST_DAYS 12 /* from one rate list to the next: the last has begun when a book is timed */
 #define MOST_RUNS CALL_RUNS
 
 static const size_t sizes[SIZES] = {512, 2048, 8192};
@@ -113,17 +114,31 @@ static void post_batch(const struct library *library, const event *e)
          "a timed batch is run");
 }
 
+static int64_t post_to_book(const event *e)
+{
+    const struct book b = book_of(book);
+    return post(&b, e).number;
+}
+
+/* As many rate lists as a book holds, each with the opening's rates: tolls look theirs up, and the
+ * books stay those of all times in docs/SPEED.md. */
+static void add_rate_lists(void)
+{
+    const int64_t *r = schedule + TOLL_LEDGER_SCHEDULE_WORDS - RATES;
+    for (int64_t i = 1; i < TOLL_LEDGER_MOST_LISTS; i++) {
+        const event e = {.kind = TOLL_LEDGER_EVENT_RATE_LIST,
+                         .a = schedule[0] + i * LIST_DAYS,
+                         .b = r[0], .c = r[1], .d = r[2], .e = r[3], .f = r[4], .g = r[5]};
+        must(post_to_book(&e) == TOLL_LEDGER_POSTED, "a rate list is added");
+    }
+}
+
 static void open_book(size_t rows)
 {
     shape(book, ACCOUNTS, rows);
     must(plain.open(LENT(book), schedule, TOLL_LEDGER_SCHEDULE_WORDS) == TOLL_LEDGER_POSTED,
          "the book is opened");
-}
-
-static int64_t post_to_book(const event *e)
-{
-    const struct book b = book_of(book);
-    return post(&b, e).number;
+    add_rate_lists();
 }
 
 /* Event n of those that open the accounts, all but some with a top-up. */

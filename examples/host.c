@@ -4,8 +4,8 @@
  *     host BOOK [EVENTS]
  *
  * Loads the book saved in BOOK, or opens a fresh one where there is no such file; posts the events of
- * the file EVENTS, one a line as kind,account,a,b,c,d,e; prints what was refused and a statement of
- * every account; saves the book. Ends with 0, or with 1 and nothing saved where something is wrong.
+ * the file EVENTS, one a line as kind,account,a,b,c,d,e,f,g; prints what was refused and a statement
+ * of every account; saves the book. Ends with 0, or with 1 and nothing saved where something is wrong.
  */
 #include <errno.h>
 #include <inttypes.h>
@@ -22,7 +22,9 @@
 static const int64_t schedule[TOLL_LEDGER_SCHEDULE_WORDS] = {1,   30,  500, 2500, 3000, 250,
                                                              500, 600, 900, 1200, 1600};
 
-#define MAGIC INT64_C(0x314b4f4f424c4c54) /* the file's first word: "TLLBOOK1" */
+/* How the file begins: its last letter is the version's first number, which rises where stored books
+ * no longer fit. */
+static const char magic[8] = {'T', 'L', 'L', 'B', 'O', 'O', 'K', '0' + TOLL_LEDGER_VERSION_MAJOR};
 
 struct book {
     int64_t header[TOLL_LEDGER_HEADER_WORDS];
@@ -56,15 +58,20 @@ static void make_room(struct book *b, size_t accounts, size_t rows)
     b->journal = memory(NULL, b->journal_words, sizeof(int64_t));
 }
 
-/* ---- the book's file: the magic word, how many accounts and rows, the three tables */
+/* ---- the book's file: the magic letters, how many accounts and rows, the three tables */
 
 static void load(struct book *b, FILE *file, const char *path)
 {
-    int64_t start[3];
-    if (fread(start, sizeof(int64_t), 3, file) != 3 || start[0] != MAGIC || start[1] < 1 ||
-        start[1] > TOLL_LEDGER_MOST_ACCOUNTS || start[2] < 1 || start[2] > TOLL_LEDGER_MOST_ROWS)
+    char letters[sizeof magic];
+    int64_t counts[2];
+    if (fread(letters, sizeof letters, 1, file) != 1 || memcmp(letters, magic, sizeof magic - 1) != 0 ||
+        fread(counts, sizeof(int64_t), 2, file) != 2)
         fail(path, "not a book");
-    make_room(b, (size_t)start[1], (size_t)start[2]);
+    if (letters[sizeof magic - 1] != magic[sizeof magic - 1])
+        fail(path, "of another version of the ledger, whose books don't fit this one");
+    if (counts[0] < 1 || counts[0] > TOLL_LEDGER_MOST_ACCOUNTS || counts[1] < 1 || counts[1] > TOLL_LEDGER_MOST_ROWS)
+        fail(path, "not a book");
+    make_room(b, (size_t)counts[0], (size_t)counts[1]);
     if (fread(b->header, sizeof(int64_t), TOLL_LEDGER_HEADER_WORDS, file) != TOLL_LEDGER_HEADER_WORDS ||
         fread(b->accounts, sizeof(int64_t), b->accounts_words, file) != b->accounts_words ||
         fread(b->journal, sizeof(int64_t), b->journal_words, file) != b->journal_words || fgetc(file) != EOF)
@@ -75,15 +82,15 @@ static void load(struct book *b, FILE *file, const char *path)
 /* Writes a new file and puts it in the old one's place, so that a stop midway loses no book. */
 static void save(const struct book *b, const char *path)
 {
-    const int64_t start[3] = {MAGIC, (int64_t)(b->accounts_words / TOLL_LEDGER_ACCOUNT_WORDS),
-                              (int64_t)(b->journal_words / TOLL_LEDGER_ROW_WORDS)};
+    const int64_t counts[2] = {(int64_t)(b->accounts_words / TOLL_LEDGER_ACCOUNT_WORDS),
+                               (int64_t)(b->journal_words / TOLL_LEDGER_ROW_WORDS)};
     char *new_path = memory(NULL, strlen(path) + sizeof ".new", 1);
     strcat(strcpy(new_path, path), ".new");
     FILE *file = fopen(new_path, "wb");
     if (file == NULL)
         fail(new_path, strerror(errno));
     const int written =
-        fwrite(start, sizeof(int64_t), 3, file) == 3 &&
+        fwrite(magic, sizeof magic, 1, file) == 1 && fwrite(counts, sizeof(int64_t), 2, file) == 2 &&
         fwrite(b->header, sizeof(int64_t), TOLL_LEDGER_HEADER_WORDS, file) == TOLL_LEDGER_HEADER_WORDS &&
         fwrite(b->accounts, sizeof(int64_t), b->accounts_words, file) == b->accounts_words &&
         fwrite(b->journal, sizeof(int64_t), b->journal_words, file) == b->journal_words;
@@ -115,12 +122,14 @@ static void load_or_open(struct book *b, const char *path)
 
 static int parse(const char *line, struct toll_ledger_event_record *event)
 {
-    int64_t *const words[] = {&event->kind, &event->account, &event->a, &event->b, &event->c, &event->d, &event->e};
+    int64_t *const words[TOLL_LEDGER_EVENT_WORDS] = {&event->kind, &event->account, &event->a, &event->b, &event->c,
+                                                     &event->d,    &event->e,       &event->f, &event->g};
     for (size_t i = 0; i < TOLL_LEDGER_EVENT_WORDS; i++) {
+        const int last = i == TOLL_LEDGER_EVENT_WORDS - 1;
         char *end;
         errno = 0;
         *words[i] = strtoll(line, &end, 10);
-        if (end == line || errno != 0 || (i < 6 ? *end != ',' : *end != '\n' && *end != '\0'))
+        if (end == line || errno != 0 || (last ? *end != '\n' && *end != '\0' : *end != ','))
             return 0;
         line = end + 1;
     }
@@ -138,7 +147,7 @@ static struct toll_ledger_event_record *read_events(const char *path, size_t *co
     for (*count = 0; fgets(line, sizeof line, file) != NULL; ++*count) {
         events = memory(events, *count + 1, sizeof *events);
         if (!parse(line, &events[*count])) {
-            fprintf(stderr, "host: %s: line %zu isn't seven numbers with commas between\n", path, *count + 1);
+            fprintf(stderr, "host: %s: line %zu isn't nine numbers with commas between\n", path, *count + 1);
             exit(1);
         }
     }
@@ -150,7 +159,7 @@ static struct toll_ledger_event_record *read_events(const char *path, size_t *co
 
 static const char *const number_names[] = {"posted",   "unsound",   "malformed", "unknown", "taken",
                                            "closed",   "unclassed", "misdated",  "duplicate", "barred",
-                                           "no row",   "untimely",  "last day",  "full",    "ceiling"};
+                                           "no row",   "untimely",  "last day",  "full",    "ceiling", "list"};
 
 /* Posts events in batches of the most that one call takes, and prints the refused ones. */
 static void post(struct book *b, const struct toll_ledger_event_record *events, size_t count)

@@ -27,8 +27,8 @@
 
 /* The version of this interface: the first number rises where a host must change or its stored
  * books no longer fit, the second where something is added, the third where neither is. */
-#define TOLL_LEDGER_VERSION_MAJOR 1
-#define TOLL_LEDGER_VERSION_MINOR 1
+#define TOLL_LEDGER_VERSION_MAJOR 2
+#define TOLL_LEDGER_VERSION_MINOR 0
 #define TOLL_LEDGER_VERSION_PATCH 0
 
 /* For compilers that can warn: a call's number must not be ignored, and no pointer may be null. */
@@ -42,29 +42,34 @@
 extern "C" {
 #endif
 
-/* Sizes. A header has exactly 12 words; accounts are 1 to 256 of 7 words each, numbered from 1; a
+/* Sizes. A header has exactly 62 words; accounts are 1 to 256 of 7 words each, numbered from 1; a
  * journal is 1 to 8,192 rows of 10 words each, numbered from 1. How many accounts and rows a book
  * has room for is the host's choice at opening, told by the tables' lengths. */
-#define TOLL_LEDGER_HEADER_WORDS 12
+#define TOLL_LEDGER_HEADER_WORDS 62
 #define TOLL_LEDGER_ACCOUNT_WORDS 7
 #define TOLL_LEDGER_ROW_WORDS 10
 #define TOLL_LEDGER_MOST_ACCOUNTS 256
 #define TOLL_LEDGER_MOST_ROWS 8192
+#define TOLL_LEDGER_MOST_LISTS 8 /* rate lists, the opening's among them */
+#define TOLL_LEDGER_LIST_WORDS 7 /* of each rate list after the first */
 #define TOLL_LEDGER_SCHEDULE_WORDS 11
-#define TOLL_LEDGER_EVENT_WORDS 7
+#define TOLL_LEDGER_EVENT_WORDS 9
 #define TOLL_LEDGER_ANSWER_WORDS 5
 #define TOLL_LEDGER_MOST_EVENTS 4096 /* in a batch */
 #define TOLL_LEDGER_DAYS 36525 /* days are numbered from 1 to it */
 
-/* The numbers that calls give. Where several refusals apply, the lowest number wins. */
+/* The numbers that calls give, in the order in which refusals are checked: where several apply, the
+ * one that stands first here wins. */
 enum toll_ledger_number {
     TOLL_LEDGER_POSTED = 0,     /* accepted; of a batch, an opening and a question: it has run */
     TOLL_LEDGER_UNSOUND = 1,    /* the book isn't sound (see "A sound book"); opening: its lengths
                                    aren't those of a book */
     TOLL_LEDGER_MALFORMED = 2,  /* an event of no kind, with a word out of range or an unnamed word
-                                   that isn't 0; an event not of 7 words; an answer table too short;
+                                   that isn't 0; an event not of 9 words; an answer table too short;
                                    a batch of more than 4,096; opening: first day or schedule out of
                                    range, or not 11 words */
+    TOLL_LEDGER_LIST = 15,      /* event 10: the book has eight rate lists, or the last one begins
+                                   on the new one's first day or later */
     TOLL_LEDGER_UNKNOWN = 3,    /* the account is unused, or not from 1 to the table's count */
     TOLL_LEDGER_TAKEN = 4,      /* event 1: the account is used */
     TOLL_LEDGER_CLOSED = 5,     /* events 2, 3, 7, 8: the account is closed */
@@ -90,12 +95,21 @@ enum toll_ledger_header_word {
     TOLL_LEDGER_HEADER_FEE_2 = 3,        /* fees for stages 2, 3, 4: 0 to 100,000 each */
     TOLL_LEDGER_HEADER_FEE_3 = 4,
     TOLL_LEDGER_HEADER_FEE_4 = 5,
-    TOLL_LEDGER_HEADER_RATE_1_TAG = 6,   /* six rates: 1 to 1,000,000 each */
+    TOLL_LEDGER_HEADER_RATE_1_TAG = 6,   /* the first list's six rates: 1 to 1,000,000 each */
     TOLL_LEDGER_HEADER_RATE_1_PLATE = 7,
     TOLL_LEDGER_HEADER_RATE_2_TAG = 8,
     TOLL_LEDGER_HEADER_RATE_2_PLATE = 9,
     TOLL_LEDGER_HEADER_RATE_3_TAG = 10,
-    TOLL_LEDGER_HEADER_RATE_3_PLATE = 11
+    TOLL_LEDGER_HEADER_RATE_3_PLATE = 11,
+    TOLL_LEDGER_HEADER_FIRST_DAY = 12,   /* the first list's first day: that of the opening */
+    TOLL_LEDGER_HEADER_LISTS = 13        /* here begin the seven later lists */
+};
+
+/* The words of a rate list after the first: list i, 2 to 8, has the header's words from
+ * 13 + 7 * (i - 2) on. Unused lists come last and are all 0. */
+enum toll_ledger_list_word {
+    TOLL_LEDGER_LIST_FIRST_DAY = 0, /* 0: the list is unused */
+    TOLL_LEDGER_LIST_RATES = 1      /* here begin its six rates, in the order of the first list's */
 };
 
 /* The words of an account: account n has the words from 7 * (n - 1) on. */
@@ -157,16 +171,19 @@ enum toll_ledger_dispute {
 };
 
 /*
- * Events: seven words each, kind, account, a, b, c, d, e. Words that a kind doesn't name are 0.
- * Every accepted event ends with settlement: unused sources of an account pay its unsettled debits
- * that aren't held, each in row order. An event but the tick changes its own account alone.
+ * Events: nine words each, kind, account, a, b, c, d, e, f, g. Words that a kind doesn't name are
+ * 0. Every accepted event ends with settlement: unused sources of an account pay its unsettled
+ * debits that aren't held, each in row order. An event but the tick changes its own account alone,
+ * a rate list none.
  */
 enum toll_ledger_event_kind {
     /* a threshold, b top-up amount: 0 to 1,000,000 each, a 0 if b is. Opens an unused account. */
     TOLL_LEDGER_EVENT_OPEN = 1,
     /* a passage number 1 to 1,000,000,000, b passage day 1 to 36,525, c axles 1 to 99, d height 0
      * to 999 inches, e mode. Adds a toll at the rate of its class and mode, due in L days. Class 1:
-     * up to 2 axles, at most 90 inches; 2: 2 axles above 90, 3 and 4 axles; 3: 5 axles or more. */
+     * up to 2 axles, at most 90 inches; 2: 2 axles above 90, 3 and 4 axles; 3: 5 axles or more. The
+     * rate is that of the list in force on the passage day: the last one that begins on that day or
+     * earlier, and the first list where none does. */
     TOLL_LEDGER_EVENT_TOLL = 2,
     /* a amount 1 to 1,000,000, b method: card, cash or check. Adds a payment. */
     TOLL_LEDGER_EVENT_PAYMENT = 3,
@@ -186,12 +203,16 @@ enum toll_ledger_event_kind {
     TOLL_LEDGER_EVENT_CLOSE_REQUEST = 8,
     /* Account 0. The day rises by 1: holds of 30 days end, tolls due rise a stage and from stage 2
      * on add a fee, pending accounts close and what is left of their money leaves as a refund. */
-    TOLL_LEDGER_EVENT_TICK = 9
+    TOLL_LEDGER_EVENT_TICK = 9,
+    /* Account 0, a first day 1 to 36,525, b to g six rates, 1 to 1,000,000 each, in the header's
+     * order. Adds a rate list, which begins after the last one: on a day to come or one gone by.
+     * Tolls in the journal keep their amounts. */
+    TOLL_LEDGER_EVENT_RATE_LIST = 10
 };
 
 enum toll_ledger_mode { TOLL_LEDGER_MODE_TAG = 1, TOLL_LEDGER_MODE_PLATE = 2 };
 
-/* An event in the list of a batch: its seven words, nothing between them. */
+/* An event in the list of a batch: its nine words, nothing between them. */
 struct toll_ledger_event_record {
     int64_t kind;
     int64_t account;
@@ -200,6 +221,8 @@ struct toll_ledger_event_record {
     int64_t c;
     int64_t d;
     int64_t e;
+    int64_t f;
+    int64_t g;
 };
 
 #if defined(__cplusplus)
@@ -224,19 +247,21 @@ enum toll_ledger_answer_word {
 
 /*
  * A sound book. The tables have the lengths above, and the header the ranges above, day 1 to
- * 36,525. The first "rows used" rows have kinds 1 to 6; later rows and unused accounts are all 0.
- * The request day is 0 in state open, in pending and closed from 1 to today; returned checks are
- * the account's payments with mark 4; threshold and top-up amount lie in 0 to 1,000,000, declines
- * in 0 to 2, last decline in 0 to today, declines and last decline are 0 together, all four 0 where
- * the amount is. Rows name used accounts, days 1 to today, and references of the right kind in an
- * earlier row of the same account. Amounts are at least 1 and at most 1,000,000 (toll, reversal,
- * payment), 100,000 (fee), 1,300,000 (credit), 10,649,600,000 (refund); settled is 0 to amount, a
- * refund's all of it. Passage numbers differ. A toll of stage k is named by at most k - 1 fees
- * (none at 0). An unsettled toll under stage 4 that isn't held is due after today and by today + L,
- * other tolls from 1 to today + L. Hold start is 0 but for a held toll, then from today - 29 to
- * today and at least 1, the toll unsettled, due by hold start + L and, under stage 4, after hold
- * start. Per account, used sources = settled debits, no unused source stands beside an unsettled
- * debit that isn't held, and a closed account has nothing unused or unsettled.
+ * 36,525. The rate lists in use come first, each with rates in 1 to 1,000,000 and a first day in 1
+ * to 36,525 that is after the list before it begins; unused lists are all 0. The first "rows used"
+ * rows have kinds 1 to 6; later rows and unused accounts are all 0. The request day is 0 in state
+ * open, in pending and closed from 1 to today; returned checks are the account's payments with
+ * mark 4; threshold and top-up amount lie in 0 to 1,000,000, declines in 0 to 2, last decline in 0
+ * to today, declines and last decline are 0 together, all four 0 where the amount is. Rows name
+ * used accounts, days 1 to today, and references of the right kind in an earlier row of the same
+ * account. Amounts are at least 1 and at most 1,000,000 (toll, reversal, payment), 100,000 (fee),
+ * 1,300,000 (credit), 10,649,600,000 (refund); settled is 0 to amount, a refund's all of it.
+ * Passage numbers differ. A toll of stage k is named by at most k - 1 fees (none at 0). An
+ * unsettled toll under stage 4 that isn't held is due after today and by today + L, other tolls
+ * from 1 to today + L. Hold start is 0 but for a held toll, then from today - 29 to today and at
+ * least 1, the toll unsettled, due by hold start + L and, under stage 4, after hold start. Per
+ * account, used sources = settled debits, no unused source stands beside an unsettled debit that
+ * isn't held, and a closed account has nothing unused or unsettled.
  *
  * Opening makes a sound book, and every call leaves a sound book sound. So a host meets "unsound"
  * only where something else wrote the tables, or where their lengths changed.
@@ -244,8 +269,9 @@ enum toll_ledger_answer_word {
 
 /*
  * Opens a book in tables of any contents: schedule is first day, L, fees 2 to 4 and six rates in
- * the header's order, 11 words; all other words become 0. Gives 0, else 1 (lengths unfit) or 2
- * (schedule of another length or out of range), nothing written.
+ * the header's order, 11 words. The first day becomes today and the first day of the first rate
+ * list; all other words become 0. Gives 0, else 1 (lengths unfit) or 2 (schedule of another length
+ * or out of range), nothing written.
  */
 TOLL_LEDGER_CALL
 int64_t toll_ledger_open(int64_t *header, size_t header_words,
@@ -254,7 +280,7 @@ int64_t toll_ledger_open(int64_t *header, size_t header_words,
                          const int64_t *schedule, size_t schedule_words);
 
 /*
- * Posts one event of 7 words. Gives the answer's number, and writes the answer's five words at the
+ * Posts one event of 9 words. Gives the answer's number, and writes the answer's five words at the
  * start of answer wherever it has room for five; past them nothing is written. With less room the
  * event is malformed and nothing is written.
  */

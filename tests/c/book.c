@@ -86,21 +86,20 @@ struct book open_book(size_t accounts, size_t rows, int64_t first_day)
     return b;
 }
 
-int64_t post(struct book *book, int64_t kind, int64_t account, int64_t a, int64_t b, int64_t c,
-             int64_t d, int64_t e)
+int64_t post_words(struct book *book, const int64_t *words)
 {
+    const size_t size = TOLL_LEDGER_EVENT_WORDS * sizeof *words;
     int64_t *before = copy_words(book);
     int64_t *event = new_table(TOLL_LEDGER_EVENT_WORDS);
     int64_t *answer = new_table(TOLL_LEDGER_ANSWER_WORDS);
-    const int64_t words[] = {kind, account, a, b, c, d, e};
-    memcpy(event, words, sizeof words);
+    memcpy(event, words, size);
     const int64_t number =
         toll_ledger_event(book->header, book->header_words, book->accounts, book->accounts_words,
                           book->journal, book->journal_words, event, TOLL_LEDGER_EVENT_WORDS,
                           answer, TOLL_LEDGER_ANSWER_WORDS);
     memcpy(book->answer, answer, sizeof book->answer);
     CHECK(number == answer[TOLL_LEDGER_ANSWER_NUMBER]);
-    CHECK(memcmp(event, words, sizeof words) == 0);
+    CHECK(memcmp(event, words, size) == 0);
     if (number != TOLL_LEDGER_POSTED) {
         CHECK(same_words(book, before));
         for (size_t i = 1; i < TOLL_LEDGER_ANSWER_WORDS; i++)
@@ -112,10 +111,17 @@ int64_t post(struct book *book, int64_t kind, int64_t account, int64_t a, int64_
     return number;
 }
 
+struct toll_ledger_event_record record_of(const int64_t *words)
+{
+    struct toll_ledger_event_record record;
+    memcpy(&record, words, sizeof record);
+    return record;
+}
+
 void ticks(struct book *book, int64_t count)
 {
     for (int64_t i = 0; i < count; i++)
-        CHECK(post(book, TOLL_LEDGER_EVENT_TICK, 0, 0, 0, 0, 0, 0) == TOLL_LEDGER_POSTED);
+        CHECK(post(book, TOLL_LEDGER_EVENT_TICK, 0) == TOLL_LEDGER_POSTED);
 }
 
 int64_t sound(struct book *book)

@@ -38,10 +38,15 @@ void free_book(struct book *book);
 /* A fresh book from a first day and the example's schedule. */
 struct book open_book(size_t accounts, size_t rows, int64_t first_day);
 
-/* Posts one event and gives its number. A refused event leaves every table word as it was and
- * answers with zeros. */
-int64_t post(struct book *book, int64_t kind, int64_t account, int64_t a, int64_t b, int64_t c,
-             int64_t d, int64_t e);
+/* Posts one event of these words, the rest 0, and gives its number. A refused event leaves every
+ * table word as it was and answers with zeros. */
+#define EVENT_OF(...) ((const int64_t[TOLL_LEDGER_EVENT_WORDS]){__VA_ARGS__})
+#define post(book, ...) post_words(book, EVENT_OF(__VA_ARGS__))
+int64_t post_words(struct book *book, const int64_t *words);
+
+/* An event of these words, the rest 0, in the list of a batch. */
+#define record(...) record_of(EVENT_OF(__VA_ARGS__))
+struct toll_ledger_event_record record_of(const int64_t *words);
 
 /* Ticks so many times, each accepted. */
 void ticks(struct book *book, int64_t count);

@@ -25,13 +25,13 @@ static int64_t below(uint64_t *seed, int64_t n)
     return (int64_t)((*seed >> 11) % (uint64_t)n);
 }
 
-static void next_event(const struct book *b, uint64_t *seed, int64_t e[7])
+static void next_event(const struct book *b, uint64_t *seed, int64_t *e)
 {
     const int64_t accounts = (int64_t)(b->accounts_words / TOLL_LEDGER_ACCOUNT_WORDS);
     const int64_t used = b->header[TOLL_LEDGER_HEADER_ROWS_USED], day = b->header[TOLL_LEDGER_HEADER_DAY];
     const int64_t n = 1 + below(seed, accounts), row = 1 + below(seed, used == 0 ? 1 : used);
-    memset(e, 0, 7 * sizeof *e);
-    switch (below(seed, 12)) {
+    memset(e, 0, TOLL_LEDGER_EVENT_WORDS * sizeof *e);
+    switch (below(seed, 13)) {
     case 0: e[0] = 1, e[1] = n, e[3] = below(seed, 2000), e[2] = e[3] == 0 ? 0 : below(seed, 3000); break;
     case 1: case 2: case 3: /* tolls */
         e[0] = 2, e[1] = n, e[2] = 1 + below(seed, 1000000000), e[3] = day, e[4] = 1 + below(seed, 6);
@@ -43,6 +43,11 @@ static void next_event(const struct book *b, uint64_t *seed, int64_t e[7])
     case 8: e[0] = 6, e[1] = b->journal[10 * row - 9], e[2] = row, e[3] = below(seed, 2); break;
     case 9: e[0] = 7, e[1] = n, e[3] = below(seed, 2); break;
     case 10: e[0] = below(seed, 6) == 0 ? 8 : 9, e[1] = e[0] == 8 ? n : 0; break;
+    case 11: /* a rate list */
+        e[0] = 10, e[2] = day + below(seed, 20);
+        for (int word = 3; word < TOLL_LEDGER_EVENT_WORDS; word++)
+            e[word] = 1 + below(seed, 2000);
+        break;
     default: e[0] = 9;
     }
 }
@@ -54,7 +59,8 @@ static void *play(void *argument)
     struct player *p = argument;
     struct book *b = &p->book;
     struct toll_ledger_event_record *events = malloc(BATCH * sizeof *events);
-    int64_t *answers = malloc(BATCH * TOLL_LEDGER_ANSWER_WORDS * sizeof *answers), *e = malloc(7 * sizeof *e);
+    int64_t *answers = malloc(BATCH * TOLL_LEDGER_ANSWER_WORDS * sizeof *answers);
+    int64_t *e = malloc(TOLL_LEDGER_EVENT_WORDS * sizeof *e);
     CHECK(events != NULL && answers != NULL && e != NULL);
     if (p->start != NULL)
         pthread_barrier_wait(p->start);
@@ -62,11 +68,12 @@ static void *play(void *argument)
         int64_t value;
         next_event(b, &p->seed, e);
         const int64_t number = toll_ledger_event(b->header, b->header_words, b->accounts, b->accounts_words,
-                                                 b->journal, b->journal_words, e, 7, answers, 5);
+                                                 b->journal, b->journal_words, e, TOLL_LEDGER_EVENT_WORDS,
+                                                 answers, TOLL_LEDGER_ANSWER_WORDS);
         CHECK(number == answers[0] && number != TOLL_LEDGER_UNSOUND && number != TOLL_LEDGER_MALFORMED);
         for (size_t i = 0; i < BATCH; i++) {
             next_event(b, &p->seed, e);
-            memcpy(&events[i], e, sizeof events[i]);
+            events[i] = record_of(e);
         }
         CHECK(toll_ledger_batch(b->header, b->header_words, b->accounts, b->accounts_words, b->journal,
                                 b->journal_words, events, BATCH, answers, BATCH * 5) == 0);
@@ -94,8 +101,8 @@ static void *play_full(void *argument)
     for (int64_t round = 0; round < 3; round++) {
         const size_t count = round == 0 ? 256 : round == 1 ? 4096 : 4000;
         for (int64_t i = 0; i < (int64_t)count; i++)
-            events[i] = round == 0 ? (struct toll_ledger_event_record){1, 1 + i, 50, 100, 0, 0, 0}
-                                   : (struct toll_ledger_event_record){2, 1 + i % 256, i + 4096 * round, 1, 2, 60, 2};
+            events[i] = round == 0 ? record(1, 1 + i, 50, 100)
+                                   : record(2, 1 + i % 256, i + 4096 * round, 1, 2, 60, 2);
         CHECK(toll_ledger_batch(b->header, b->header_words, b->accounts, b->accounts_words, b->journal,
                                 b->journal_words, events, count, answers, count * 5) == 0);
     }

@@ -51,15 +51,15 @@ static double question_time(const struct book *b, int times)
 
 static void measure(int64_t accounts, int64_t rows, int64_t part)
 {
-    const int64_t payment[7] = {TOLL_LEDGER_EVENT_PAYMENT, 1, 1, 1}, tick[7] = {TOLL_LEDGER_EVENT_TICK};
+    const int64_t *payment = EVENT_OF(TOLL_LEDGER_EVENT_PAYMENT, 1, 1, 1), *tick = EVENT_OF(TOLL_LEDGER_EVENT_TICK);
     struct book b = open_book((size_t)accounts, (size_t)rows, 1);
     for (int64_t n = 1; n <= accounts; n++)
-        events[n - 1] = (struct toll_ledger_event_record){TOLL_LEDGER_EVENT_OPEN, n, 0, 100, 0, 0, 0};
+        events[n - 1] = record(TOLL_LEDGER_EVENT_OPEN, n, 0, 100);
     batch(&b, accounts);
     for (int64_t half = 0; half < 2; half++) { /* a payment to two tolls */
         for (int64_t i = 0; i < part; i++)
-            events[i] = i % 3 == 0 ? (struct toll_ledger_event_record){TOLL_LEDGER_EVENT_PAYMENT, 1 + i % accounts, 200, 1, 0, 0, 0}
-                                   : (struct toll_ledger_event_record){TOLL_LEDGER_EVENT_TOLL, 1 + i % accounts, 1 + i + part * half, 1, 2, 60, 2};
+            events[i] = i % 3 == 0 ? record(TOLL_LEDGER_EVENT_PAYMENT, 1 + i % accounts, 200, 1)
+                                   : record(TOLL_LEDGER_EVENT_TOLL, 1 + i % accounts, 1 + i + part * half, 1, 2, 60, 2);
         const double time = batch(&b, part);
         printf("%lld rows used: a batch of %lld had taken %.1f us an event\n", (long long)b.header[TOLL_LEDGER_HEADER_ROWS_USED],
                (long long)part, time);

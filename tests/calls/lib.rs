@@ -13,6 +13,7 @@ pub type Event = [i64; EVENT_WORDS];
 pub const EVENT_KIND: usize = 0;
 pub const EVENT_ACCOUNT: usize = 1;
 pub const EVENT_A: usize = 2;
+pub const EVENT_B: usize = 3;
 
 /// An event of these words from `a` on; the rest are 0.
 pub fn event(kind: i64, account: i64, words: &[i64]) -> Event {
@@ -104,6 +105,17 @@ impl Book {
 
     pub fn stage_length(&self) -> i64 {
         self.header[HEADER_STAGE_LENGTH]
+    }
+
+    /// The words of the rate lists in use after the first.
+    pub fn later_lists(&self) -> impl Iterator<Item = &[i64]> {
+        self.header[HEADER_LISTS..].chunks(LIST_WORDS).take_while(|l| l[LIST_FIRST_DAY] != 0)
+    }
+
+    /// The first days of the rate lists in use, in their order.
+    pub fn first_days(&self) -> Vec<i64> {
+        let first = self.header[HEADER_FIRST_DAY];
+        [first].into_iter().chain(self.later_lists().map(|l| l[LIST_FIRST_DAY])).collect()
     }
 
     pub fn rows_used(&self) -> usize {

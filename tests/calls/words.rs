@@ -1,12 +1,14 @@
 //! The names of include/toll_ledger.h, without their prefix: `tests/run` compares them, name by name and number by number.
 
-pub const HEADER_WORDS: usize = 12;
+pub const HEADER_WORDS: usize = 62;
 pub const ACCOUNT_WORDS: usize = 7;
 pub const ROW_WORDS: usize = 10;
 pub const MOST_ACCOUNTS: usize = 256;
 pub const MOST_ROWS: usize = 8_192;
+pub const MOST_LISTS: usize = 8;
+pub const LIST_WORDS: usize = 7;
 pub const SCHEDULE_WORDS: usize = 11;
-pub const EVENT_WORDS: usize = 7;
+pub const EVENT_WORDS: usize = 9;
 pub const ANSWER_WORDS: usize = 5;
 pub const MOST_EVENTS: usize = 4_096;
 pub const DAYS: i64 = 36_525;
@@ -15,6 +17,7 @@ pub const DAYS: i64 = 36_525;
 pub const POSTED: i64 = 0;
 pub const UNSOUND: i64 = 1;
 pub const MALFORMED: i64 = 2;
+pub const LIST: i64 = 15;
 pub const UNKNOWN: i64 = 3;
 pub const TAKEN: i64 = 4;
 pub const CLOSED: i64 = 5;
@@ -41,6 +44,12 @@ pub const HEADER_RATE_2_TAG: usize = 8;
 pub const HEADER_RATE_2_PLATE: usize = 9;
 pub const HEADER_RATE_3_TAG: usize = 10;
 pub const HEADER_RATE_3_PLATE: usize = 11;
+pub const HEADER_FIRST_DAY: usize = 12;
+pub const HEADER_LISTS: usize = 13;
+
+// toll_ledger_list_word
+pub const LIST_FIRST_DAY: usize = 0;
+pub const LIST_RATES: usize = 1;
 
 // toll_ledger_account_word
 pub const ACCOUNT_STATE: usize = 0;
@@ -100,6 +109,7 @@ pub const EVENT_DECISION: i64 = 6;
 pub const EVENT_TOPUP_RESULT: i64 = 7;
 pub const EVENT_CLOSE_REQUEST: i64 = 8;
 pub const EVENT_TICK: i64 = 9;
+pub const EVENT_RATE_LIST: i64 = 10;
 
 // toll_ledger_mode
 pub const MODE_TAG: i64 = 1;

@@ -1,5 +1,6 @@
 //! Damaged tables, lengths and answer tables: what a host may lend that is no sound book, or only just one.
-use crate::generate::{Host, LAST_STAGE, MOST_AMOUNT, MOST_CREDIT, MOST_FEE, MOST_PASSAGE, MOST_REFUND, WORDS};
+use crate::generate::{Host, WORDS};
+use crate::generate::{LAST_STAGE, MOST_AMOUNT, MOST_CREDIT, MOST_FEE, MOST_PASSAGE, MOST_REFUND, RATES};
 use crate::pair::{line, Call, Pair};
 use calls::random::Random;
 use calls::words::*;
@@ -77,7 +78,7 @@ fn mate(random: &mut Random, t: &Book, row: usize) -> usize {
 /// Any word, mostly of a used row, where damage matters most.
 fn place<'a>(random: &mut Random, whole: &Book, t: &'a mut Book) -> &'a mut i64 {
     match random.below(12) {
-        0 => &mut t.header[random.index(HEADER_WORDS)],
+        0 => &mut t.header[random.index(HEADER_LISTS)], // the words after these are change_lists'
         1..=3 => {
             let i = random.index(t.accounts.len());
             &mut t.accounts[i]
@@ -115,7 +116,7 @@ fn damage(random: &mut Random, t: &mut Book) {
     let i = row(random, t);
     let k = mate(random, t, i);
     let (x, y) = (random.index(t.count()), random.index(t.count()));
-    match random.below(19) {
+    match random.below(22) {
         0..=6 => {
             for _ in 0..random.pick(&[1, 1, 1, 2]) {
                 let word = place(random, &whole, t);
@@ -138,6 +139,7 @@ fn damage(random: &mut Random, t: &mut Book) {
         14..=15 => hold_toll(random, t),
         16..=17 if t.rows_used() < t.room() => add_row(random, t, i),
         18 => change_state(random, t, x),
+        19..=21 => change_lists(random, t),
         _ => change_topup(random, t, x),
     }
 }
@@ -249,6 +251,35 @@ fn change_state(random: &mut Random, t: &mut Book, x: usize) {
     a[ACCOUNT_REQUEST_DAY] = random.pick(&[0, 1, day, day + 1]);
 }
 
+/// A rate list after the first, used or not; these are counted from 0 here.
+fn list_of(t: &mut Book, list: usize) -> &mut [i64] {
+    &mut t.header[HEADER_LISTS + list * LIST_WORDS..][..LIST_WORDS]
+}
+
+/// Rate lists: another first day, out of order or just not; two lists swapped, or the same twice; a gap, or the last
+/// one gone; one more; a word out of its range, or one in an unused list.
+fn change_lists(random: &mut Random, t: &mut Book) {
+    let (days, lists) = (t.first_days(), MOST_LISTS - 1);
+    let used = days.len() - 1;
+    let (i, k) = (random.index(used.max(1)), random.index(lists));
+    let day = random.pick(&days) + random.range(-1, 1);
+    let first_day = random.pick(&[i64::MIN, -1, 0, 1, DAYS, DAYS + 1, day, day, day, day]);
+    match random.below(9) {
+        0 => t.header[HEADER_FIRST_DAY] = first_day,
+        1 | 2 => list_of(t, i)[LIST_FIRST_DAY] = first_day,
+        3 => swap_parts(&mut t.header[HEADER_LISTS..], LIST_WORDS, i, k),
+        4 => copy_part(&mut t.header[HEADER_LISTS..], LIST_WORDS, i, k),
+        5 => list_of(t, random.pick(&[i, used.max(1) - 1])).fill(0),
+        6 if used < lists => {
+            let first = days[used] + random.range(0, 2);
+            list_of(t, used).fill(random.pick(&[1, MOST_AMOUNT]));
+            list_of(t, used)[LIST_FIRST_DAY] = first;
+        }
+        7 => list_of(t, i)[LIST_RATES + random.index(RATES)] = random.pick(&[-1, 0, 1, MOST_AMOUNT, MOST_AMOUNT + 1]),
+        _ => list_of(t, k)[random.index(LIST_WORDS)] = random.pick(&[-1, 1, DAYS]),
+    }
+}
+
 /// The words of a top-up.
 fn change_topup(random: &mut Random, t: &mut Book, x: usize) {
     let day = t.day();
@@ -263,7 +294,7 @@ fn change_topup(random: &mut Random, t: &mut Book, x: usize) {
 fn resize(random: &mut Random, t: &mut Book) {
     let filler = random.pick(&[0, 0, 1]);
     let (table, width, most) = match random.below(3) {
-        0 => (&mut t.header, HEADER_WORDS as i64, HEADER_WORDS as i64 + 1),
+        0 => (&mut t.header, HEADER_WORDS as i64, 2),
         1 => (&mut t.accounts, ACCOUNT_WORDS as i64, MOST_ACCOUNTS as i64 + 1),
         _ => (&mut t.journal, ROW_WORDS as i64, MOST_ROWS as i64 + 1),
     };
@@ -314,7 +345,7 @@ fn call(random: &mut Random, host: &mut Host, whole: &Book, met: &mut Met) -> Ca
         _ => {
             let mut words = event.to_vec();
             if random.once_in(12) {
-                words.resize(random.index(10), 0);
+                words.resize(random.index(EVENT_WORDS + 3), 0);
             }
             Call::Event { answer: odd(random, ANSWER_WORDS), words }
         }

@@ -3,7 +3,7 @@ use calls::random::Random;
 use calls::words::*;
 use calls::{event, Book, Event, MODEL};
 
-// Limits of document 01 that the header has no name for.
+// Limits of documents 01 and 02 that the header has no name for.
 pub const LAST_STAGE: i64 = 4;
 pub const MOST_AMOUNT: i64 = 1_000_000;
 pub const MOST_FEE: i64 = 100_000;
@@ -11,6 +11,7 @@ pub const MOST_CREDIT: i64 = 1_300_000;
 pub const MOST_REFUND: i64 = 10_649_600_000;
 pub const MOST_PASSAGE: i64 = 1_000_000_000;
 pub const MOST_BANK_CHARGE: i64 = 99_500;
+pub const RATES: usize = LIST_WORDS - LIST_RATES; // of a rate list
 
 /// Tables for an opening and its schedule.
 pub struct Opening {
@@ -29,10 +30,7 @@ impl Opening {
             let any = random.range(0, most);
             schedule.push(random.pick(&[0, most, any, any, MOST_FEE]));
         }
-        for most in [250, 500, 600, 900, 1200, 1600] {
-            let any = random.range(1, most);
-            schedule.push(random.pick(&[1, most, any, any, any, MOST_AMOUNT]));
-        }
+        schedule.extend(rates(random));
         Opening { accounts, rows, schedule }
     }
 
@@ -40,6 +38,13 @@ impl Opening {
     pub fn book(&self) -> Book {
         Book::new(self.accounts, self.rows)
     }
+}
+
+fn rates(random: &mut Random) -> [i64; RATES] {
+    [250, 500, 600, 900, 1200, 1600].map(|most| {
+        let any = random.range(1, most);
+        random.pick(&[1, most, any, any, any, MOST_AMOUNT])
+    })
 }
 
 /// Where the words of wild events and damaged tables come from, beside the limits that the book itself sets.
@@ -104,6 +109,9 @@ impl Host {
             self.ticks -= 1;
             return event(EVENT_TICK, 0, &[]);
         }
+        if random.once_in(if book.first_days().len() < MOST_LISTS { 25 } else { 250 }) {
+            return rate_list(random, book);
+        }
         if self.pays && random.once_in(6) {
             if let Some(n) = account(random, book, |n| is_live(book, n) && balance(book, n) < 0) {
                 return payment(random, book, n);
@@ -147,6 +155,7 @@ impl Host {
         let passage = if random.once_in(20) { (self.passage - random.range(1, 6)).max(1) } else { self.passage };
         let back = if random.once_in(12) { random.range(59, 62) } else { random.range(0, 60) };
         let day = if random.once_in(40) { book.day() + 1 } else { (book.day() - back).max(1) };
+        let day = if random.once_in(3) { border(random, book).unwrap_or(day) } else { day };
         let axles = random.pick(&[1, 2, 2, 3, 4, 5, 6, 99]);
         let height = random.pick(&[0, 60, 90, 91, 200, 999]);
         let height = if axles == 1 && !random.once_in(6) { height.min(90) } else { height };
@@ -156,6 +165,33 @@ impl Host {
         };
         event(EVENT_TOLL, n, &[passage, day, axles, height, random.range(MODE_TAG, MODE_PLATE)])
     }
+}
+
+/// A rate list: mostly one that begins after the last, soon enough for passages to meet it; now and then one too early,
+/// on the first or the last of all days or past them, or with a rate out of range.
+fn rate_list(random: &mut Random, book: &Book) -> Event {
+    let (today, last) = (book.day(), book.first_days().pop().unwrap());
+    let soon = last + random.range(1, 12);
+    let first = match random.below(12) {
+        0 => last - random.below(2),
+        1 => random.pick(&[0, 1, DAYS, DAYS + 1]),
+        2..=4 => (today + random.range(-5, 5)).max(last + 1),
+        5..=6 => last + 1,
+        _ => soon,
+    };
+    let mut words = vec![first];
+    words.extend(rates(random));
+    if random.once_in(20) {
+        words[LIST_RATES + random.index(RATES)] = random.pick(&[-1, 0, MOST_AMOUNT + 1]);
+    }
+    event(EVENT_RATE_LIST, 0, &words)
+}
+
+/// A passage day at which a rate list begins, or a day beside it, where a toll may still name it.
+fn border(random: &mut Random, book: &Book) -> Option<i64> {
+    let near = book.first_days().into_iter().flat_map(|d| [d - 1, d, d + 1]);
+    let fit: Vec<i64> = near.filter(|d| (book.day() - 60..=book.day()).contains(d) && *d >= 1).collect();
+    (!fit.is_empty()).then(|| random.pick(&fit))
 }
 
 fn is_live(book: &Book, n: i64) -> bool {

@@ -3,11 +3,11 @@ use crate::generate::{Host, Opening, LAST_STAGE};
 use crate::pair::{Call, Pair};
 use calls::random::Random;
 use calls::words::*;
-use calls::{Book, Event, Table, EVENT_A, EVENT_KIND, MODEL};
+use calls::{Book, Event, Table, EVENT_A, EVENT_B, EVENT_KIND, MODEL};
 use std::time::{Duration, Instant};
 
-pub const KINDS: usize = EVENT_TICK as usize + 1; // of events, with 0
-pub const NUMBERS: usize = CEILING as usize + 1; // that an event may be answered by
+pub const KINDS: usize = EVENT_RATE_LIST as usize + 1; // of events, with 0
+pub const NUMBERS: usize = LIST as usize + 1; // that an event may be answered by
 
 /// What the lists met: a comparison that met too little shows little.
 #[derive(Default)]
@@ -23,7 +23,35 @@ pub struct Met {
     pub refunds: u64,
     pub reopened: u64,
     pub full: u64,
-    pub largest: u64, // rows used in the last book of a list of large ones
+    pub largest: u64,     // rows used in the last book of a list of large ones
+    pub lists_over: u64,  // rate lists refused as the ninth
+    pub lists_early: u64, // and for their first day
+    pub tolls: Tolls,
+}
+
+/// Tolls accepted, by the rate list of their passage day.
+#[derive(Default)]
+pub struct Tolls {
+    pub under_later: u64,  // in force is not the first list
+    pub under_eighth: u64, // but the last that a book can have
+    pub at_first_day: u64, // of a later list
+    pub at_eve: u64,       // the day before it
+    pub under_old: u64,    // today another list is in force
+    pub before_all: u64,   // no list has begun
+}
+
+impl Tolls {
+    fn note(&mut self, book: &Book, passage_day: i64) {
+        let days = book.first_days();
+        let begun = |day: i64| days.iter().filter(|first| **first <= day).count();
+        let lists = begun(passage_day);
+        self.under_later += (lists > 1) as u64;
+        self.under_eighth += (lists == MOST_LISTS) as u64;
+        self.at_first_day += days[1..].contains(&passage_day) as u64;
+        self.at_eve += days[1..].contains(&(passage_day + 1)) as u64;
+        self.under_old += (lists.max(1) < begun(book.day())) as u64;
+        self.before_all += (lists == 0) as u64;
+    }
 }
 
 impl Met {
@@ -37,18 +65,20 @@ impl Met {
 
     /// Counts an event by what it does to the model's book.
     fn note(&mut self, before: &Book, event: &Event, answer: &[i64], after: &Book) {
-        let kind = if (EVENT_OPEN..=EVENT_TICK).contains(&event[EVENT_KIND]) { event[EVENT_KIND] } else { 0 };
+        let kind = if (EVENT_OPEN..=EVENT_RATE_LIST).contains(&event[EVENT_KIND]) { event[EVENT_KIND] } else { 0 };
         let number = answer[ANSWER_NUMBER];
         self.events += 1;
         self.answers[kind as usize][number as usize] += 1;
         self.raised += answer[ANSWER_RAISED] as u64;
         self.removed += answer[ANSWER_REMOVED] as u64;
         self.full += (after.rows_used() == after.room()) as u64;
-        if (kind, number) == (EVENT_TICK, POSTED) {
-            self.note_tick(before, after);
-        }
-        if (kind, number) == (EVENT_RETURNED_CHECK, POSTED) {
-            self.reopened += became(before, after, STATE_CLOSED, STATE_PENDING);
+        match (kind, number) {
+            (EVENT_TICK, POSTED) => self.note_tick(before, after),
+            (EVENT_RETURNED_CHECK, POSTED) => self.reopened += became(before, after, STATE_CLOSED, STATE_PENDING),
+            (EVENT_TOLL, POSTED) => self.tolls.note(before, event[EVENT_B]),
+            (EVENT_RATE_LIST, LIST) if before.first_days().len() == MOST_LISTS => self.lists_over += 1,
+            (EVENT_RATE_LIST, LIST) => self.lists_early += 1,
+            _ => {}
         }
     }
 
@@ -103,7 +133,7 @@ fn next_call(random: &mut Random, host: &mut Host, pair: &Pair, longest: i64, me
     if single {
         let mut words = events[0].to_vec();
         if random.once_in(60) {
-            words.resize(random.index(10), 0);
+            words.resize(random.index(EVENT_WORDS + 3), 0);
         }
         let answer = if random.once_in(20) { random.index(9) } else { ANSWER_WORDS };
         return Call::Event { words, answer };

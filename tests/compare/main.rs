@@ -8,9 +8,9 @@ mod lists;
 mod pair;
 
 use calls::random::Random;
-use calls::words::{FULL, MOST_ACCOUNTS, MOST_EVENTS, MOST_ROWS, UNSOUND};
+use calls::words::{CEILING, MOST_ACCOUNTS, MOST_EVENTS, MOST_ROWS, UNSOUND};
 use generate::{Host, Opening};
-use lists::{Plan, KINDS};
+use lists::{Plan, KINDS, NUMBERS};
 use pair::Pair;
 
 const LISTS: u64 = 400;
@@ -84,6 +84,14 @@ fn enough(met: &lists::Met, damaged: &damage::Met) -> Result<(), String> {
         ("top-ups removed", met.removed, 50),
         ("events that left a full journal", met.full, 500),
         ("rows in the largest journal", met.largest, MOST_ROWS as u64),
+        ("ninth rate lists", met.lists_over, 20),
+        ("rate lists not after the last", met.lists_early, 50),
+        ("tolls under a later rate list", met.tolls.under_later, 1_000),
+        ("tolls under an eighth rate list", met.tolls.under_eighth, 20),
+        ("tolls on the first day of a rate list", met.tolls.at_first_day, 300),
+        ("tolls on the day before it", met.tolls.at_eve, 300),
+        ("tolls under a rate list older than today's", met.tolls.under_old, 300),
+        ("tolls before all rate lists", met.tolls.before_all, 300),
         ("damaged books", damaged.books, 20_000),
         ("damaged books in a hundred that are sound", 100 * damaged.sound / damaged.books, 5),
         ("damaged lengths", damaged.lengths, 2_000),
@@ -99,7 +107,9 @@ fn enough(met: &lists::Met, damaged: &damage::Met) -> Result<(), String> {
             return Err(format!("event {kind}: accepted {} of {} times", met.accepted(kind), met.tried(kind)));
         }
     }
-    match (0..=FULL as usize).find(|&n| n != UNSOUND as usize && met.answers.iter().map(|k| k[n]).sum::<u64>() < 20) {
+    let never = [UNSOUND, CEILING].map(|n| n as usize); // by an event on a sound book
+    let rare = |n: &usize| !never.contains(n) && met.answers.iter().map(|k| k[*n]).sum::<u64>() < 20;
+    match (0..NUMBERS).find(rare) {
         Some(n) => Err(format!("answer {n} was met fewer than 20 times")),
         None => Ok(()),
     }
@@ -112,10 +122,14 @@ fn main() {
     small_books(seed, &mut met, &mut damaged);
     large_books(seed, &mut met, &mut damaged);
     let accepted: Vec<String> = (1..KINDS).map(|k| format!("{}/{}", met.accepted(k), met.tried(k))).collect();
-    println!("{} events from {} openings; events 1 to 9 accepted: {}", met.events, met.lists, accepted.join(" "));
+    println!("{} events from {} openings; events 1 to 10 accepted: {}", met.events, met.lists, accepted.join(" "));
     println!(
         "{} tolls raised, {} holds ended, {} accounts closed; {} damaged books, {} of them sound",
         met.raised, met.holds_ended, met.closed, damaged.books, damaged.sound
+    );
+    println!(
+        "tolls under a later rate list {}, on its first day {}, the day before {}, under an older list than today's {}",
+        met.tolls.under_later, met.tolls.at_first_day, met.tolls.at_eve, met.tolls.under_old
     );
     if let Err(why) = enough(&met, &damaged) {
         println!("{why}");

@@ -3,9 +3,11 @@ use calls::random::Random;
 use calls::words::*;
 use calls::Event;
 
-const NAMES: [&[u8]; 2] = [b"day,len,f2,f3,f4,r1t,r1p,r2t,r2p,r3t,r3p\n", b"kind,account,a,b,c,d,e\n"];
+const NAMES: [&[u8]; 2] = [b"day,len,f2,f3,f4,r1t,r1p,r2t,r2p,r3t,r3p\n", b"kind,account,a,b,c,d,e,f,g\n"];
 
 pub const SCHEDULE: [i64; SCHEDULE_WORDS] = [1, 30, 500, 2500, 3000, 250, 500, 600, 900, 1200, 1600];
+
+const RATES: usize = LIST_WORDS - LIST_RATES; // of a rate list
 
 /// Numbers that a line may hold, or nearly.
 const ODD: [&[u8]; 16] = [
@@ -45,7 +47,7 @@ pub fn opening(values: &[i64]) -> Vec<u8> {
 pub fn event(random: &mut Random) -> Event {
     let account = random.pick(&[1, 2, 3, 4, 7, 63, 64]);
     let row = random.range(1, 60);
-    match random.below(14) {
+    match random.below(15) {
         0 | 1 => calls::event(EVENT_OPEN, account, &[random.pick(&[0, 500]), random.pick(&[0, 1000])]),
         2..=5 => {
             let back = random.pick(&[0, 0, 3, 60, 61]);
@@ -62,6 +64,14 @@ pub fn event(random: &mut Random) -> Event {
         10 => calls::event(EVENT_DECISION, account, &[row, random.below(2)]),
         11 => calls::event(EVENT_TOPUP_RESULT, account, &[0, random.below(2)]),
         12 if random.once_in(8) => calls::event(EVENT_CLOSE_REQUEST, account, &[]),
+        13 if random.once_in(3) => {
+            let mut words = vec![random.pick(&[1, 2, 40, 41, 36_400, DAYS]) + random.range(-1, 30)];
+            words.extend((0..RATES).map(|_| random.pick(&[1, 90, 250, 777, 1_000_000])));
+            if random.once_in(6) {
+                words[random.index(LIST_WORDS)] = random.pick(&[0, 1_000_001]);
+            }
+            calls::event(EVENT_RATE_LIST, 0, &words)
+        }
         _ => calls::event(EVENT_TICK, 0, &[]),
     }
 }

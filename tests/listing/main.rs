@@ -42,6 +42,8 @@ fn check(what: &str, out: &Path, input: &[u8], want: &[u8], got: &[u8]) {
     }
 }
 
+/// The stored inputs and their outputs. Those named base-* are from before events had f and g, with both 0 put in: what
+/// they print is what they printed then.
 fn vectors(program: &str, folder: &Path, out: &Path) {
     let mut names: Vec<_> = fs::read_dir(folder).unwrap().map(|f| f.unwrap().path()).collect();
     names.retain(|n| n.extension().is_some_and(|e| e == "in"));

@@ -1,10 +1,10 @@
-//! The listing of document 01, over the model's calls.
+//! The listing of documents 01 and 02, over the model's calls.
 use calls::words::*;
 use calls::{Book, Table, MODEL};
 
 const ACCOUNTS: usize = 64;
 const ROWS: usize = 512;
-const NAMES: [&str; 2] = ["day,len,f2,f3,f4,r1t,r1p,r2t,r2p,r3t,r3p", "kind,account,a,b,c,d,e"];
+const NAMES: [&str; 2] = ["day,len,f2,f3,f4,r1t,r1p,r2t,r2p,r3t,r3p", "kind,account,a,b,c,d,e,f,g"];
 
 fn numbers(line: &[u8], count: usize) -> Option<Vec<i64>> {
     let parts: Vec<&[u8]> = line.split(|c| *c == b',').collect();

@@ -1,5 +1,6 @@
-/* The five calls in plain C, written from the scope document for comparison: the model of the tests
- * and the baseline of the benchmark. They take and give the same words as those of toll_ledger.h. */
+/* The five calls in plain C, written from the scope document and the requests landed since, for
+ * comparison: the model of the tests and the baseline of the benchmark. They take and give the same
+ * words as those of toll_ledger.h. */
 #ifndef MODEL_H
 #define MODEL_H
 

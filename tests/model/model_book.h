@@ -37,11 +37,20 @@ enum { NO_CLASS, CLASS_1, CLASS_2, CLASS_3 };
 #define MOST_HEIGHT_1 90
 #define MODES TOLL_LEDGER_MODE_PLATE
 #define RATES (CLASS_3 * MODES)
+#define LATER_LISTS (TOLL_LEDGER_MOST_LISTS - 1)
+
+/* A rate list after the first: unused where its first day is 0. */
+struct rate_list {
+    int64_t first_day;
+    int64_t rates[RATES]; /* by class, then by mode */
+};
 
 struct header {
     int64_t day, used, length; /* length: L, in days */
     int64_t fees[FEES];        /* by stage */
-    int64_t rates[RATES];      /* by class, then by mode */
+    int64_t rates[RATES];      /* of the first rate list */
+    int64_t first_day;         /* likewise */
+    struct rate_list later[LATER_LISTS];
 };
 
 struct account {
@@ -64,6 +73,7 @@ struct answer {
 };
 
 _Static_assert(sizeof(struct header) == TOLL_LEDGER_HEADER_WORDS * sizeof(int64_t) &&
+                   sizeof(struct rate_list) == TOLL_LEDGER_LIST_WORDS * sizeof(int64_t) &&
                    sizeof(struct account) == TOLL_LEDGER_ACCOUNT_WORDS * sizeof(int64_t) &&
                    sizeof(struct row) == TOLL_LEDGER_ROW_WORDS * sizeof(int64_t) &&
                    sizeof(struct answer) == TOLL_LEDGER_ANSWER_WORDS * sizeof(int64_t),
@@ -146,6 +156,7 @@ static inline bool has_room(const struct book *b, size_t rows)
 
 /* model_sound.c */
 bool lengths_fit(size_t header_words, size_t accounts_words, size_t journal_words);
+bool rates_fit(const int64_t *rates);
 bool schedule_fits(int64_t day, const int64_t *schedule); /* L, fees, rates */
 bool is_sound(const struct book *b);                      /* its lengths fit */
 

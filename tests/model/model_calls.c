@@ -50,6 +50,9 @@ int64_t model_open(int64_t *header, size_t header_words, int64_t *accounts, size
     header[TOLL_LEDGER_HEADER_ROWS_USED] = 0;
     memcpy(header + TOLL_LEDGER_HEADER_STAGE_LENGTH, schedule + 1,
            (TOLL_LEDGER_SCHEDULE_WORDS - 1) * sizeof *schedule);
+    header[TOLL_LEDGER_HEADER_FIRST_DAY] = schedule[0];
+    memset(header + TOLL_LEDGER_HEADER_LISTS, 0,
+           LATER_LISTS * TOLL_LEDGER_LIST_WORDS * sizeof *header);
     return TOLL_LEDGER_POSTED;
 }
 

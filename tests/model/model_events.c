@@ -1,4 +1,4 @@
-/* Events 1 to 8, and settlement. */
+/* Events 1 to 8 and 10, and settlement. */
 #include "model_book.h"
 
 int64_t balance_of(const struct book *b, int64_t account)
@@ -60,10 +60,17 @@ static void settle(const struct book *b, int64_t account)
     }
 }
 
+/* The rate list that event 10 brings. */
+static struct rate_list list_in(const event *e)
+{
+    return (struct rate_list){.first_day = e->a, .rates = {e->b, e->c, e->d, e->e, e->f, e->g}};
+}
+
 /* "Words not named are 0, else the event is malformed." */
 static bool is_well_formed(const event *e)
 {
-    const bool short_form = e->c == 0 && e->d == 0 && e->e == 0; /* names a and b at most */
+    const bool toll_form = e->f == 0 && e->g == 0; /* names a to e at most */
+    const bool short_form = toll_form && e->c == 0 && e->d == 0 && e->e == 0; /* a and b at most */
     switch (e->kind) {
     case TOLL_LEDGER_EVENT_OPEN:
         return within(0, e->a, MOST_AMOUNT) && within(0, e->b, MOST_AMOUNT) &&
@@ -71,7 +78,7 @@ static bool is_well_formed(const event *e)
     case TOLL_LEDGER_EVENT_TOLL:
         return within(1, e->a, MOST_PASSAGE) && within(1, e->b, TOLL_LEDGER_DAYS) &&
                within(1, e->c, MOST_AXLES) && within(0, e->d, MOST_HEIGHT) &&
-               within(TOLL_LEDGER_MODE_TAG, e->e, TOLL_LEDGER_MODE_PLATE);
+               within(TOLL_LEDGER_MODE_TAG, e->e, TOLL_LEDGER_MODE_PLATE) && toll_form;
     case TOLL_LEDGER_EVENT_PAYMENT:
         return within(1, e->a, MOST_AMOUNT) &&
                within(TOLL_LEDGER_METHOD_CARD, e->b, TOLL_LEDGER_METHOD_CHECK) && short_form;
@@ -87,6 +94,8 @@ static bool is_well_formed(const event *e)
         return e->a == 0 && e->b == 0 && short_form;
     case TOLL_LEDGER_EVENT_TICK:
         return e->account == 0 && e->a == 0 && e->b == 0 && short_form;
+    case TOLL_LEDGER_EVENT_RATE_LIST:
+        return e->account == 0 && within(1, e->a, TOLL_LEDGER_DAYS) && rates_fit(list_in(e).rates);
     default:
         return false;
     }
@@ -135,6 +144,15 @@ static int64_t toll_refusal(const struct book *b, const event *e)
     return has_room(b, 1) ? TOLL_LEDGER_POSTED : TOLL_LEDGER_FULL;
 }
 
+/* "The list in force on its passage day"; "the first list covers every earlier day". */
+static int64_t rate_of(const struct header *h, const event *e)
+{
+    const int64_t *rates = h->rates;
+    for (size_t i = 0; i < LATER_LISTS && within(1, h->later[i].first_day, e->b); i++)
+        rates = h->later[i].rates;
+    return rates[MODES * (class_of(e->c, e->d) - CLASS_1) + e->e - TOLL_LEDGER_MODE_TAG];
+}
+
 /* "Row: rate, stage 0, due today + L." */
 static struct answer post_toll(const struct book *b, const event *e)
 {
@@ -144,7 +162,7 @@ static struct answer post_toll(const struct book *b, const event *e)
         return refused(number);
     add_row(b, (struct row){.kind = TOLL_LEDGER_KIND_TOLL,
                             .account = e->account,
-                            .amount = h->rates[MODES * (class_of(e->c, e->d) - CLASS_1) + e->e - 1],
+                            .amount = rate_of(h, e),
                             .due = h->day + h->length,
                             .reference = e->a});
     settle(b, e->account);
@@ -297,6 +315,20 @@ static struct answer request_close(const struct book *b, struct account *x)
     return posted(b, b->header->used);
 }
 
+/* Adds a rate list; "15 for a first day not after the last list's, or for a ninth list". */
+static struct answer add_list(const struct book *b, const event *e)
+{
+    struct header *h = b->header;
+    int64_t last = h->first_day;
+    size_t used = 0; /* later lists */
+    for (; used < LATER_LISTS && h->later[used].first_day != 0; used++)
+        last = h->later[used].first_day;
+    if (used == LATER_LISTS || e->a <= last)
+        return refused(TOLL_LEDGER_LIST);
+    h->later[used] = list_in(e);
+    return posted(b, h->used);
+}
+
 /* "Closed: events 2, 3, 7, 8 on state 3." */
 static bool needs_open(int64_t kind)
 {
@@ -310,6 +342,8 @@ struct answer post(const struct book *b, const event *e)
         return refused(TOLL_LEDGER_MALFORMED);
     if (e->kind == TOLL_LEDGER_EVENT_TICK)
         return tick(b);
+    if (e->kind == TOLL_LEDGER_EVENT_RATE_LIST)
+        return add_list(b, e);
     struct account *x = account_of(b, e->account);
     if (x == NULL || (x->state == TOLL_LEDGER_STATE_UNUSED && e->kind != TOLL_LEDGER_EVENT_OPEN))
         return refused(TOLL_LEDGER_UNKNOWN);

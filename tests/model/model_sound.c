@@ -31,6 +31,14 @@ bool lengths_fit(size_t header_words, size_t accounts_words, size_t journal_word
            room >= 1 && room <= TOLL_LEDGER_MOST_ROWS;
 }
 
+bool rates_fit(const int64_t *rates)
+{
+    for (int i = 0; i < RATES; i++)
+        if (!within(1, rates[i], MOST_AMOUNT))
+            return false;
+    return true;
+}
+
 bool schedule_fits(int64_t day, const int64_t *schedule)
 {
     if (!within(1, day, TOLL_LEDGER_DAYS) || !within(1, schedule[0], MOST_STAGE_DAYS))
@@ -38,21 +46,28 @@ bool schedule_fits(int64_t day, const int64_t *schedule)
     for (int i = 1; i < 1 + FEES; i++)
         if (!within(0, schedule[i], MOST_FEE))
             return false;
-    for (int i = 1 + FEES; i < 1 + FEES + RATES; i++)
-        if (!within(1, schedule[i], MOST_AMOUNT))
-            return false;
-    return true;
+    return rates_fit(schedule + 1 + FEES);
 }
 
-/* "Later rows are all 0." */
-static bool later_rows_zero(const struct book *b)
+static bool all_zero(const void *from, const void *end)
 {
-    const int64_t *word = (const int64_t *)(b->rows + b->header->used);
-    const int64_t *end = (const int64_t *)(b->rows + b->room);
     int64_t any = 0;
-    for (; word < end; word++)
+    for (const int64_t *word = from; word < (const int64_t *)end; word++)
         any |= *word;
     return any == 0;
+}
+
+/* "A sound book has its lists in strictly rising order of day"; "unused ones last and all 0". */
+static bool lists_fit(const struct header *h)
+{
+    const struct rate_list *list = h->later, *end = h->later + LATER_LISTS;
+    int64_t before = h->first_day;
+    if (!within(1, before, TOLL_LEDGER_DAYS))
+        return false;
+    for (; list < end && list->first_day != 0; before = list++->first_day)
+        if (!within(before + 1, list->first_day, TOLL_LEDGER_DAYS) || !rates_fit(list->rates))
+            return false;
+    return all_zero(list, end);
 }
 
 /* "Passage numbers differ": puts the number into the set, false where it is there. */
@@ -216,8 +231,9 @@ static bool accounts_fit(const struct check *c)
 bool is_sound(const struct book *b)
 {
     const struct header *h = b->header;
-    if (!schedule_fits(h->day, &h->length) || !within(0, h->used, (int64_t)b->room) ||
-        !later_rows_zero(b))
+    if (!schedule_fits(h->day, &h->length) || !lists_fit(h) ||
+        !within(0, h->used, (int64_t)b->room) ||
+        !all_zero(b->rows + h->used, b->rows + b->room)) /* "later rows are all 0" */
         return false;
     struct check c;
     c.book = b;

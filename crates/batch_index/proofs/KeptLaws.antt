@@ -17,7 +17,7 @@ use Rattle.rules.specs.Soundness.{sound}
 use Rattle.rules.specs.Posting.{post}
 use Rattle.rules.specs.Tables.{Tables, rowsUsed, bookOf, tablesOf, soundTables}
 use Rattle.rules.proofs.SoundnessLaws.{sound-facts, facts-sound}
-use Rattle.rules.proofs.StorableLaws.{rows-le}
+use Rattle.rules.specs.SoundFacts.{Near}
 use Rattle.rules.proofs.TableLaws.{sound-book, sound-rows, length-sound-rows, used-tablesOf, bookOf-tablesOf, soundTables-tablesOf}
 use Rattle.preservation.proofs.SoundKept.{post-keeps-sound}
 use Rattle.preservation.proofs.RowsKept.{RowKept, post-keeps-rows}
@@ -88,16 +88,16 @@ module _ (j i : List ℤ) (n : ℕ) (kept : (k : ℕ) → k < n → RowKept (row
 -- ---- the tables of a sound book
 
 module _ (b : Book) (s : sound b ≡ true) where
-  fits : length (b .rows) ≤ b .room
-  fits = rows-le (b .day) b (sound-facts b s .near)
+  near : Near (b .day) b
+  near = sound-facts b s .near
 
   written-used : rowsUsed (tablesOf b) ≡ length (b .rows)
-  written-used = used-tablesOf b fits
+  written-used = used-tablesOf b near
 
   written-row : (k : ℕ) → k < length (b .rows) → getD (b .rows) k blank ≡ rowAt (tablesOf b .journal) k
   written-row k h =
       let e : b .rows ≡ rowsOf (tablesOf b .journal) (rowsUsed (tablesOf b)) =
-      sym (ap (λ (c : Book). c .rows) (bookOf-tablesOf b fits)) ∙ sound-rows (tablesOf b) (soundTables-tablesOf b s) in
+      sym (ap (λ (c : Book). c .rows) (bookOf-tablesOf b near)) ∙ sound-rows (tablesOf b) (soundTables-tablesOf b s) in
       ap (λ (rows : List Row). getD rows k blank) e ∙ tabulate-at (rowAt (tablesOf b .journal)) (rowsUsed (tablesOf b)) k blank (rw written-used h)
 
 -- ---- the tables after an event

@@ -56,7 +56,7 @@ taken t es w q =
 
 -- what stands past the end of a list of events
 abbrev pub noEvent : Event
-noEvent = record { kind = pos 0; account = pos 0; a = pos 0; b = pos 0; c = pos 0; d = pos 0; e = pos 0 }
+noEvent = record { kind = pos 0; account = pos 0; a = pos 0; b = pos 0; c = pos 0; d = pos 0; e = pos 0; f = pos 0; g = pos 0 }
 
 -- the same, of a batch of so many events
 pub counted-sound : (t : Tables) (count : ℕ) (w : List ℤ) → ((es : List Event) → length es ≡ count → 0 ≡ first (batchRefusals t es w)) → soundTables t ≡ true

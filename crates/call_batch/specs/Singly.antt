@@ -4,9 +4,9 @@ use lib.IntN.{ℤ}
 use Rattle.rules.specs.Tables.{Tables}
 use Rattle.rules.specs.Calls.{Event, Called, eventCall}
 
--- a record's seven words, as a single event has them
+-- a record's nine words, as a single event has them
 unfoldable pub eventWords : Event → List ℤ
-eventWords x = x .kind ∷ x .account ∷ x .a ∷ x .b ∷ x .c ∷ x .d ∷ x .e ∷ []
+eventWords x = x .kind ∷ x .account ∷ x .a ∷ x .b ∷ x .c ∷ x .d ∷ x .e ∷ x .f ∷ x .g ∷ []
 
 -- one event sent singly, its answer table having held w
 abbrev pub sent : Tables → List ℤ → Event → Called

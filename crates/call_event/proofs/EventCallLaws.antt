@@ -39,7 +39,7 @@ number-le : (t : Tables) (e w : List ℤ) → first (eventRefusals t e w) ≤ 2
 number-le t e w =
     rw (← event-refusals-by t e w (soundTables t) (not (length e is eventWidth) || ltb (length w) answerWidth) refl refl) (refusals-le (soundTables t) (not (length e is eventWidth) || ltb (length w) answerWidth))
 
--- a call that is not refused has sound tables, seven words and room for an answer
+-- a call that is not refused has sound tables, nine words and room for an answer
 pub record Taken (t : Tables) (e w : List ℤ) : Type 0 where
   pub sound : soundTables t ≡ true
   pub event : length e ≡ eventWidth

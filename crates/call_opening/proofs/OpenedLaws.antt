@@ -1,125 +1,143 @@
 -- Opening: the tables that it writes are those of the opened book.
-use mathlib.Core.Path.{_≡_, refl, sym, ap, ap₂, _∙_}
-use mathlib.Core.Bool.{Bool, true, false, _&&_}
-use Prim.Native.Nat.{ℕ, zero, suc, _+_, _*_, _-_, _^_, _≤_, _<_}
+use mathlib.Core.Path.{_≡_, refl, sym, ap, _∙_}
+use mathlib.Core.Bool.{true, false}
+use Prim.Native.Nat.{ℕ, zero, suc, _+_, _*_, _-_, _≤_, _<_}
 use native.Mathlib.Omega.{arith}
-use mathlib.Core.List.{List, [], _∷_, _++_, append-nil}
+use mathlib.Core.List.{List, [], _∷_, _++_, append-nil, append-assoc}
 use lib.IntN.{ℤ, pos}
-use lib.ListN.{length, getD, set, drop, replicate, length-set, length-drop, length-replicate, replicate-append-replicate}
-use lib.Seq.{paste, paste-suc, getD-drop, take-all, take-length, drop-length, drop-cons, append-snoc, set-at}
-use borrow.Author.Tests.{eqb-true}
-use Rattle.records.specs.Layout.{headerWidth, dayPlace, usedPlace, headerSchedule, accountWidth, openingWidth, firstDayPlace, openingSchedule}
+use lib.ListN.{length, getD, set, take, drop, replicate, length-append, length-set, length-drop, length-replicate, replicate-append-replicate, take-append-drop, drop-of-length-le}
+use lib.Seq.{length-take-le, paste, paste-suc, length-paste, getD-drop, take-all, take-at, drop-cons, append-snoc, set-at}
+use Rattle.records.specs.Layout.{headerWidth, dayPlace, usedPlace, headerSchedule, headerFirstDay, headerLists, laterLists, listWidth, accountWidth, openingWidth, firstDayPlace, openingSchedule, openingRates}
 use Rattle.records.specs.Encoding.{word, accountWords, writeAll}
-use Rattle.records.proofs.EncodingLaws.{pos-natOf}
-use Rattle.lists.specs.Tests.{_is_, first}
+use Rattle.records.proofs.EncodingLaws.{plain}
+use Rattle.lists.specs.Tests.{first}
 use Rattle.lists.specs.Lists.{tabulate}
-use Rattle.lists.proofs.TestLaws.{and-left, and-right}
 use Rattle.lists.proofs.ListLaws.{tabulate-getD}
 use Rattle.records.specs.Limits.{finalDay}
-use Rattle.rules.specs.Schedule.{scheduleFits}
 use Rattle.rules.specs.Book.{unused}
 use Rattle.rules.specs.Opening.{opening, dayFits}
-use Rattle.rules.specs.Tables.{Tables, accountsIn, roomIn, scheduleFrom, scheduleWords, headerWords, tablesOf, lengthsFit}
-use Rattle.rules.specs.Calls.{Gives, openingRefusals, openedBook, openCall}
-use Rattle.rules.proofs.StorableLaws.{between-le, StorableSchedule, schedule-storable}
+use Rattle.rules.specs.Tables.{Tables, accountsIn, roomIn, scheduleFrom, ratesFrom, scheduleWords, ratesWords, laterListsWords, headerWords, tablesOf, lengthsFit}
+use Rattle.rules.specs.Calls.{Gives, openingFits, openingRefusals, openedBook, openCall}
+use Rattle.rules.proofs.StorableLaws.{between-le, schedule-storable, rates-storable}
+use Rattle.rules.proofs.OpeningLaws.{OpeningWords, opening-words}
 use Rattle.sound_header.specs.Clauses.{tablesAt}
 use Rattle.sound_header.proofs.LengthLaws.{lengths-known}
-use Rattle.call_opening.specs.OpeningFits.{openingFits}
 
 -- ---- words copied
 
--- the header with its first two words stored
-pub length-started : (h : List ℤ) (z : ℤ) → length (set (set h dayPlace z) usedPlace (pos 0)) ≡ length h
-length-started h z = length-set (set h dayPlace z) usedPlace (pos 0) ∙ length-set h dayPlace z
+-- a turn of the loop that copies
+pub copied-more : (t w : List ℤ) (i j k : ℕ) → i + k < length t → j + k < length w
+    → set (paste t i (drop j w) k) (i + k) (getD w (j + k) (pos 0)) ≡ paste t i (drop j w) (k + 1)
+copied-more t w i j k p q =
+    let n : k + 1 ≡ suc k = omega arith in
+    rw (← getD-drop j w k (pos 0), n)
+    (paste-suc t i (drop j w) k (pos 0) p (omega (arith, length-drop j w)))
 
--- a turn of the loop that copies the schedule's words
-pub copied-more : (h w : List ℤ) (i : ℕ) → headerSchedule + i < length h → openingSchedule + i < length w
-    → set (paste h headerSchedule (drop openingSchedule w) i) (headerSchedule + i) (getD w (openingSchedule + i) (pos 0)) ≡ paste h headerSchedule (drop openingSchedule w) (i + 1)
-copied-more h w i p q =
+-- ---- words made 0
+
+-- a loop that clears from a place on: it has come to i
+abbrev pub cleared : List ℤ → ℕ → ℕ → List ℤ
+cleared t from i = take from t ++ replicate (i - from) (pos 0) ++ drop i t
+
+pub cleared-none : (t : List ℤ) (from : ℕ) → t ≡ cleared t from from
+cleared-none t from =
+    let z : from - from ≡ 0 = omega arith in
+    sym (rw (z, append-nil (take from t)) (take-append-drop from t))
+
+pub cleared-more : (t : List ℤ) (from i : ℕ) → from ≤ i → i < length t → set (cleared t from i) i (pos 0) ≡ cleared t from (i + 1)
+cleared-more t from i f h =
     let n : i + 1 ≡ suc i = omega arith in
-    rw (← getD-drop openingSchedule w i (pos 0), n)
-    (paste-suc h headerSchedule (drop openingSchedule w) i (pos 0) p (omega (arith, length-drop openingSchedule w)))
+    let m : i + 1 - from ≡ i - from + 1 = omega arith in
+    let p : List ℤ = take from t ++ replicate (i - from) (pos 0) in
+    let l : length p ≡ i =
+    length-append (take from t) (replicate (i - from) (pos 0)) ∙ omega (arith, length-take-le from t (omega arith), length-replicate (i - from) (pos 0)) in
+    ap (λ (r : List ℤ). set (p ++ r) i (pos 0)) (drop-cons t i (pos 0) h)
+    ∙ set-at p (getD t i (pos 0)) (drop (suc i) t) (pos 0) i l
+    ∙ sym (append-snoc p (pos 0) (drop (suc i) t))
+    ∙ rw (m, n, ← replicate-append-replicate (i - from) 1 (pos 0)) (ap (λ (r : List ℤ). r ++ drop (suc i) t) (append-assoc (take from t) (replicate (i - from) (pos 0)) (pos 0 ∷ [])))
 
--- two words stored and the rest copied: nothing is left of the list
-pasted-all : (a b : ℤ) (h s : List ℤ) → length h ≡ 2 + length s → paste (set (set h 0 a) 1 b) 2 s (length s) ≡ a ∷ b ∷ s
-pasted-all a b [] s l = absurd (omega arith)
-pasted-all a b (x ∷ []) s l = absurd (omega arith)
-pasted-all a b (x ∷ y ∷ h) s l = rw (← l, take-length s, drop-length h, append-nil s)
+pub cleared-all : (t : List ℤ) (from i : ℕ) → length t ≤ i → i ≤ from + (length t - from) → from ≤ i → cleared t from i ≡ take from t ++ replicate (length t - from) (pos 0)
+cleared-all t from i h b f =
+    let n : i - from ≡ length t - from = omega arith in
+    rw (drop-of-length-le t {i = i} h, n) (append-nil (take from t ++ replicate (length t - from) (pos 0)))
 
--- ---- the words that opening is given
+-- ---- the header
+
+-- two words stored, ten copied behind them, and one more: nothing is left of the first thirteen
+thirteen : (a b d : ℤ) (h s : List ℤ) → length h ≡ headerWidth → length s ≡ 10 → take 13 (set (paste (set (set h 0 a) 1 b) 2 s 10) 12 d) ≡ a ∷ b ∷ (s ++ (d ∷ []))
+thirteen a b d [] s l n = absurd (omega arith)
+thirteen a b d (x ∷ []) s l n = absurd (omega arith)
+thirteen a b d (x ∷ y ∷ h) s l n =
+    let r : List ℤ = drop 11 h in
+    let c : drop 10 h ≡ getD h 10 (pos 0) ∷ r = drop-cons h 10 (pos 0) (omega arith) in
+    ap (λ (z : List ℤ). a ∷ b ∷ z)
+    (rw (c, take-all 10 s (omega arith), set-at s (getD h 10 (pos 0)) r d 10 n, ← append-snoc s d r)
+    (take-at (s ++ (d ∷ [])) r 11 (length-append s (d ∷ []) ∙ omega arith)))
 
 module _ (w : List ℤ) (e : openingFits w ≡ true) where
-  abbrev width-part : Bool
-  width-part = length w is openingWidth
-
-  abbrev day-part : Bool
-  day-part = dayFits (word w firstDayPlace)
-
-  abbrev schedule-part : Bool
-  schedule-part = scheduleFits (scheduleFrom w openingSchedule)
+  given : OpeningWords w
+  given = opening-words w e
 
   pub words-given : length w ≡ openingWidth
-  unfolding openingFits
-  words-given = eqb-true (length w) openingWidth (and-left width-part day-part (and-left (width-part && day-part) schedule-part e))
+  words-given = given .width
 
   day-small : word w firstDayPlace ≤ finalDay
-  unfolding openingFits dayFits
-  day-small = between-le 1 finalDay (word w firstDayPlace) (and-right width-part day-part (and-left (width-part && day-part) schedule-part e))
+  unfolding dayFits
+  day-small = between-le 1 finalDay (word w firstDayPlace) (given .day)
 
-  stored : StorableSchedule (scheduleFrom w openingSchedule)
-  unfolding openingFits
-  stored = schedule-storable (scheduleFrom w openingSchedule) (and-right (width-part && day-part) schedule-part e)
-
-  plain : (k : ℕ) → word w k < 2 ^ 63 → pos (word w k) ≡ getD w k (pos 0)
-  unfolding word
-  plain k h = pos-natOf (getD w k (pos 0)) h
-
-  -- the schedule's words are those given
-  schedule-again : scheduleWords (scheduleFrom w openingSchedule) ≡ drop openingSchedule w
-  unfolding scheduleWords scheduleFrom tabulate
-  schedule-again =
+  -- the words of schedule and rates are those given
+  words-again : scheduleWords (scheduleFrom w openingSchedule) ++ ratesWords (ratesFrom w openingRates) ≡ drop openingSchedule w
+  unfolding scheduleWords scheduleFrom ratesWords ratesFrom tabulate
+  words-again =
       let l = words-given in
-      let s = stored in
+      let s = schedule-storable (scheduleFrom w openingSchedule) (given .schedule) in
+      let r = rates-storable (ratesFrom w openingRates) (given .rates) in
       rw (
-        plain 1 (omega (arith, s .stage)),
-        plain 2 (omega (arith, s .fee2)),
-        plain 3 (omega (arith, s .fee3)),
-        plain 4 (omega (arith, s .fee4)),
-        plain 5 (omega (arith, s .tag1)),
-        plain 6 (omega (arith, s .plate1)),
-        plain 7 (omega (arith, s .tag2)),
-        plain 8 (omega (arith, s .plate2)),
-        plain 9 (omega (arith, s .tag3)),
-        plain 10 (omega (arith, s .plate3)),
+        plain w 1 (omega (arith, s .stage)),
+        plain w 2 (omega (arith, s .fee2)),
+        plain w 3 (omega (arith, s .fee3)),
+        plain w 4 (omega (arith, s .fee4)),
+        plain w 5 (omega (arith, r .tag1)),
+        plain w 6 (omega (arith, r .plate1)),
+        plain w 7 (omega (arith, r .tag2)),
+        plain w 8 (omega (arith, r .plate2)),
+        plain w 9 (omega (arith, r .tag3)),
+        plain w 10 (omega (arith, r .plate3)),
       )
       (tabulate-getD w openingSchedule 10 (pos 0) (omega arith) ∙ take-all 10 (drop openingSchedule w) (omega (arith, length-drop openingSchedule w)))
 
-  -- the header when the words are copied
-  pub header-opened : (h : List ℤ) → length h ≡ headerWidth
-      → paste (set (set h dayPlace (getD w firstDayPlace (pos 0))) usedPlace (pos 0)) headerSchedule (drop openingSchedule w) 10
-      ≡ pos (word w firstDayPlace) ∷ pos 0 ∷ scheduleWords (scheduleFrom w openingSchedule)
-  header-opened h l =
-      let n : length (drop openingSchedule w) ≡ 10 = length-drop openingSchedule w ∙ omega (arith, words-given) in
-      rw (plain firstDayPlace (omega (arith, day-small)), schedule-again)
-      (ap (paste (set (set h dayPlace (getD w firstDayPlace (pos 0))) usedPlace (pos 0)) headerSchedule (drop openingSchedule w)) (sym n)
-      ∙ pasted-all (getD w firstDayPlace (pos 0)) (pos 0) h (drop openingSchedule w) (omega arith))
+  abbrev day-word : ℤ
+  day-word = getD w firstDayPlace (pos 0)
+
+  -- the header of the opened book, in the words given
+  header-words : (t : Tables) → (day-word ∷ pos 0 ∷ (drop openingSchedule w ++ (day-word ∷ []))) ++ replicate (laterLists * listWidth) (pos 0) ≡ headerWords (openedBook t w)
+  unfolding headerWords openedBook opening laterListsWords writeAll
+  header-words t = rw (← words-again, ← plain w firstDayPlace (omega (arith, day-small))) joined
+    where
+      joined : (pos (word w firstDayPlace) ∷ pos 0 ∷ (scheduleWords (scheduleFrom w openingSchedule) ++ ratesWords (ratesFrom w openingRates) ++ (pos (word w firstDayPlace) ∷ []))) ++ replicate (laterLists * listWidth) (pos 0)
+          ≡ (pos (word w firstDayPlace) ∷ pos 0 ∷ scheduleWords (scheduleFrom w openingSchedule))
+          ++ ((ratesWords (ratesFrom w openingRates) ++ (pos (word w firstDayPlace) ∷ [])) ++ replicate (laterLists * listWidth) (pos 0))
+      joined = unfold scheduleWords ratesWords in refl
+
+  -- the header when the words are copied, and the first day to the first list
+  abbrev pub copied : List ℤ → List ℤ
+  copied h = set (paste (set (set h dayPlace day-word) usedPlace (pos 0)) headerSchedule (drop openingSchedule w) 10) headerFirstDay day-word
+
+  pub length-copied : (h : List ℤ) → length h ≡ headerWidth → length (copied h) ≡ headerWidth
+  length-copied h l =
+      let n : length (set (set h dayPlace day-word) usedPlace (pos 0)) ≡ headerWidth = length-set (set h dayPlace day-word) usedPlace (pos 0) ∙ length-set h dayPlace day-word ∙ l in
+      length-set (paste (set (set h dayPlace day-word) usedPlace (pos 0)) headerSchedule (drop openingSchedule w) 10) headerFirstDay day-word
+      ∙ length-paste (set (set h dayPlace day-word) usedPlace (pos 0)) headerSchedule (drop openingSchedule w) 10 (omega arith) (omega (arith, length-drop openingSchedule w, words-given))
+      ∙ n
+
+  pub header-opened : (h : List ℤ) → length h ≡ headerWidth → (t : Tables)
+      → take headerLists (copied h) ++ replicate (length (copied h) - headerLists) (pos 0) ≡ headerWords (openedBook t w)
+  header-opened h l t =
+      let n : length (copied h) - headerLists ≡ laterLists * listWidth = omega (arith, length-copied h l) in
+      rw (n, thirteen day-word (pos 0) day-word h (drop openingSchedule w) l (length-drop openingSchedule w ∙ omega (arith, words-given)))
+      (header-words t)
 
 -- ---- tables all 0
-
--- a loop that clears: i words are 0
-abbrev pub cleared : List ℤ → ℕ → List ℤ
-cleared t i = replicate i (pos 0) ++ drop i t
-
-pub cleared-more : (t : List ℤ) (i : ℕ) → i < length t → set (cleared t i) i (pos 0) ≡ cleared t (i + 1)
-cleared-more t i h =
-    let n : i + 1 ≡ suc i = omega arith in
-    ap (λ (r : List ℤ). set (replicate i (pos 0) ++ r) i (pos 0)) (drop-cons t i (pos 0) h)
-    ∙ set-at (replicate i (pos 0)) (getD t i (pos 0)) (drop (suc i) t) (pos 0) i (length-replicate i (pos 0))
-    ∙ sym (append-snoc (replicate i (pos 0)) (pos 0) (drop (suc i) t))
-    ∙ ap₂ {C = List ℤ} _++_ (replicate-append-replicate i 1 (pos 0)) (ap (λ (k : ℕ). drop k t) (sym n))
-
-pub cleared-all : (t : List ℤ) (i : ℕ) → i ≡ length t → cleared t i ≡ replicate (length t) (pos 0)
-cleared-all t i e = rw (e, drop-length t) (append-nil (replicate (length t) (pos 0)))
 
 accounts-cleared : (n : ℕ) → writeAll accountWords (replicate n unused) ≡ replicate (n * accountWidth) (pos 0)
 unfolding writeAll accountWords
@@ -139,19 +157,21 @@ module _ (h a j w : List ℤ) where
   lengths-refused l = record { number = rw l; tables = rw l; answers = refl }
 
   pub words-refused : lengthsFit t ≡ true → openingFits w ≡ false → Gives (openCall t w) (pos 2) t []
-  unfolding openCall openingRefusals first openingFits
+  unfolding openCall openingRefusals first
   words-refused l f = record { number = rw (l, f); tables = rw (l, f); answers = refl }
 
   pub opened : lengthsFit t ≡ true → openingFits w ≡ true
       → Gives (openCall t w)
       (pos 0)
-      (tablesAt (pos (word w firstDayPlace) ∷ pos 0 ∷ scheduleWords (scheduleFrom w openingSchedule)) (replicate (length a) (pos 0)) (replicate (length j) (pos 0)))
+      (tablesAt (headerWords (openedBook t w)) (replicate (length a - 0) (pos 0)) (replicate (length j - 0) (pos 0)))
       []
-  unfolding openCall openingRefusals first openingFits
+  unfolding openCall openingRefusals first
   opened l f = record { number = rw (l, f); tables = rw (l, f) opened-tables; answers = refl }
     where
-      opened-tables : tablesAt (pos (word w firstDayPlace) ∷ pos 0 ∷ scheduleWords (scheduleFrom w openingSchedule)) (replicate (length a) (pos 0)) (replicate (length j) (pos 0)) ≡ tablesOf (openedBook t w)
-      opened-tables = unfold tablesOf openedBook opening headerWords writeAll in
+      opened-tables : tablesAt (headerWords (openedBook t w)) (replicate (length a - 0) (pos 0)) (replicate (length j - 0) (pos 0)) ≡ tablesOf (openedBook t w)
+      opened-tables = unfold tablesOf openedBook opening writeAll in
           (let s = lengths-known h a j l in
+          let m : length a - 0 ≡ length a = omega arith in
+          let n : length j - 0 ≡ length j = omega arith in
           let r : roomIn t - 0 ≡ roomIn t = omega arith in
-          rw (accounts-cleared (accountsIn t), s .wholeAccounts, r, s .wholeRows))
+          rw (accounts-cleared (accountsIn t), s .wholeAccounts, r, s .wholeRows, m, n))

@@ -9,7 +9,7 @@ ghost use Rattle.lists.specs.Tests.{first};
 ghost use Rattle.rules.specs.Calls.{eventRefusals};
 ghost use Rattle.rules.specs.Lent.{atEntry};
 
-// 0 where it is not: 1 the book is not sound, 2 another length than seven words, or an answer table of fewer than five.
+// 0 where it is not: 1 the book is not sound, 2 another length than nine words, or an answer table of fewer than five.
 pub fn event_refusal(
     header: &[i64],
     accounts: &[i64],

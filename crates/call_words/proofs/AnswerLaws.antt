@@ -7,6 +7,7 @@ use mathlib.Core.List.{[], _∷_, map}
 use lib.ListN.{length, length-map}
 use lib.Dec.{eqb, leb}
 use borrow.Author.Tests.{leb-true, ltb-false, eqb-true}
+use Rattle.records.specs.Numbers.{ListRefused}
 use Rattle.records.specs.Codes.{EventTick}
 use Rattle.lists.specs.Tests.{allOf, Cases, first, _is_}
 use Rattle.lists.proofs.TestLaws.{and-left, and-right, cond-either}
@@ -27,8 +28,8 @@ use Rattle.preservation.proofs.SettledLaws.{length-settled}
 use Rattle.call_words.specs.Answers.{StorableAnswer}
 
 -- the highest number of a refusal
-abbrev lastNumber : ℕ
-lastNumber = 14
+abbrev pub lastNumber : ℕ
+lastNumber = ListRefused
 
 pub record SmallAnswer (x : Answer) : Type 0 where
   pub number : x .number ≤ lastNumber

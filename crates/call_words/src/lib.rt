@@ -10,6 +10,8 @@ use records::layout::D_PLACE;
 use records::layout::E_PLACE;
 use records::layout::EVENT_ACCOUNT_PLACE;
 use records::layout::EVENT_KIND_PLACE;
+use records::layout::F_PLACE;
+use records::layout::G_PLACE;
 use tables::words::get;
 use tables::words::natural;
 use tables::words::put;
@@ -33,7 +35,7 @@ const RAISED_PLACE: usize = 3;
 
 const REMOVED_PLACE: usize = 4;
 
-// The event of a single call: seven words.
+// The event of a single call: nine words.
 pub fn read_event(event: &[i64]) -> Instruction
     requires { ⌜ eventWidth ≤ length (now event) ⌝ }
     ensures { λ r. ⌜ r ≡ instructionFrom (now (event .entry)) ⌝ }
@@ -46,6 +48,8 @@ pub fn read_event(event: &[i64]) -> Instruction
         c: get(event, C_PLACE),
         d: get(event, D_PLACE),
         e: get(event, E_PLACE),
+        f: get(event, F_PLACE),
+        g: get(event, G_PLACE),
     }
 }
 
@@ -61,6 +65,8 @@ pub fn event_of(x: Event) -> Instruction
         c: natural(x.c),
         d: natural(x.d),
         e: natural(x.e),
+        f: natural(x.f),
+        g: natural(x.g),
     }
 }
 

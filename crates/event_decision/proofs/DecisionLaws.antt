@@ -134,7 +134,7 @@ module _ (t : Tables) (s : soundTables t ≡ true) (e : Instruction) (k : e .kin
         (still-put e x (t .journal) j (e .a - 1) (freeRow b e) free (still-before t e x l) (row b (e .a)) (row-at t s (e .a) (toll-row .0) (toll-row .1)) refl refl refl refl)
 
     pub rejected-posts : (j″ : List ℤ) → Settled j j″ (rowsUsed t) (e .account) → Posts t (tablesAt (t .header) (t .accounts) j″) e (acceptanceOf (rowsUsed t) 0 0 0)
-    rejected-posts = put-posts t s e q (freeRow b e) (rejected-change b e k v) has-kind j free (λ z. omega arith) (λ z. omega arith)
+    rejected-posts = put-posts t s e q (freeRow b e) (rejected-change b e k v) has-kind j free (λ z. omega arith) (rw k)
 
   -- ---- verdict 1
 

@@ -119,4 +119,4 @@ module _ (t : Tables) (s : soundTables t ≡ true) (e : Instruction) (k : e .kin
         (still-put e x (t .journal) j (e .a - 1) (heldRow b e) w (still-before t e x l) (row b (e .a)) (row-at t s (e .a) (dispute-row .0) (dispute-row .1)) refl refl refl refl)
 
     pub dispute-posts : (j″ : List ℤ) → Settled j j″ (rowsUsed t) (e .account) → Posts t (tablesAt (t .header) (t .accounts) j″) e (acceptanceOf (rowsUsed t) 0 0 0)
-    dispute-posts = put-posts t s e q (heldRow b e) (changed b e k) has-kind j w (λ z. omega arith) (λ z. omega arith)
+    dispute-posts = put-posts t s e q (heldRow b e) (changed b e k) has-kind j w (λ z. omega arith) (rw k)

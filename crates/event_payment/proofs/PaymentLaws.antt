@@ -20,7 +20,7 @@ use Rattle.rules.specs.Rows.{Row, KindPayment, newRow, withMark}
 use Rattle.rules.specs.Settlement.{settle}
 use Rattle.rules.specs.Book.{Instruction, Book, account, addRow, withRows}
 use Rattle.rules.specs.Events.{postPayment}
-use Rattle.rules.specs.Refusals.{changeOf, after, zeroFrom-c, paymentForm, formOf, wellFormed, unclassed, misdated, duplicate, barred, noRow, untimely, lastDay, full, refusals, answerNumber, sharedCount, sharedRefusals, ownRefusals}
+use Rattle.rules.specs.Refusals.{wholeBook, changeOf, after, zeroFrom-c, paymentForm, formOf, wellFormed, unclassed, misdated, duplicate, barred, noRow, untimely, lastDay, full, refusals, answerNumber, sharedCount, sharedRefusals, ownRefusals}
 use Rattle.rules.specs.Posting.{removesTopup}
 use Rattle.rules.specs.Tables.{Tables, accountsIn, roomIn, rowsUsed, bookOf, soundTables}
 use Rattle.rules.proofs.RefusalLaws.{answerNumber-own}
@@ -127,11 +127,11 @@ module _ (t : Tables) (s : soundTables t ≡ true) (e : Instruction) (k : e .kin
       → rowsUsed t < roomIn t → Posts t (tablesAt h (t .accounts) j″) e (acceptanceOf (rowsUsed t) 1 0 0)
   payment-posts h j j″ w d l =
       posts-accepted t (tablesAt h (t .accounts) j″) s e (acceptanceOf (rowsUsed t) 1 0 0) q
-      (rw (used-read t s) (acceptance-plain b e 1 (length-after b e (b .rows) (paymentRow b e ∷ []) (ap (λ (x : Book). x .rows) changed) refl) plain-kind keeps-topup))
+      (rw (used-read t s) (acceptance-plain b e 1 (length-after b e (b .rows) (paymentRow b e ∷ []) (ap (λ (x : Book). x .rows) changed) refl) names-account keeps-topup))
       (rw after-payment (row-written t s h j j″ (t .accounts) (paymentRow b e) (e .account) (b .accounts) w d l refl same-accounts))
     where
-      plain-kind : e .kind is EventTick ≡ false
-      plain-kind = rw k
+      names-account : wholeBook e ≡ false
+      names-account = rw k
 
       keeps-topup : removesTopup b e ≡ false
       keeps-topup = unfold removesTopup in (rw k)

@@ -1,14 +1,19 @@
-// The class of a vehicle and its rate (document 01, event 2).
-use records::layout::HEADER_SCHEDULE;
-use records::layout::TAG1_PLACE;
+// The class of a vehicle and its rate (document 01, event 2; document 02, No. 1).
+use records::layout::HEADER_LISTS;
+use records::layout::HEADER_RATES;
+use records::layout::LIST_RATES_PLACE;
+use records::layout::LIST_WIDTH;
 use records::limits::LOW_HEIGHT;
+use table_lists::list_on;
 use tables::words::get;
 ghost use mathlib.Core.Path.{_≡_};
 ghost use Prim.Native.Nat.{_≤_};
-ghost use lib.ListN.{length};
-ghost use Rattle.records.specs.Layout.{headerWidth, headerSchedule};
+ghost use Rattle.records.specs.Layout.{laterLists};
 ghost use Rattle.rules.specs.Schedule.{class, rate};
-ghost use Rattle.rules.specs.Tables.{scheduleFrom};
+ghost use Rattle.rules.specs.RateLists.{inForce};
+ghost use Rattle.rules.specs.Tables.{listsIn};
+ghost use Rattle.table_lists.specs.HeaderLists.{ListsStand};
+ghost use Rattle.event_rates.specs.Places.{RatesAt};
 
 // The class by GEN-CLA, its cases in order; 0 where none applies.
 pub fn class_of(axles: u64, height: u64) -> u64
@@ -26,11 +31,22 @@ pub fn class_of(axles: u64, height: u64) -> u64
     0
 }
 
-// The rate of a class 1 to 3 in a mode 1 (tag) or 2 (plate): the six rates stand class by class.
-pub fn rate_of(header: &[i64], class: u64, mode: u64) -> u64
-    requires { ⌜ (headerWidth ≤ length (now header)) × (1 ≤ class) × (class ≤ 3) × (1 ≤ mode) × (mode ≤ 2) ⌝ }
-    ensures { λ r. ⌜ r ≡ rate (scheduleFrom (now (header .entry)) headerSchedule .rates) class mode ⌝ }
+// Where the six rates stand of the list after n others.
+fn rates_place(n: usize) -> usize
+    requires { ⌜ n ≤ laterLists ⌝ }
+    ensures { λ p. ⌜ RatesAt n p ⌝ }
 {
-    let place = HEADER_SCHEDULE + TAG1_PLACE + (2 * (class - 1) + (mode - 1)) as usize;
-    get(header, place)
+    if n == 0 {
+        return HEADER_RATES;
+    }
+    HEADER_LISTS + (n - 1) * LIST_WIDTH + LIST_RATES_PLACE
+}
+
+// The rate of a class 1 to 3 in a mode 1 (tag) or 2 (plate) by the list in force on a day: the six rates stand class by class.
+pub fn rate_of(header: &[i64], day: u64, class: u64, mode: u64) -> u64
+    requires { ⌜ ListsStand (now header) × (1 ≤ class) × (class ≤ 3) × (1 ≤ mode) × (mode ≤ 2) ⌝ }
+    ensures { λ r. ⌜ r ≡ rate (inForce (listsIn (now (header .entry))) day .rates) class mode ⌝ }
+{
+    let first = rates_place(list_on(header, day));
+    get(header, first + (2 * (class - 1) + (mode - 1)) as usize)
 }

@@ -26,7 +26,7 @@ use Rattle.rules.specs.Settlement.{settle}
 use Rattle.rules.specs.Book.{Account, Instruction, StateClosed, StatePending, Book, account, row, withRows, withAccounts}
 use Rattle.rules.specs.Events.{returnCheck}
 use Rattle.rules.specs.Soundness.{returnedOf, returnedFits}
-use Rattle.rules.specs.Refusals.{changeOf, after, zeroFrom-c, returnForm, formOf, wellFormed, unclassed, misdated, duplicate, barred, noRow, untimely, lastDay, full, refusals, answerNumber, sharedCount, sharedRefusals, ownRefusals}
+use Rattle.rules.specs.Refusals.{wholeBook, changeOf, after, zeroFrom-c, returnForm, formOf, wellFormed, unclassed, misdated, duplicate, barred, noRow, untimely, lastDay, full, refusals, answerNumber, sharedCount, sharedRefusals, ownRefusals}
 use Rattle.rules.specs.Posting.{removesTopup}
 use Rattle.rules.specs.Tables.{Tables, accountsIn, roomIn, rowsUsed, bookOf, soundTables}
 use Rattle.rules.proofs.RefusalLaws.{answerNumber-own}
@@ -145,11 +145,11 @@ module _ (t : Tables) (s : soundTables t ≡ true) (e : Instruction) (k : e .kin
   acc : Accepted b e
   acc = accepted b e (sym q)
 
-  plain-kind : e .kind is EventTick ≡ false
-  plain-kind = rw k
+  names-account : wholeBook e ≡ false
+  names-account = rw k
 
   inside : (1 ≤ e .account) × (e .account ≤ length (b .accounts))
-  inside = known-inside b e plain-kind (acc .known)
+  inside = known-inside b e names-account (acc .known)
 
   is-payment : row b (e .a) .kind ≡ KindPayment
   unfolding noRow
@@ -322,7 +322,7 @@ module _ (t : Tables) (s : soundTables t ≡ true) (e : Instruction) (k : e .kin
             → Settled j″ j‴ (rowsUsed t + 2) (e .account) → Posts t (tablesAt h″ xs j‴) e (acceptanceOf (rowsUsed t) 2 0 0)
         return-posts xs j‴ c d =
             posts-accepted t (tablesAt h″ xs j‴) s e (acceptanceOf (rowsUsed t) 2 0 0) q
-            (rw (used-read t s) (acceptance-plain b e 2 grows plain-kind keeps-topup))
+            (rw (used-read t s) (acceptance-plain b e 2 grows names-account keeps-topup))
             (rw after-return
             (rows-written t h″ j‴ (settle (e .account) (returnedRows b e))
             (rows-settle t h″ j″ j‴ (returnedRows b e) returned-used (e .account) (rw length-returned d))

@@ -30,9 +30,9 @@ use Rattle.tick_rules.proofs.RefundLaws.{none-closing}
 use Rattle.tick_rules.proofs.QuietLaws.{near-late, after-tick}
 use Rattle.tick_rules.proofs.CountLaws.{rows-after, late-fits}
 use Rattle.posting.specs.Posts.{tablesAt, acceptanceOf, Posts}
-use Rattle.posting.proofs.BookLaws.{day-read, used-read, room-read, schedule-read}
+use Rattle.posting.proofs.BookLaws.{day-read, used-read, room-read}
 use Rattle.posting_laws.proofs.AddedLaws.{posts-accepted}
-use Rattle.posting_laws.proofs.HeaderLaws.{schedule-same}
+use Rattle.posting_laws.proofs.WrittenLaws.{written-book}
 use Rattle.posting.specs.Written.{Written}
 use Rattle.tick_base.specs.Midway.{Midway}
 use Rattle.tick_base.proofs.MidwayLaws.{written-written, sound-midway}
@@ -40,7 +40,7 @@ use Rattle.tick_plan.specs.declared.Plan.{Plan}
 use Rattle.tick_plan.specs.Plans.{Planned}
 use Rattle.tick_holds.specs.Holds.{UnraisedRows}
 use Rattle.tick_close.specs.Closing.{ReadyToClose}
-use Rattle.event_tick.proofs.TickLaws.{written-book, written-midway}
+use Rattle.event_tick.proofs.TickLaws.{written-midway}
 
 module _ (t : Tables) (s : soundTables t ≡ true) (e : Instruction) (k : e .kind ≡ EventTick) (q : 0 ≡ answerNumber (bookOf t) e) where
   abbrev b : Book
@@ -87,7 +87,9 @@ module _ (t : Tables) (s : soundTables t ≡ true) (e : Instruction) (k : e .kin
       journal-size = d .size;
       day = word-same (t .header) dayPlace _ (omega (arith, header-length t s)) ∙ rw (day-read t s);
       used = word-other (t .header) dayPlace _ usedPlace (λ z. omega arith) ∙ sym unraised-rows-length;
-      schedule = schedule-same (t .header) header₁ (λ i l. word-other (t .header) dayPlace _ i (λ z. omega arith)) ∙ schedule-read t s;
+      fixed = λ i l. word-other (t .header) dayPlace _ i (λ z. omega arith);
+      schedule = refl;
+      lists = refl;
       accounts = unfold bookOf in refl;
       rows = rw unraised-rows-length (d .rows);
       room = sym (room-read t s);

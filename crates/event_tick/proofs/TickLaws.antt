@@ -23,6 +23,7 @@ use Rattle.posting.proofs.BookLaws.{used-read, room-read}
 use Rattle.records.specs.Updates.{ofKind}
 use Rattle.posting_laws.proofs.RefusalLaws.{at-kind}
 use Rattle.posting.specs.Written.{Written}
+use Rattle.posting_laws.proofs.WrittenLaws.{written-book}
 use Rattle.tick_base.specs.Midway.{Midway}
 use Rattle.event_tick.specs.declared.Judged.{Judged}
 use Rattle.event_tick.specs.TickEvent.{tickRefusals, Judges}
@@ -70,12 +71,6 @@ pub judged-refused : (b : Book) (e : Instruction) (j : Judged) (n : ℕ) → 0 <
 judged-refused b e j n l q w = record { number = q ∙ w; plan = λ z. absurd (omega arith) }
 
 -- ---- tables that hold a book of rows that fit
-
-pub written-book : (t u : Tables) (b : Book) → Written t u b → length (b .rows) ≤ roomIn t → bookOf u ≡ b
-unfolding bookOf
-written-book t u b w h =
-    let m : min (length (b .rows)) (roomIn t) ≡ length (b .rows) = omega arith in
-    rw (w .used, w .accounts-size, w .journal-size, m, w .day, w .schedule, w .accounts, w .rows, ← w .room)
 
 pub written-midway : (t u : Tables) (b : Book) (past : ℕ) → lengthsFit t ≡ true → Written t u b → length (b .rows) ≤ roomIn t → Near past b → Midway past u
 unfolding lengthsFit wholeRecords usedFits

@@ -18,18 +18,20 @@ use Rattle.lists.specs.Lists.{sumBy, count, exists}
 use Rattle.lists.proofs.TestLaws.{and-left, and-right}
 use Rattle.records.specs.Limits.{finalDay, highestRate, highestPassage, mostAxles, highestHeight, latestDays}
 use Rattle.rules.specs.Schedule.{class, rate}
+use Rattle.rules.specs.RateLists.{inForce}
 use Rattle.rules.specs.Rows.{Row, KindToll, toll, newRow, withDue, withReference}
 use Rattle.rules.specs.Settlement.{settle}
 use Rattle.rules.specs.Book.{Instruction, Book, addRow, withRows}
 use Rattle.rules.specs.Events.{tollRate, postToll}
-use Rattle.rules.specs.Refusals.{changeOf, after, tollForm, formOf, wellFormed, unclassed, misdated, duplicate, barred, noRow, untimely, lastDay, full, refusals, answerNumber, sharedCount, sharedRefusals, ownRefusals}
+use Rattle.rules.specs.Refusals.{wholeBook, changeOf, after, zeroFrom-f, tollForm, formOf, wellFormed, unclassed, misdated, duplicate, barred, noRow, untimely, lastDay, full, refusals, answerNumber, sharedCount, sharedRefusals, ownRefusals}
 use Rattle.rules.specs.Posting.{removesTopup}
-use Rattle.rules.specs.Tables.{Tables, accountsIn, roomIn, rowsUsed, scheduleFrom, bookOf, soundTables}
+use Rattle.rules.specs.Tables.{Tables, accountsIn, roomIn, rowsUsed, scheduleFrom, listsIn, bookOf, soundTables}
 use Rattle.rules.proofs.RefusalLaws.{answerNumber-own, shared-formed}
+use Rattle.rules.proofs.RateListLaws.{inForce-rates}
 use Rattle.rules.proofs.StorableLaws.{between-le, day-le, stage-le, accounts-le}
 use Rattle.rules.proofs.TableLaws.{sound-book}
 use Rattle.preservation.proofs.Accepted.{Accepted, accepted}
-use Rattle.preservation.proofs.FeeLaws.{schedule-parts, class-le, rate-fits}
+use Rattle.preservation.proofs.FeeLaws.{class-le, rate-fits}
 use Rattle.preservation.proofs.NamedLaws.{after-named}
 use Rattle.settlement.specs.Settling.{Settled}
 use Rattle.posting.specs.Posts.{tablesAt, acceptanceOf, RowAdded, Posts}
@@ -42,7 +44,7 @@ use Rattle.event_toll.specs.Toll.{tollRefusals}
 
 -- the row that event 2 adds
 abbrev pub tollRow : Book → Instruction → Row
-tollRow b e = withReference (e .a) (withDue (b .day + b .schedule .stage) (newRow KindToll (e .account) (b .day) (tollRate (b .schedule) e)))
+tollRow b e = withReference (e .a) (withDue (b .day + b .schedule .stage) (newRow KindToll (e .account) (b .day) (tollRate (b .lists) e)))
 
 -- ---- the number that event 2 gets
 
@@ -90,9 +92,12 @@ module _ (e : Instruction) (f : tollForm e ≡ true) where
   abbrev p5 : Bool
   p5 = e .e from 1 to 2
 
-  q4 : p1 && p2 && p3 && p4 ≡ true
+  q5 : p1 && p2 && p3 && p4 && p5 ≡ true
   unfolding tollForm
-  q4 = and-left (p1 && p2 && p3 && p4) p5 f
+  q5 = and-left (p1 && p2 && p3 && p4 && p5) (zeroFrom-f e) f
+
+  q4 : p1 && p2 && p3 && p4 ≡ true
+  q4 = and-left (p1 && p2 && p3 && p4) p5 q5
 
   q2 : p1 && p2 ≡ true
   q2 = and-left (p1 && p2) p3 (and-left (p1 && p2 && p3) p4 q4)
@@ -104,9 +109,8 @@ module _ (e : Instruction) (f : tollForm e ≡ true) where
   day-within = between-le 1 finalDay (e .b) (and-right p1 p2 q2)
 
   mode : (1 ≤ e .e) × (e .e ≤ 2)
-  unfolding tollForm
   mode =
-      let q : p5 ≡ true = and-right (p1 && p2 && p3 && p4) p5 f in
+      let q : p5 ≡ true = and-right (p1 && p2 && p3 && p4) p5 q5 in
       (leb-true 1 (e .e) (and-left (leb 1 (e .e)) (leb (e .e) 2) q), leb-true (e .e) 2 (and-right (leb 1 (e .e)) (leb (e .e) 2) q))
 
 -- an admitted event 2 has its form
@@ -123,11 +127,11 @@ module _ (t : Tables) (s : soundTables t ≡ true) (e : Instruction) (k : e .kin
   acc : Accepted b e
   acc = accepted b e (sym q)
 
-  plain-kind : e .kind is EventTick ≡ false
-  plain-kind = rw k
+  names-account : wholeBook e ≡ false
+  names-account = rw k
 
   inside : (1 ≤ e .account) × (e .account ≤ length (b .accounts))
-  inside = known-inside b e plain-kind (acc .known)
+  inside = known-inside b e names-account (acc .known)
 
   changed : changeOf (e .kind) b e ≡ addRow (tollRow b e) b
   unfolding changeOf postToll
@@ -157,11 +161,12 @@ module _ (t : Tables) (s : soundTables t ≡ true) (e : Instruction) (k : e .kin
       let m = mode e formed in
       (omega arith, class-le (e .c) (e .d), m .0, m .1)
 
-  amount-le : tollRate (b .schedule) e ≤ highestRate
+  amount-le : tollRate (b .lists) e ≤ highestRate
   unfolding tollRate
   amount-le =
-      between-le 1 highestRate (tollRate (b .schedule) e)
-      (rate-fits (b .schedule .rates) (schedule-parts (b .schedule) (sound-book t s .near .schedule) .rates) (e .c) (e .d) (e .e) (mode e formed .1))
+      between-le 1 highestRate (tollRate (b .lists) e)
+      (rate-fits (inForce (b .lists) (e .b) .rates) (inForce-rates (b .lists) (sound-book t s .near .lists) (e .b)) (e .c) (e .d) (e .e)
+      (mode e formed .1))
 
   pub toll-storable : StorableRow (tollRow b e)
   toll-storable =
@@ -182,7 +187,7 @@ module _ (t : Tables) (s : soundTables t ≡ true) (e : Instruction) (k : e .kin
 
   -- the row as it is read from the header
   pub toll-read : (today stage n amount : ℕ) (r : Row) → today ≡ word (t .header) dayPlace → stage ≡ word (t .header) (headerSchedule + stagePlace) → n ≡ class (e .c) (e .d)
-      → amount ≡ rate (scheduleFrom (t .header) headerSchedule .rates) n (e .e) → r ≡ newRow KindToll (e .account) today amount
+      → amount ≡ rate (inForce (listsIn (t .header)) (e .b) .rates) n (e .e) → r ≡ newRow KindToll (e .account) today amount
       → withReference (e .a) (withDue (today + stage) r) ≡ tollRow b e
   unfolding tollRate bookOf scheduleFrom
   toll-read today stage n amount r d l c a w = rw (w, a, c, d, l)
@@ -196,7 +201,7 @@ module _ (t : Tables) (s : soundTables t ≡ true) (e : Instruction) (k : e .kin
       → Posts t (tablesAt h (t .accounts) j″) e (acceptanceOf (rowsUsed t) 1 0 0)
   toll-posts h j j″ w d =
       posts-accepted t (tablesAt h (t .accounts) j″) s e (acceptanceOf (rowsUsed t) 1 0 0) q
-      (rw (used-read t s) (acceptance-plain b e 1 grows plain-kind keeps-topup))
+      (rw (used-read t s) (acceptance-plain b e 1 grows names-account keeps-topup))
       (rw after-toll (row-written t s h j j″ (t .accounts) (tollRow b e) (e .account) (b .accounts) w d toll-fits refl same-accounts))
     where
       keeps-topup : removesTopup b e ≡ false

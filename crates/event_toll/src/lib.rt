@@ -56,7 +56,7 @@ fn toll_refusal(header: &[i64], accounts: &[i64], journal: &[i64], e: Instructio
     0
 }
 
-// Event 2: the toll row, at its rate, due a stage length from today; then settlement.
+// Event 2: the toll row, at the rate of its passage day, due a stage length from today; then settlement.
 pub fn post_toll(
     header: &mut [i64],
     accounts: &[i64],
@@ -80,7 +80,7 @@ pub fn post_toll(
         KIND_TOLL,
         e.account,
         today,
-        rate_of(header, class_of(e.c, e.d), e.e),
+        rate_of(header, e.b, class_of(e.c, e.d), e.e),
     );
     r.due = today + get(header, HEADER_SCHEDULE + STAGE_PLACE);
     r.reference = e.a;

@@ -7,7 +7,6 @@ use mathlib.Core.List.{List, [], _∷_, _++_}
 use lib.ListN.{length, set, length-set}
 use lib.IntN.{ℤ}
 use borrow.Author.Tests.{ltb-false}
-use Rattle.records.specs.Codes.{EventTick}
 use Rattle.records.specs.Layout.{topupPlace, declinesPlace, declinedPlace}
 use Rattle.records.specs.Encoding.{accountsOf, StorableRow, StorableAccount}
 use Rattle.records.proofs.FieldLaws.{storable-set}
@@ -16,7 +15,7 @@ use Rattle.lists.specs.Tests.{_is_}
 use Rattle.rules.specs.Settlement.{settle}
 use Rattle.rules.specs.Book.{Account, Instruction, Book, account, putAccount, addRow, withRows}
 use Rattle.rules.specs.Events.{payTopup, topupResult}
-use Rattle.rules.specs.Refusals.{changeOf, after, full}
+use Rattle.rules.specs.Refusals.{wholeBook, changeOf, after, full}
 use Rattle.rules.specs.Posting.{removesTopup}
 use Rattle.rules.specs.Tables.{Tables, accountsIn, roomIn, rowsUsed, bookOf}
 use Rattle.rules.proofs.StorableLaws.{day-le, accounts-le}
@@ -44,15 +43,15 @@ module _ (t : Tables) (e : Instruction) (p : PaidResult t e) where
   abbrev paidAccount : Account
   paidAccount = topupPaid (account b n)
 
-  not-9 : e .kind is EventTick ≡ false
-  not-9 = rw (p .kind)
+  names-account : wholeBook e ≡ false
+  names-account = rw (p .kind)
 
   -- the account that it names is one of the table's
   pub paid-inside : (1 ≤ n) × (n ≤ accountsIn t)
-  paid-inside = named-inside t (p .sound) e not-9 (p .accepted)
+  paid-inside = named-inside t (p .sound) e names-account (p .accepted)
 
   pub paid-in : AccountIn (t .accounts) (n - 1)
-  paid-in = named-in t (p .sound) e not-9 (p .accepted)
+  paid-in = named-in t (p .sound) e names-account (p .accepted)
 
   changed : changeOf (e .kind) b e ≡ addRow (topupRow b e) (putAccount n paidAccount b)
   unfolding changeOf topupResult payTopup
@@ -98,7 +97,7 @@ module _ (t : Tables) (e : Instruction) (p : PaidResult t e) where
       → Settled j j″ (rowsUsed t + 1) n → Posts t (tablesAt h acc j″) e (acceptanceOf (rowsUsed t) 1 0 0)
   paid-posts acc h j j″ v w d =
       posts-accepted t (tablesAt h acc j″) (p .sound) e (acceptanceOf (rowsUsed t) 1 0 0) (p .accepted)
-      (rw (used-read t (p .sound)) (acceptance-plain b e 1 length-paid not-9 keeps-topup))
+      (rw (used-read t (p .sound)) (acceptance-plain b e 1 length-paid names-account keeps-topup))
       (rw after-paid
       (row-written t (p .sound) h j j″ acc (topupRow b e) n (set (b .accounts) (n - 1) paidAccount) w d paid-fits (v .size) account-put))
     where

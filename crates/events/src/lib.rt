@@ -1,9 +1,10 @@
-// One event on the tables of a sound book: the shared refusals first, then what it needs is looked up, and the kind decides which of the
-// nine functions posts it.
+// One event on the tables of a sound book: the shared refusals first, then what it needs is looked up, and the kind decides which
+// function posts it.
 use event_accounts::open_account;
 use event_accounts::request_close;
 use event_decision::decide;
 use event_dispute::hold_toll;
+use event_list::add_list;
 use event_lookups::Lookup;
 use event_lookups::look_up;
 use event_payment::post_payment;
@@ -21,6 +22,7 @@ use records::codes::EVENT_DECISION;
 use records::codes::EVENT_DISPUTE;
 use records::codes::EVENT_OPEN;
 use records::codes::EVENT_PAYMENT;
+use records::codes::EVENT_RATE_LIST;
 use records::codes::EVENT_RETURNED_CHECK;
 use records::codes::EVENT_TICK;
 use records::codes::EVENT_TOLL;
@@ -60,6 +62,7 @@ pub fn post_admitted(
         EVENT_TOPUP_RESULT => topup_result(header, accounts, journal, e, x, k),
         EVENT_CLOSE_REQUEST => request_close(header, accounts, journal, e, x),
         EVENT_TICK => tick(header, accounts, journal, e),
+        EVENT_RATE_LIST => add_list(header, accounts, journal, e),
         _ => refused(MALFORMED),
     }
 }

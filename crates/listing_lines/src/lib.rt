@@ -89,7 +89,7 @@ fn third_line(
     ensures { λ r. ⌜ Taken 2 (atEntry header accounts journal) (atEntry header accounts journal) (now (line .entry))
         (now (out .entry)) (now (out .exit)) at r ⌝ }
 {
-    if !same_bytes(line, b"kind,account,a,b,c,d,e") {
+    if !same_bytes(line, b"kind,account,a,b,c,d,e,f,g") {
         return bad_line(out, at, 2);
     }
     let end = write_text(out, at, b"event,answer,row,rows,raised,removed\n");

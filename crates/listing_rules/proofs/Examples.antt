@@ -17,19 +17,19 @@ unfolding computing dateText textOfDate twoDigits
     bytesOf same linesOf field line answerText rowText accountText bookText badLine listingTables opens isGood posted bookBy goodText listed listing
 shown = tt
 
--- the input of document 01's example, M1
+-- the input of document 01's example, M1, with f and g (document 02, No. 1)
 abbrev example : List ℕ
 example =
     bytesOf "day,len,f2,f3,f4,r1t,r1p,r2t,r2p,r3t,r3p\n"
     ++ bytesOf "1,30,500,2500,3000,250,500,600,900,1200,1600\n"
-    ++ bytesOf "kind,account,a,b,c,d,e\n"
-    ++ bytesOf "1,7,0,0,0,0,0\n"
-    ++ bytesOf "2,7,41,1,2,60,2\n"
-    ++ bytesOf "3,7,300,2,0,0,0\n"
-    ++ bytesOf "5,7,1,0,0,0,0\n"
-    ++ bytesOf "3,7,400,1,0,0,0\n"
-    ++ bytesOf "6,7,1,1,0,0,0\n"
-    ++ bytesOf "2,7,41,1,2,60,2\n"
+    ++ bytesOf "kind,account,a,b,c,d,e,f,g\n"
+    ++ bytesOf "1,7,0,0,0,0,0,0,0\n"
+    ++ bytesOf "2,7,41,1,2,60,2,0,0\n"
+    ++ bytesOf "3,7,300,2,0,0,0,0,0\n"
+    ++ bytesOf "5,7,1,0,0,0,0,0,0\n"
+    ++ bytesOf "3,7,400,1,0,0,0,0,0\n"
+    ++ bytesOf "6,7,1,1,0,0,0,0,0\n"
+    ++ bytesOf "2,7,41,1,2,60,2,0,0\n"
 
 -- what document 01 says that it prints
 abbrev printed : List ℕ
@@ -64,17 +64,45 @@ bad-event :
     listing
     (bytesOf "day,len,f2,f3,f4,r1t,r1p,r2t,r2p,r3t,r3p\n"
     ++ bytesOf "1,30,500,2500,3000,250,500,600,900,1200,1600\n"
-    ++ bytesOf "kind,account,a,b,c,d,e\n"
-    ++ bytesOf "1,7,0,0,0,0,0\n"
-    ++ bytesOf "2,7,41,1,2,60\n"
-    ++ bytesOf "1,8,0,0,0,0,0\n")
+    ++ bytesOf "kind,account,a,b,c,d,e,f,g\n"
+    ++ bytesOf "1,7,0,0,0,0,0,0,0\n"
+    ++ bytesOf "2,7,41,1,2,60,2,0\n"
+    ++ bytesOf "1,8,0,0,0,0,0,0,0\n")
     ≡ bytesOf "event,answer,row,rows,raised,removed\n" ++ bytesOf "1,0,0,0,0,0\n" ++ bytesOf "bad line 5\n"
 unfolding shown
 bad-event = refl
 
+-- "A toll takes the list in force on its passage day" (document 02, No. 1): the list that event 2 adds begins on day 3
+rated :
+    listing
+    (bytesOf "day,len,f2,f3,f4,r1t,r1p,r2t,r2p,r3t,r3p\n"
+    ++ bytesOf "2,30,500,2500,3000,250,500,600,900,1200,1600\n"
+    ++ bytesOf "kind,account,a,b,c,d,e,f,g\n"
+    ++ bytesOf "1,7,0,0,0,0,0,0,0\n"
+    ++ bytesOf "10,0,3,300,550,650,950,1250,1650\n"
+    ++ bytesOf "9,0,0,0,0,0,0,0,0\n"
+    ++ bytesOf "2,7,41,2,2,60,2,0,0\n"
+    ++ bytesOf "2,7,42,3,2,60,2,0,0\n")
+    ≡ bytesOf "event,answer,row,rows,raised,removed\n"
+    ++ bytesOf "1,0,0,0,0,0\n"
+    ++ bytesOf "2,0,0,0,0,0\n"
+    ++ bytesOf "3,0,0,0,0,0\n"
+    ++ bytesOf "4,0,1,1,0,0\n"
+    ++ bytesOf "5,0,2,1,0,0\n"
+    ++ bytesOf "row,account,kind,date,amount,settled\n"
+    ++ bytesOf "1,7,1,2000-01-03,500,0\n"
+    ++ bytesOf "2,7,1,2000-01-03,550,0\n"
+    ++ bytesOf "account,state,balance\n"
+    ++ bytesOf "7,1,-1050\n"
+unfolding shown
+rated = refl
+
 -- "for line 2, if the opening refuses it": there is no day 0; "for lines 1 to 3 that is the whole output"
 refused :
-    listing (bytesOf "day,len,f2,f3,f4,r1t,r1p,r2t,r2p,r3t,r3p\n" ++ bytesOf "0,30,500,2500,3000,250,500,600,900,1200,1600\n" ++ bytesOf "kind,account,a,b,c,d,e\n")
+    listing
+    (bytesOf "day,len,f2,f3,f4,r1t,r1p,r2t,r2p,r3t,r3p\n"
+    ++ bytesOf "0,30,500,2500,3000,250,500,600,900,1200,1600\n"
+    ++ bytesOf "kind,account,a,b,c,d,e,f,g\n")
     ≡ bytesOf "bad line 2\n"
 unfolding shown
 refused = refl

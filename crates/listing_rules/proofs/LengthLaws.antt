@@ -8,6 +8,7 @@ use native.Mathlib.Omega.{arith}
 use lib.Dec.{eqb}
 use borrow.Author.Tests.{eqb-true}
 use lib.ListN.{length}
+use Rattle.records.specs.Layout.{openingWidth, eventWidth}
 use Rattle.lists.specs.Tests.{_is_}
 use Rattle.lists.specs.Lists.{sumBy}
 use Rattle.lists.proofs.TestLaws.{and-left, and-right}
@@ -81,6 +82,6 @@ refuted false h = refl
 pub long-bad : (n : ℕ) (l : List ℕ) → mostLineBytes < length l → isGood n l ≡ false
 unfolding isGood opens bytesOf
 long-bad zero l h = refuted _ (λ e. omega (arith, same-length l _ e))
-long-bad (suc zero) l h = refuted _ (λ e. omega (arith, line-width 11 l (and-left _ _ e)))
+long-bad (suc zero) l h = refuted _ (λ e. omega (arith, line-width openingWidth l (and-left _ _ e)))
 long-bad (suc (suc zero)) l h = refuted _ (λ e. omega (arith, same-length l _ e))
-long-bad (suc (suc (suc n))) l h = refuted _ (λ e. omega (arith, line-width 7 l e))
+long-bad (suc (suc (suc n))) l h = refuted _ (λ e. omega (arith, line-width eventWidth l e))

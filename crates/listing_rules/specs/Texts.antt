@@ -34,9 +34,9 @@ linesOf (b ∷ bs) = cond (b is 10) ([] ∷ linesOf bs) (inFirst b (linesOf bs))
 abbrev pub openingNames : List ℕ
 openingNames = bytesOf "day,len,f2,f3,f4,r1t,r1p,r2t,r2p,r3t,r3p"
 
--- "a line of event names"
+-- "a line of event names"; "The listing's event names and lines, M1's too, gain f and g" (document 02, No. 1)
 abbrev pub eventNames : List ℕ
-eventNames = bytesOf "kind,account,a,b,c,d,e"
+eventNames = bytesOf "kind,account,a,b,c,d,e,f,g"
 
 -- ---- output: "prints event answers, rows, used accounts"
 

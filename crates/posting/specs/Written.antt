@@ -9,16 +9,22 @@ use Rattle.records.specs.Layout.{dayPlace, usedPlace, headerSchedule}
 use Rattle.records.specs.Encoding.{word, rowAt, rowsOf, accountsOf}
 use Rattle.rules.specs.Rows.{Row}
 use Rattle.rules.specs.Book.{Book}
-use Rattle.rules.specs.Tables.{Tables, accountsIn, roomIn, rowsUsed, scheduleFrom}
+use Rattle.rules.specs.Tables.{Tables, accountsIn, roomIn, rowsUsed, bookOf}
 
--- u holds the book b where t held a book of no more rows
+-- the words of the schedule and of the rate lists stay
+abbrev pub Fixed : List ℤ → List ℤ → Type 0
+Fixed h h′ = (k : ℕ) → headerSchedule ≤ k → word h′ k ≡ word h k
+
+-- u holds the book b where t held a book of no more rows, with the same schedule and rate lists
 pub record Written (t u : Tables) (b : Book) : Type 0 where
   pub header-size : length (u .header) ≡ length (t .header)
   pub accounts-size : length (u .accounts) ≡ length (t .accounts)
   pub journal-size : length (u .journal) ≡ length (t .journal)
   pub day : word (u .header) dayPlace ≡ b .day
   pub used : word (u .header) usedPlace ≡ length (b .rows)
-  pub schedule : scheduleFrom (u .header) headerSchedule ≡ b .schedule
+  pub fixed : Fixed (t .header) (u .header)
+  pub schedule : b .schedule ≡ bookOf t .schedule
+  pub lists : b .lists ≡ bookOf t .lists
   pub accounts : accountsOf (u .accounts) (accountsIn t) ≡ b .accounts
   pub rows : rowsOf (u .journal) (length (b .rows)) ≡ b .rows
   pub room : b .room ≡ roomIn t

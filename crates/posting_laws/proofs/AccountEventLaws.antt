@@ -11,7 +11,7 @@ use Rattle.records.specs.Codes.{EventTick}
 use Rattle.lists.specs.Tests.{_is_}
 use Rattle.lists.specs.Lists.{sumBy, count}
 use Rattle.rules.specs.Book.{Account, Instruction, Book, putAccount}
-use Rattle.rules.specs.Refusals.{changeOf, after, full, ceiling, answerNumber}
+use Rattle.rules.specs.Refusals.{wholeBook, changeOf, after, full, ceiling, answerNumber}
 use Rattle.rules.specs.Posting.{newRows, removesTopup, acceptance}
 use Rattle.rules.specs.Tables.{Tables, accountsIn, rowsUsed, bookOf, soundTables}
 use Rattle.rules.proofs.StorableLaws.{rows-le}
@@ -22,7 +22,7 @@ use Rattle.posting.specs.Posts.{tablesAt, acceptanceOf, Posts}
 use Rattle.posting.proofs.BookLaws.{count-read}
 use Rattle.posting_laws.proofs.RefusalLaws.{length-after, no-ceiling}
 use Rattle.posting_laws.proofs.AddedLaws.{posts-accepted}
-use Rattle.posting_laws.proofs.EventLaws.{known-inside, account-written, after-account}
+use Rattle.posting_laws.proofs.EventLaws.{known-inside, named-no-tick, account-written, after-account}
 
 -- ---- 13 and 14: no row is added
 
@@ -50,7 +50,7 @@ module _ (b : Book) (e : Instruction) (c : changeOf (e .kind) b e .rows ≡ b .r
 
 -- ---- accepted
 
-module _ (t : Tables) (s : soundTables t ≡ true) (e : Instruction) (k : e .kind is EventTick ≡ false) (q : 0 ≡ answerNumber (bookOf t) e) where
+module _ (t : Tables) (s : soundTables t ≡ true) (e : Instruction) (k : wholeBook e ≡ false) (q : 0 ≡ answerNumber (bookOf t) e) where
   -- the account that the event names is one of the table's
   pub named-inside : (1 ≤ e .account) × (e .account ≤ accountsIn t)
   named-inside =
@@ -65,5 +65,5 @@ module _ (t : Tables) (s : soundTables t ≡ true) (e : Instruction) (k : e .kin
       → (acc : List ℤ) → AccountChanged (t .accounts) acc (e .account - 1) x
       → Posts t (tablesAt (t .header) acc (t .journal)) e (acceptanceOf (rowsUsed t) 0 0 (cond (removesTopup (bookOf t) e) 1 0))
   account-posts x c acc w =
-      posts-accepted t (tablesAt (t .header) acc (t .journal)) s e _ q (acceptance-rowless (bookOf t) e (rw c) k)
+      posts-accepted t (tablesAt (t .header) acc (t .journal)) s e _ q (acceptance-rowless (bookOf t) e (rw c) (named-no-tick e k))
       (rw (after-account t s e (e .account) x c) (account-written t s acc (e .account) x w (omega (arith, named-inside .0, named-inside .1))))

@@ -1,5 +1,5 @@
 -- What is posted: the answer of an accepted event, and the tables after one row is added and an account settled.
-use mathlib.Core.Path.{_≡_, sym, _∙_}
+use mathlib.Core.Path.{_≡_, refl, sym, _∙_}
 use mathlib.Core.Bool.{true, false}
 use Prim.Native.Nat.{ℕ, _+_, _-_, _^_, _<_}
 use native.Mathlib.Omega.{arith}
@@ -8,16 +8,15 @@ use mathlib.Core.List.{List, [], _∷_, _++_}
 use lib.ListN.{length, length-set, length-append}
 use lib.IntN.{ℤ}
 use borrow.Author.Tests.{eq-eqb}
-use Rattle.records.specs.Codes.{EventTick}
-use Rattle.records.specs.Layout.{dayPlace, usedPlace, headerSchedule}
+use Rattle.records.specs.Layout.{dayPlace, usedPlace}
 use Rattle.records.specs.Encoding.{word, rowAt, rowsOf, accountsOf}
 use Rattle.lists.specs.Tests.{_is_}
 use Rattle.rules.specs.Rows.{Row}
 use Rattle.rules.specs.Settlement.{settle}
 use Rattle.rules.specs.Book.{Account, Instruction, Answer, Book}
-use Rattle.rules.specs.Refusals.{after, answerNumber}
+use Rattle.rules.specs.Refusals.{wholeBook, after, answerNumber}
 use Rattle.rules.specs.Posting.{newRows, removesTopup, acceptance, refusalBy}
-use Rattle.rules.specs.Tables.{Tables, accountsIn, roomIn, rowsUsed, scheduleFrom, bookOf, soundTables}
+use Rattle.rules.specs.Tables.{Tables, accountsIn, roomIn, rowsUsed, bookOf, tablesOf, soundTables}
 use Rattle.rules.proofs.PostingLaws.{post-refused, post-accepted}
 use Rattle.rules.proofs.SettlementLaws.{length-settle}
 use Rattle.rules.proofs.SoundnessLaws.{facts-sound}
@@ -26,20 +25,20 @@ use Rattle.preservation.proofs.SoundKept.{after-keeps-sound}
 use Rattle.tables.proofs.ChangeLaws.{changed-append, word-same, word-other}
 use Rattle.settlement.specs.Settling.{Journal, Settled}
 use Rattle.posting.specs.Posts.{tablesAt, acceptanceOf, RowAdded, Posts}
-use Rattle.posting.proofs.BookLaws.{day-read, used-read, room-read, schedule-read, journal-settles}
-use Rattle.posting_laws.proofs.HeaderLaws.{schedule-same}
+use Rattle.posting.proofs.BookLaws.{day-read, used-read, room-read, journal-settles}
 use Rattle.posting.specs.Written.{Written}
+use Rattle.posting_laws.proofs.EventLaws.{named-no-tick}
 use Rattle.posting_laws.proofs.WrittenLaws.{tables-written}
 
 -- ---- the answer
 
--- an event that is neither a tick nor a third decline
-pub acceptance-plain : (b : Book) (e : Instruction) (n : ℕ) → length (after b e .rows) ≡ length (b .rows) + n → e .kind is EventTick ≡ false → removesTopup b e ≡ false
+-- an event that names an account and is no third decline
+pub acceptance-plain : (b : Book) (e : Instruction) (n : ℕ) → length (after b e .rows) ≡ length (b .rows) + n → wholeBook e ≡ false → removesTopup b e ≡ false
     → acceptanceOf (length (b .rows)) n 0 0 ≡ acceptance b e
 unfolding acceptance newRows
 acceptance-plain b e n l k r =
     let z : length (b .rows) + n - length (b .rows) ≡ n = omega arith in
-    rw (l, z, k, r)
+    rw (l, z, named-no-tick e k, r)
 
 -- ---- refused: the tables stay
 
@@ -50,12 +49,14 @@ posts-refused t s e n q z =
 
 -- ---- accepted: the tables hold the book after the event
 
+pub posts-after : (t u : Tables) (e : Instruction) (r : Answer) → 0 ≡ answerNumber (bookOf t) e → r ≡ acceptance (bookOf t) e → u ≡ tablesOf (after (bookOf t) e) → Posts t u e r
+posts-after t u e r q a w = let p = post-accepted (bookOf t) e (eq-eqb _ _ (sym q)) in record { answer = rw p a; tables = rw p w }
+
 pub posts-accepted : (t u : Tables) → soundTables t ≡ true → (e : Instruction) (r : Answer) → 0 ≡ answerNumber (bookOf t) e → r ≡ acceptance (bookOf t) e
     → Written t u (after (bookOf t) e) → Posts t u e r
 posts-accepted t u s e r q a w =
-    let p = post-accepted (bookOf t) e (eq-eqb _ _ (sym q)) in
     let k = after-keeps-sound (bookOf t) e (facts-sound (bookOf t) (sound-book t s)) (sym q) in
-    record { answer = rw p a; tables = rw p (tables-written t u (after (bookOf t) e) s k w) }
+    posts-after t u e r q a (tables-written t u (after (bookOf t) e) s k w)
 
 -- ---- one row added, and then settlement of account a
 
@@ -66,6 +67,7 @@ module _ (t : Tables) (s : soundTables t ≡ true) (h j j″ acc : List ℤ) (r 
   grown = record {
     day = bookOf t .day;
     schedule = bookOf t .schedule;
+    lists = bookOf t .lists;
     accounts = xs;
     rows = settle a (bookOf t .rows ++ (r ∷ []));
     room = bookOf t .room;
@@ -83,9 +85,6 @@ module _ (t : Tables) (s : soundTables t ≡ true) (h j j″ acc : List ℤ) (r 
   used-word : word h usedPlace ≡ rowsUsed t + 1
   used-word = rw (w .header) (word-same (t .header) usedPlace _ (omega (arith, header-length t s)))
 
-  same-schedule : scheduleFrom h headerSchedule ≡ scheduleFrom (t .header) headerSchedule
-  same-schedule = schedule-same (t .header) h (λ k l. other-word k (λ z. omega arith))
-
   pub row-written : Written t (tablesAt h acc j″) grown
   row-written = record {
     header-size = rw (w .header) (length-set (t .header) usedPlace _);
@@ -93,7 +92,9 @@ module _ (t : Tables) (s : soundTables t ≡ true) (h j j″ acc : List ℤ) (r 
     journal-size = d .size ∙ w .row .size;
     day = other-word dayPlace (λ z. omega arith) ∙ day-read t s;
     used = used-word ∙ sym length-grown;
-    schedule = same-schedule ∙ schedule-read t s;
+    fixed = λ k q. other-word k (λ z. omega arith);
+    schedule = refl;
+    lists = refl;
     accounts = held;
     rows = rw length-grown (d .rows ∙ rw rows-grown);
     room = sym (room-read t s);

@@ -8,7 +8,7 @@ use lib.ListN.{length, length-set}
 use lib.IntN.{ℤ}
 use lib.Dec.{leb}
 use borrow.Author.Tests.{leb-true, not-false}
-use Rattle.records.specs.Codes.{EventOpen}
+use Rattle.records.specs.Codes.{EventOpen, EventTick, EventRateList}
 use Rattle.lists.specs.Tests.{_is_, _from_to_}
 use Rattle.lists.proofs.TestLaws.{and-left, and-right, or-left}
 use Rattle.rules.specs.Book.{Account, Instruction, StateUnused, Book, account, putAccount}
@@ -19,10 +19,10 @@ use Rattle.preservation.proofs.NamedLaws.{settled-unmoved}
 use Rattle.tables.specs.Changes.{AccountChanged}
 use Rattle.tables.proofs.ChangeLaws.{changed-accounts}
 use Rattle.posting.specs.Posts.{tablesAt}
-use Rattle.posting.proofs.BookLaws.{day-read, used-read, room-read, schedule-read}
+use Rattle.posting.proofs.BookLaws.{day-read, used-read, room-read}
 use Rattle.posting.specs.Written.{Written}
 
--- ---- the account that an event other than a tick names is one of the table's, where refusal 3 does not apply
+-- ---- the account that an event names, if it does not concern the whole book, is one of the table's, where refusal 3 does not apply
 
 pub known-inside : (b : Book) (e : Instruction) → wholeBook e ≡ false → unknown b e ≡ false → (1 ≤ e .account) × (e .account ≤ length (b .accounts))
 unfolding unknown
@@ -32,6 +32,10 @@ known-inside b e k u =
       leb-true 1 n (and-left (leb 1 n) (leb n (length (b .accounts))) i),
       leb-true n (length (b .accounts)) (and-right (leb 1 n) (leb n (length (b .accounts))) i),
     )
+
+-- such an event is no tick
+pub named-no-tick : (e : Instruction) → wholeBook e ≡ false → e .kind is EventTick ≡ false
+named-no-tick e k = or-left (e .kind is EventTick) (e .kind is EventRateList) k
 
 -- ---- an account alone is changed
 
@@ -44,7 +48,9 @@ module _ (t : Tables) (s : soundTables t ≡ true) where
     journal-size = refl;
     day = day-read t s;
     used = used-read t s;
-    schedule = schedule-read t s;
+    fixed = λ k q. refl;
+    schedule = refl;
+    lists = refl;
     accounts = changed-accounts (t .accounts) acc (n - 1) x w (accountsIn t) l ∙ (unfold bookOf in refl);
     rows = rw (← used-read t s) (sym (sound-rows t s));
     room = sym (room-read t s);

@@ -7,14 +7,14 @@ use native.Mathlib.Omega.{arith}
 use mathlib.Core.List.{List, [], _++_, append-nil}
 use lib.ListN.{length, set, length-set}
 use lib.IntN.{ℤ}
-use borrow.Author.Tests.{ne-eqb}
+use borrow.Author.Tests.{eqb-false, ne-eqb}
 use Rattle.records.specs.Codes.{EventTopupResult, EventTick}
 use Rattle.records.specs.Encoding.{rowsOf}
 use Rattle.lists.specs.Lists.{sumBy, count}
 use Rattle.rules.specs.Rows.{Row, rowNo}
 use Rattle.rules.specs.Settlement.{settle}
 use Rattle.rules.specs.Book.{Instruction, Book, withRows, row, putRow}
-use Rattle.rules.specs.Refusals.{changeOf, after, ceiling, answerNumber}
+use Rattle.rules.specs.Refusals.{wholeBook, changeOf, after, ceiling, answerNumber}
 use Rattle.rules.specs.Posting.{removesTopup}
 use Rattle.rules.specs.Tables.{Tables, rowsUsed, bookOf, soundTables}
 use Rattle.rules.proofs.TableLaws.{sound-book, used-le}
@@ -27,7 +27,7 @@ use Rattle.posting.specs.Posts.{tablesAt, acceptanceOf, Posts}
 use Rattle.posting.proofs.BookLaws.{row-read, used-read}
 use Rattle.posting_laws.proofs.RefusalLaws.{length-after, no-ceiling}
 use Rattle.posting_laws.proofs.AddedLaws.{acceptance-plain, posts-accepted}
-use Rattle.posting_laws.proofs.EventLaws.{known-inside}
+use Rattle.posting_laws.proofs.EventLaws.{known-inside, named-no-tick}
 use Rattle.posting.specs.Written.{UsedRows}
 use Rattle.posting_laws.proofs.UsedRowsLaws.{used-rows-before, rows-put, rows-settle, rows-written, used-rows-settles, small-before, small-put}
 
@@ -82,17 +82,17 @@ module _ (t : Tables) (s : soundTables t ≡ true) (e : Instruction) (q : 0 ≡ 
   put-settles a =
       rw length-rows at (used-rows-settles t s (t .header) j rows put-used (rw length-rows (used-le t s)) (small-put (b .rows) (e .a - 1) r within a (small-before t s)))
 
-  module _ (kind-7 : e .kind ≢ EventTopupResult) (kind-9 : e .kind ≢ EventTick) where
+  module _ (kind-7 : e .kind ≢ EventTopupResult) (names : wholeBook e ≡ false) where
     after-put : after b e ≡ withRows (settle (e .account) rows) b
     after-put =
-        let i = known-inside b e (ne-eqb (e .kind) 9 kind-9) (acc .known) in
-        after-named b e (sound-book t s) kind-9 acc (i .0) (i .1) (rw c) ∙ rw c
+        let i = known-inside b e names (acc .known) in
+        after-named b e (sound-book t s) (eqb-false (e .kind) EventTick (named-no-tick e names)) acc (i .0) (i .1) (rw c) ∙ rw c
 
     pub put-posts : (j″ : List ℤ) → Settled j j″ (rowsUsed t) (e .account) → Posts t (tablesAt (t .header) (t .accounts) j″) e (acceptanceOf (rowsUsed t) 0 0 0)
     unfolding removesTopup
     put-posts j″ d =
         posts-accepted t (tablesAt (t .header) (t .accounts) j″) s e (acceptanceOf (rowsUsed t) 0 0 0) q
-        (acceptance-plain b e 0 (length-put b e (e .a) r c) (ne-eqb (e .kind) 9 kind-9) (rw (ne-eqb (e .kind) 7 kind-7)))
+        (acceptance-plain b e 0 (length-put b e (e .a) r c) names (rw (ne-eqb (e .kind) 7 kind-7)))
         (rw after-put
         (rows-written t (t .header) j″ (settle (e .account) rows) (rows-settle t (t .header) j j″ rows put-used (e .account) (rw length-rows d))
         (t .accounts) (b .accounts) refl (unfold bookOf in refl)))

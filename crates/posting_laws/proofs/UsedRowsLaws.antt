@@ -25,7 +25,7 @@ use Rattle.settlement.specs.Settling.{Journal, Settled}
 use Rattle.posting.specs.Posts.{tablesAt, RowRoom, RowAdded}
 use Rattle.posting.proofs.BookLaws.{row-holds}
 use Rattle.posting_laws.proofs.HeaderLaws.{schedule-same}
-use Rattle.posting.specs.Written.{Written, UsedRows}
+use Rattle.posting.specs.Written.{Fixed, Written, UsedRows}
 
 -- each amount is one that a word holds
 abbrev pub SmallAmounts : List Row → Type 0
@@ -132,9 +132,12 @@ module _ (t : Tables) (h j : List ℤ) (rows : List Row) (u : UsedRows t h j row
   pub rows-row : (k : ℕ) → k < length rows → rowAt j k ≡ getD rows k blank
   rows-row k q = sym (tabulate-at (rowAt j) (length rows) k blank q) ∙ ap (λ (xs : List Row). getD xs k blank) (u .rows)
 
+  rows-fixed : Fixed (t .header) h
+  rows-fixed k l = u .words k (λ z. omega arith)
+
   pub rows-schedule : scheduleFrom h headerSchedule ≡ bookOf t .schedule
   unfolding bookOf
-  rows-schedule = schedule-same (t .header) h (λ k l. u .words k (λ z. omega arith))
+  rows-schedule = schedule-same (t .header) h rows-fixed
 
   -- there is a row for one more, and its day is the book's
   pub rows-room : length (t .header) ≡ headerWidth → length rows < roomIn t → RowRoom h j
@@ -153,7 +156,9 @@ module _ (t : Tables) (h j : List ℤ) (rows : List Row) (u : UsedRows t h j row
     journal-size = u .journal-size;
     day = rows-day;
     used = u .used;
-    schedule = rows-schedule;
+    fixed = rows-fixed;
+    schedule = refl;
+    lists = refl;
     accounts = held;
     rows = u .rows;
     room = refl;

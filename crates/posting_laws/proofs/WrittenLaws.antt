@@ -8,7 +8,7 @@ use lib.ListN.{length, drop, length-drop}
 use lib.Seq.{getD-drop}
 use lib.IntN.{ℤ, pos}
 use borrow.Author.Tests.{le-leb, eq-eqb, eqb-true}
-use Rattle.records.specs.Layout.{rowWidth}
+use Rattle.records.specs.Layout.{headerSchedule, headerLists, listWidth, rowWidth}
 use Rattle.records.specs.Encoding.{word, rowFrom, rowAt}
 use Rattle.lists.specs.Tests.{allOf}
 use Rattle.lists.specs.Lists.{everyFrom}
@@ -16,11 +16,12 @@ use Rattle.lists.proofs.ListLaws.{every-at, every-all}
 use Rattle.rules.specs.Rows.{Row}
 use Rattle.rules.specs.Book.{Book}
 use Rattle.rules.specs.Soundness.{sound}
-use Rattle.rules.specs.Tables.{Tables, roomIn, rowsUsed, bookOf, tablesOf, wholeRecords, lengthsFit, usedFits, zeroWord, laterRowsZero, soundTables}
+use Rattle.rules.specs.Tables.{Tables, roomIn, rowsUsed, scheduleFrom, listsUsed, listsIn, bookOf, tablesOf, wholeRecords, lengthsFit, usedFits, zeroWord, laterRowsZero, unusedListsZero, soundTables}
 use Rattle.rules.proofs.SoundnessLaws.{sound-facts}
 use Rattle.rules.proofs.StorableLaws.{rows-le}
 use Rattle.rules.proofs.TableLaws.{tablesOf-bookOf, sound-part}
 use Rattle.posting.specs.Written.{Written}
+use Rattle.posting_laws.proofs.HeaderLaws.{schedule-same, used-lists-same, lists-same}
 
 -- ---- two tables with the same row have the same words there
 
@@ -52,6 +53,16 @@ from-zero xs p z =
     every-all zeroWord 1 (drop p xs) (pos 0) (λ k n q h.
     rw (getD-drop p xs k (pos 0)) (eq-eqb _ 0 (z (p + k) (omega arith) (omega (arith, length-drop p xs)))))
 
+-- ---- the book that is written
+
+pub written-book : (t u : Tables) (b : Book) → Written t u b → length (b .rows) ≤ roomIn t → bookOf u ≡ b
+unfolding bookOf
+written-book t u b w l =
+    let m : min (length (b .rows)) (roomIn t) ≡ length (b .rows) = omega arith in
+    let s : scheduleFrom (u .header) headerSchedule ≡ b .schedule = schedule-same (t .header) (u .header) (w .fixed) ∙ sym (w .schedule) in
+    let r : listsIn (u .header) ≡ b .lists = lists-same (t .header) (u .header) (w .fixed) ∙ sym (w .lists) in
+    rw (w .used, w .accounts-size, w .journal-size, m, w .day, s, r, w .accounts, w .rows, ← w .room)
+
 -- ---- the law
 
 module _ (t u : Tables) (b : Book) (st : soundTables t ≡ true) (sb : sound b ≡ true) (w : Written t u b) where
@@ -77,15 +88,22 @@ module _ (t u : Tables) (b : Book) (st : soundTables t ≡ true) (sb : sound b �
       let z : word (t .journal) m ≡ 0 = zero-from (t .journal) (rowsUsed t * rowWidth) (sound-part t st 2) m (omega arith) g in
       rw e (same-word (t .journal) (u .journal) k (m % rowWidth) (omega arith) (w .rest k (omega arith)) ∙ rw (← e) z)))
 
+  -- no list is used that was not, and the words after them stay 0
+  lists-zero : unusedListsZero u ≡ true
+  unfolding unusedListsZero
+  lists-zero =
+      let n : listsUsed (u .header) ≡ listsUsed (t .header) = used-lists-same (t .header) (u .header) (w .fixed) in
+      rw n
+      (from-zero (u .header) (headerLists + listsUsed (t .header) * listWidth) (λ m l h.
+      w .fixed m (omega arith)
+      ∙ zero-from (t .header) (headerLists + listsUsed (t .header) * listWidth) (sound-part t st 3) m l (rw (w .header-size) at h)))
+
   pub book-written : bookOf u ≡ b
-  unfolding bookOf
-  book-written =
-      let m : min (length (b .rows)) (roomIn t) ≡ length (b .rows) = omega (arith, rows-room) in
-      rw (w .used, w .accounts-size, w .journal-size, m, w .day, w .schedule, w .accounts, w .rows, ← w .room)
+  book-written = written-book t u b w rows-room
 
   pub sound-written : soundTables u ≡ true
   unfolding soundTables allOf
-  sound-written = rw (lengths-fit, used-fits, rest-zero, book-written, sb)
+  sound-written = rw (lengths-fit, used-fits, rest-zero, lists-zero, book-written, sb)
 
   pub tables-written : u ≡ tablesOf b
   tables-written = sym (tablesOf-bookOf u sound-written) ∙ ap tablesOf book-written

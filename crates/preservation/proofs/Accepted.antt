@@ -3,12 +3,13 @@ use mathlib.Core.Path.{_≡_, refl}
 use mathlib.Core.Bool.{false, not}
 use Prim.Native.Nat.{ℕ}
 use Rattle.lists.proofs.TestLaws.{positive, caseOf, first-zero}
-use Rattle.records.specs.Numbers.{Malformed, Unknown, Taken, Closed, Unclassed, Misdated, Duplicate, Barred, NoRow, Untimely, LastDay, Full, Ceiling}
+use Rattle.records.specs.Numbers.{Malformed, Unknown, Taken, Closed, Unclassed, Misdated, Duplicate, Barred, NoRow, Untimely, LastDay, Full, Ceiling, ListRefused}
 use Rattle.rules.specs.Book.{Instruction, Book}
-use Rattle.rules.specs.Refusals.{wellFormed, unknown, taken, onClosed, unclassed, misdated, duplicate, barred, noRow, untimely, lastDay, full, ceiling, refusals, answerNumber}
+use Rattle.rules.specs.Refusals.{wellFormed, listRefused, unknown, taken, onClosed, unclassed, misdated, duplicate, barred, noRow, untimely, lastDay, full, ceiling, refusals, answerNumber}
 
 pub record Accepted (b : Book) (e : Instruction) : Type 0 where
   pub formed : not (wellFormed e) ≡ false
+  pub last : listRefused b e ≡ false
   pub known : unknown b e ≡ false
   pub free : taken b e ≡ false
   pub unclosed : onClosed b e ≡ false
@@ -28,6 +29,7 @@ accepted b e q =
     let fails : (n : ℕ) → caseOf (refusals b e) n ≡ false = first-zero (refusals b e) refl q in
     record {
       formed = fails Malformed;
+      last = fails ListRefused;
       known = fails Unknown;
       free = fails Taken;
       unclosed = fails Closed;

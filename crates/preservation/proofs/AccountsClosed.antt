@@ -132,6 +132,7 @@ module _ (b : Book) where
       record {
         day = n .day;
         schedule = n .schedule;
+        lists = n .lists;
         sizes = rw la (n .sizes);
         fits = le-leb (length (rows′ b)) (b .room) room;
         shape = λ k h. grown-each (useUp b) blank (up-blank b) (b .rows) (refunds b) k (λ x. Shape (b .day) accounts′ (rows′ b) (suc k) x) h

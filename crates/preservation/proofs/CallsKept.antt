@@ -15,10 +15,9 @@ use Rattle.records.specs.Limits.{mostEvents}
 use Rattle.rules.specs.Book.{Instruction, Book}
 use Rattle.rules.specs.Soundness.{sound}
 use Rattle.rules.specs.Posting.{post, bookAfter}
-use Rattle.rules.specs.Tables.{Tables, bookOf, tablesOf, lengthsFit, usedFits, laterRowsZero, soundTables}
+use Rattle.rules.specs.Tables.{Tables, bookOf, tablesOf, lengthsFit, usedFits, laterRowsZero, unusedListsZero, soundTables}
 use Rattle.rules.specs.Calls.{Event, eventRefusals, eventCall, batchRefusals, batchCall}
 use Rattle.rules.proofs.SoundnessLaws.{sound-facts}
-use Rattle.rules.proofs.StorableLaws.{rows-le}
 use Rattle.rules.proofs.PostingLaws.{post-refused, post-number, eventCall-refused-tables, batchCall-refused, batchCall-runs}
 use Rattle.rules.proofs.TableLaws.{bookOf-tablesOf, soundTables-tablesOf}
 use Rattle.preservation.proofs.SoundKept.{post-keeps-sound, bookAfter-keeps-sound}
@@ -27,11 +26,11 @@ use Rattle.preservation.proofs.SoundKept.{post-keeps-sound, bookAfter-k
 
 book-sound : (t : Tables) → soundTables t ≡ true → sound (bookOf t) ≡ true
 unfolding soundTables
-book-sound t s = allOf-at (lengthsFit t ∷ usedFits t ∷ laterRowsZero t ∷ sound (bookOf t) ∷ []) s 3
+book-sound t s = allOf-at (lengthsFit t ∷ usedFits t ∷ laterRowsZero t ∷ unusedListsZero t ∷ sound (bookOf t) ∷ []) s 4
 
 -- a sound book is read back from its tables
 pub bookOf-sound : (b : Book) → sound b ≡ true → bookOf (tablesOf b) ≡ b
-bookOf-sound b s = bookOf-tablesOf b (rows-le (b .day) b (sound-facts b s .near))
+bookOf-sound b s = bookOf-tablesOf b (sound-facts b s .near)
 
 -- ---- a single event
 

@@ -1,4 +1,4 @@
--- Events 1 to 8 change no account and no row of an account that they do not name, before settlement.
+-- Events but the tick change no account and no row of an account that they do not name, before settlement.
 use mathlib.Core.Path.{_≡_, refl, ap}
 use mathlib.Core.Logic.{_≢_}
 use mathlib.Core.Bool.{Bool, true, false, not, cond, _||_, true≢false}
@@ -14,7 +14,7 @@ use Rattle.records.specs.AccountOperations.{opened, checkReturned, declinedOn, 
 use Rattle.lists.specs.Tests.{_from_to_}
 use Rattle.rules.specs.Rows.{Row, withMark}
 use Rattle.rules.specs.Book.{Account, unused, Instruction, Book, account, accountNo, row, putAccount}
-use Rattle.rules.specs.Events.{openAccount, postToll, postPayment, returnCheck, holdFrom, holdToll, release, uphold, reject, decide, payTopup, declineTopup, topupResult, requestClose}
+use Rattle.rules.specs.Events.{openAccount, postToll, postPayment, returnCheck, holdFrom, holdToll, release, uphold, reject, decide, payTopup, declineTopup, topupResult, requestClose, addList}
 use Rattle.rules.specs.Refusals.{changeOf, unknown, noRow}
 use Rattle.rules.specs.SoundFacts.{Near}
 use Rattle.rules.proofs.KindLaws.{by-kind}
@@ -95,7 +95,7 @@ topup-others b e = go (eqb (e .b) 1)
 -- an event but a tick changes rows of its own account alone
 pub change-others : (b : Book) (e : Instruction) (k : ℕ) → Near (b .day) b → k ≢ EventTick → Accepted b (ofKind k e)
     → Others (e .account) (b .rows) (changeOf k b (ofKind k e) .rows)
-unfolding changeOf openAccount postToll postPayment requestClose
+unfolding changeOf openAccount postToll postPayment requestClose addList
 change-others b e k s ne q =
     let n : ℕ = e .account in
     by-kind (λ k. k ≢ EventTick → Accepted b (ofKind k e) → Others n (b .rows) (changeOf k b (ofKind k e) .rows))
@@ -109,6 +109,7 @@ change-others b e k s ne q =
       topup-result = λ ne q. topup-others b (ofKind EventTopupResult e);
       close-request = λ ne q. others-same n (b .rows);
       tick = λ ne q. absurd (ne refl);
+      rate-list = λ ne q. others-same n (b .rows);
       none = λ ne q. others-same n (b .rows);
       past = λ k ne q. others-same n (b .rows);
     }) k ne q
@@ -134,7 +135,7 @@ topup-account b e i ne q = go (eqb (e .b) 1)
 -- an event but a tick changes no account but its own
 pub change-account : (b : Book) (e : Instruction) (k : ℕ) → k ≢ EventTick → Accepted b (ofKind k e) → (i : ℕ) → i ≢ e .account
     → account (changeOf k b (ofKind k e)) i ≡ account b i
-unfolding changeOf openAccount postToll postPayment returnCheck holdToll requestClose unknown
+unfolding changeOf openAccount postToll postPayment returnCheck holdToll requestClose addList unknown
 change-account b e k ne q i w =
     let n : ℕ = e .account in
     by-kind (λ k. k ≢ EventTick → Accepted b (ofKind k e) → account (changeOf k b (ofKind k e)) i ≡ account b i)
@@ -148,6 +149,7 @@ change-account b e k ne q i w =
       topup-result = λ ne q. topup-account b (ofKind EventTopupResult e) i w q;
       close-request = λ ne q. put-account b n i (closeRequestedOn (b .day) (account b n)) _ (q .known) w;
       tick = λ ne q. absurd (ne refl);
+      rate-list = λ ne q. refl;
       none = λ ne q. refl;
       past = λ k ne q. refl;
     }) k ne q

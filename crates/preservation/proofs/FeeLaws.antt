@@ -73,7 +73,6 @@ pub record ScheduleParts (s : Schedule) : Type 0 where
   pub fee2 : s .fee2 ≤ highestFee
   pub fee3 : s .fee3 ≤ highestFee
   pub fee4 : s .fee4 ≤ highestFee
-  pub rates : ratesFit (s .rates) ≡ true
 
 pub schedule-parts : (s : Schedule) → scheduleFits s ≡ true → ScheduleParts s
 unfolding scheduleFits
@@ -82,15 +81,13 @@ schedule-parts s f =
     let a2 : Bool = leb (s .fee2) highestFee in
     let a3 : Bool = leb (s .fee3) highestFee in
     let a4 : Bool = leb (s .fee4) highestFee in
-    let e4 = and-left (a1 && a2 && a3 && a4) _ f in
-    let e3 = and-left (a1 && a2 && a3) a4 e4 in
+    let e3 = and-left (a1 && a2 && a3) a4 f in
     let e2 = and-left (a1 && a2) a3 e3 in
     record {
       stage = leb-true 1 (s .stage) (and-left (leb 1 (s .stage)) (leb (s .stage) longestStage) (and-left a1 a2 e2));
       fee2 = leb-true (s .fee2) highestFee (and-right a1 a2 e2);
       fee3 = leb-true (s .fee3) highestFee (and-right (a1 && a2) a3 e3);
-      fee4 = leb-true (s .fee4) highestFee (and-right (a1 && a2 && a3) a4 e4);
-      rates = and-right (a1 && a2 && a3 && a4) _ f;
+      fee4 = leb-true (s .fee4) highestFee (and-right (a1 && a2 && a3) a4 f);
     }
 
 pub stageFee-le : (s : Schedule) → ScheduleParts s → (j : ℕ) → stageFee s j ≤ highestFee

@@ -139,7 +139,7 @@ endHolds-near b s ne =
     framed-near (b .day) (endHolds (nextDay b))
     (framed-map (b .day) (nextDay b) f refl
     (λ r. record { kind = ap (λ (x : Row). x .kind) (same r); account = ap (λ (x : Row). x .account) (same r); reference = ap (λ (x : Row). x .reference) (same r) })
-    (and-both _ _ (le-leb 1 (b .day + 1) (omega arith)) (le-leb (b .day + 1) finalDay (omega arith))) (s .schedule) (s .sizes) (s .fits)
+    (and-both _ _ (le-leb 1 (b .day + 1) (omega arith)) (le-leb (b .day + 1) finalDay (omega arith))) (s .schedule) (s .lists) (s .sizes) (s .fits)
     (λ k l. shape-endHold (b .day + 1) (b .accounts) (b .rows) (suc k) (getD (b .rows) k blank) (shape-later (b .day) (b .accounts) (b .rows) (suc k) (getD (b .rows) k blank) (s .shape k l)))
     (λ k l. live-endHold (b .day) (b .schedule .stage) (getD (b .rows) k blank) (s .live k l))
     (λ k h. standing-later (b .day) (getD (b .accounts) k unused) (s .standing k h)))

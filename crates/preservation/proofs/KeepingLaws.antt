@@ -15,6 +15,7 @@ use Rattle.lists.specs.Lists.{sumBy, only, count}
 use Rattle.lists.proofs.TestLaws.{cond-zero}
 use Rattle.lists.proofs.SumLaws.{sumBy-snoc, sumBy-set-same, sumBy-map, sumBy-ext}
 use Rattle.rules.specs.Schedule.{scheduleFits}
+use Rattle.rules.specs.RateLists.{listsFit}
 use Rattle.rules.specs.Rows.{Row, Test, blank, toll, remaining, withDue, withDispute, withHoldStart, feeNaming, sourceOf, debitOf}
 use Rattle.rules.specs.Settlement.{money, used, paid, owed}
 use Rattle.rules.specs.Book.{Account, unused, Book, withRows, withAccounts, addRow, accountNo}
@@ -29,6 +30,7 @@ use Rattle.lists.proofs.ListLaws.{map-at}
 pub record Framed (past : ℕ) (b : Book) : Type 0 where
   pub day : dayFits (b .day) ≡ true
   pub schedule : scheduleFits (b .schedule) ≡ true
+  pub lists : listsFit (b .lists) ≡ true
   pub sizes : sizesFit (length (b .accounts)) (b .room) ≡ true
   pub fits : leb (length (b .rows)) (b .room) ≡ true
   pub shape : (k : ℕ) → k < length (b .rows) → Shape (b .day) (b .accounts) (b .rows) (suc k) (getD (b .rows) k blank)
@@ -39,6 +41,7 @@ pub near-framed : (past : ℕ) (b : Book) → Near past b → Framed past b
 near-framed past b s = record {
   day = s .day;
   schedule = s .schedule;
+  lists = s .lists;
   sizes = s .sizes;
   fits = s .fits;
   shape = s .shape;
@@ -50,6 +53,7 @@ pub framed-near : (past : ℕ) (b : Book) → Framed past b → ((k : ℕ) → k
 framed-near past b s c = record {
   day = s .day;
   schedule = s .schedule;
+  lists = s .lists;
   sizes = s .sizes;
   fits = s .fits;
   shape = s .shape;
@@ -115,6 +119,7 @@ framed-add past b r s h p w v =
     record {
       day = s .day;
       schedule = s .schedule;
+      lists = s .lists;
       sizes = s .sizes;
       fits = le-leb (length (grown rows r)) (b .room) (rw (length-append rows (r ∷ [])) (omega arith));
       shape = λ k l. grown-row rows r k (λ x. Shape (b .day) (b .accounts) (grown (b .rows) r) (suc k) x) l
@@ -209,6 +214,7 @@ pub near-accounts : (past : ℕ) (b : Book) (xs : List Account) → Near past b 
 near-accounts past b xs n m c = record {
   day = n .day;
   schedule = n .schedule;
+  lists = n .lists;
   sizes = rw (m .size) (n .sizes);
   fits = n .fits;
   shape = λ i h. shape-accounts (b .day) (b .accounts) xs (b .rows) (suc i) (getD (b .rows) i blank) m (n .shape i h);
@@ -268,6 +274,7 @@ framed-put past b xs j r s h same m w v =
     record {
       day = s .day;
       schedule = s .schedule;
+      lists = s .lists;
       sizes = rw (m .size) (s .sizes);
       fits = rw (length-set rows j r) (s .fits);
       shape = λ k l. set-row rows j r h k (λ x. Shape (b .day) xs (set (b .rows) j r) (suc k) x)
@@ -307,20 +314,21 @@ near-put-core past b j r s h same w v =
 
 -- the law where the changed rows' own shape is given against the rows before
 pub framed-map : (past : ℕ) (b : Book) (f : Row → Row) → f blank ≡ blank → ((r : Row) → Same (f r) r)
-    → dayFits (b .day) ≡ true → scheduleFits (b .schedule) ≡ true → sizesFit (length (b .accounts)) (b .room) ≡ true → leb (length (b .rows)) (b .room) ≡ true
+    → dayFits (b .day) ≡ true → scheduleFits (b .schedule) ≡ true → listsFit (b .lists) ≡ true → sizesFit (length (b .accounts)) (b .room) ≡ true → leb (length (b .rows)) (b .room) ≡ true
     → ((k : ℕ) → k < length (b .rows) → Shape (b .day) (b .accounts) (b .rows) (suc k) (f (getD (b .rows) k blank)))
     → ((k : ℕ) → k < length (b .rows) → Live past (b .day) (b .schedule .stage) (f (getD (b .rows) k blank)))
     → ((k : ℕ) → k < length (b .accounts) → Standing (b .day) (getD (b .accounts) k unused)) → Framed past (withRows (map f (b .rows)) b)
-framed-map past b f rest same d c z n w v st =
+framed-map past b f rest same d c l z n w v st =
     let rows : List Row = b .rows in
     record {
       day = d;
       schedule = c;
+      lists = l;
       sizes = z;
       fits = rw (length-map rows f) n;
       shape = λ k h.
-          let l : k < length (b .rows) = rw (length-map (b .rows) f) at h in
-          let o = w k l in
+          let i : k < length (b .rows) = rw (length-map (b .rows) f) at h in
+          let o = w k i in
           rw (map-at f rows k blank rest)
           (shape-carried rows (map f rows) (carries-map f rest (λ r. same r .kind) (λ r. same r .account) rows) (b .day) (b .accounts) (suc k) (f (getD rows k blank)) (omega arith)
           (passage-map (f (getD rows k blank)) ∙ o .passage) (fees-map (suc k) (f (getD rows k blank)) ∙ o .fees) o);

@@ -18,6 +18,7 @@ pub mod TollsRaised
 pub mod ClosingLaws
 pub mod AccountsClosed
 pub mod TickKept
+pub mod ListKept
 pub mod SoundKept
 pub mod CallsKept
 pub mod EventFrame

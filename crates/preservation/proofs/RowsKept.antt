@@ -15,7 +15,7 @@ use Rattle.records.specs.Codes.{MethodCheckReturned, DisputeUpheld, KindToll, K
 use Rattle.rules.specs.Rows.{Row, blank, withMark, withHoldStart, withDispute, remaining, settleWhole, feeNaming, source}
 use Rattle.rules.specs.Settlement.{settle, settleAccounts}
 use Rattle.rules.specs.Book.{Instruction, Book, account, row, settled}
-use Rattle.rules.specs.Events.{openAccount, postToll, postPayment, returnCheck, holdFrom, holdToll, release, uphold, reject, decide, payTopup, declineTopup, topupResult, requestClose}
+use Rattle.rules.specs.Events.{openAccount, postToll, postPayment, returnCheck, holdFrom, holdToll, release, uphold, reject, decide, payTopup, declineTopup, topupResult, requestClose, addList}
 use Rattle.rules.specs.Tick.{nextDay, holdEnds, endHold, endHolds, beforeRaising, rises, raise, raiseTolls, closes, useUp, closeAccounts, tick}
 use Rattle.rules.specs.Refusals.{changeOf, after, answerNumber, noRow}
 use Rattle.rules.specs.Posting.{post}
@@ -202,7 +202,7 @@ tick-kept b e =
 -- ---- every event
 
 change-kept : (b : Book) (e : Instruction) (k : ℕ) → Accepted b (ofKind k e) → RowsKept (b .rows) (changeOf k b (ofKind k e) .rows)
-unfolding changeOf openAccount postToll postPayment requestClose
+unfolding changeOf openAccount postToll postPayment requestClose addList
 change-kept b e k q =
     by-kind (λ k. Accepted b (ofKind k e) → RowsKept (b .rows) (changeOf k b (ofKind k e) .rows))
     (record {
@@ -215,6 +215,7 @@ change-kept b e k q =
       topup-result = λ q. topup-kept b (ofKind EventTopupResult e);
       close-request = λ q. rows-same (b .rows);
       tick = λ q. tick-kept b (ofKind EventTick e);
+      rate-list = λ q. rows-same (b .rows);
       none = λ q. rows-same (b .rows);
       past = λ k q. rows-same (b .rows);
     }) k q

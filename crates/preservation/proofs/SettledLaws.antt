@@ -150,6 +150,7 @@ near-settle : (past : ℕ) (b : Book) (a : ℕ) → Near past b → Near past (w
 near-settle past b a s = record {
   day = s .day;
   schedule = s .schedule;
+  lists = s .lists;
   sizes = s .sizes;
   fits = rw (length-settle a (b .rows)) (s .fits);
   shape = λ k h.

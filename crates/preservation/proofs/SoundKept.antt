@@ -8,7 +8,7 @@ use borrow.Author.Tests.{eqb-true}
 use Rattle.records.specs.Codes.{EventDecision, EventTopupResult}
 use Rattle.records.specs.Updates.{ofKind}
 use Rattle.rules.specs.Book.{Instruction, Book}
-use Rattle.rules.specs.Events.{openAccount, postToll, postPayment, returnCheck, holdToll, decide, uphold, reject, topupResult, payTopup, declineTopup, requestClose}
+use Rattle.rules.specs.Events.{openAccount, postToll, postPayment, returnCheck, holdToll, decide, uphold, reject, topupResult, payTopup, declineTopup, requestClose, addList}
 use Rattle.rules.specs.Soundness.{sound}
 use Rattle.rules.specs.Refusals.{changeOf, after, wellFormed, formOf, answerNumber}
 use Rattle.rules.specs.Posting.{post, bookAfter}
@@ -25,10 +25,11 @@ use Rattle.preservation.proofs.ReturnKept.{returnCheck-near}
 use Rattle.preservation.proofs.DisputeKept.{holdToll-near}
 use Rattle.preservation.proofs.UpholdKept.{decide-near}
 use Rattle.preservation.proofs.TickKept.{tick-near}
+use Rattle.preservation.proofs.ListKept.{addList-near}
 
--- ---- the nine events by their kind
+-- ---- the events by their kind
 
--- events 1 to 8 leave the day
+-- events but the tick leave the day
 module _ (b : Book) (e : Instruction) where
   day-decide : decide b e .day ≡ b .day
   unfolding decide uphold reject
@@ -48,7 +49,7 @@ module _ (b : Book) (e : Instruction) where
 
 change-near : (b : Book) (e : Instruction) (k : ℕ) → Near (b .day) b → Accepted b (ofKind k e)
     → Near (changeOf k b (ofKind k e) .day) (changeOf k b (ofKind k e))
-unfolding changeOf openAccount postToll postPayment returnCheck holdToll decide topupResult requestClose wellFormed formOf
+unfolding changeOf openAccount postToll postPayment returnCheck holdToll decide topupResult requestClose addList wellFormed formOf
 change-near b e k s q =
     by-kind (λ k. Accepted b (ofKind k e) → Near (changeOf k b (ofKind k e) .day) (changeOf k b (ofKind k e)))
     (record {
@@ -61,6 +62,7 @@ change-near b e k s q =
       topup-result = λ q. rw (day-topupResult b (ofKind EventTopupResult e)) (topupResult-near b e s q);
       close-request = requestClose-near b e s;
       tick = tick-near b e s;
+      rate-list = addList-near b e s;
       none = λ q. absurd (true≢false (q .formed));
       past = λ k q. absurd (true≢false (q .formed));
     }) k q

@@ -18,8 +18,10 @@ use Rattle.rules.specs.Rows.{Row, KindToll, newRow, withDue, withReference, fee
 use Rattle.rules.specs.Book.{Instruction, Book, account}
 use Rattle.rules.specs.Events.{tollRate, postToll}
 use Rattle.rules.specs.Soundness.{kindFits, mostOf, amountFits, settledFits, markFits, tollWordsFit, noReference, rowDayFits, dueWithin, holdFits, accountUsed, referenceFits, passage, passageOnce, feesFit, returnedOf}
-use Rattle.rules.specs.Refusals.{changeOf, wellFormed, formOf, tollForm, unknown, onClosed, duplicate}
+use Rattle.rules.specs.RateLists.{inForce}
+use Rattle.rules.specs.Refusals.{changeOf, wellFormed, formOf, zeroFrom-f, tollForm, unknown, onClosed, duplicate}
 use Rattle.rules.specs.SoundFacts.{Shape, Live, Near}
+use Rattle.rules.proofs.RateListLaws.{inForce-rates}
 use Rattle.preservation.proofs.Accepted.{Accepted}
 use Rattle.preservation.proofs.KeepingLaws.{grown, Distinct, Quiet, count-add, near-add-quiet}
 use Rattle.preservation.proofs.LookupLaws.{today-fits, used-state, after-fits}
@@ -30,7 +32,7 @@ module _ (b : Book) (i : Instruction) where
   event2 = ofKind EventToll i
 
   abbrev it : Row
-  it = withReference (i .a) (withDue (b .day + b .schedule .stage) (newRow KindToll (i .account) (b .day) (tollRate (b .schedule) event2)))
+  it = withReference (i .a) (withDue (b .day + b .schedule .stage) (newRow KindToll (i .account) (b .day) (tollRate (b .lists) event2)))
 
   module _ (s : Near (b .day) b) (q : Accepted b event2) where
     abbrev p1 : Bool
@@ -47,19 +49,19 @@ module _ (b : Book) (i : Instruction) where
 
     form : p1 && p2 && p3 && p4 && i .e from 1 to 2 ≡ true
     unfolding wellFormed formOf tollForm
-    form = not-false _ (q .formed)
+    form = and-left (p1 && p2 && p3 && p4 && i .e from 1 to 2) (zeroFrom-f event2) (not-false _ (q .formed))
 
     passage-in : i .a from 1 to highestPassage ≡ true
     passage-in = and-left p1 p2 (and-left (p1 && p2) p3 (and-left (p1 && p2 && p3) p4 (and-left (p1 && p2 && p3 && p4) (i .e from 1 to 2) form)))
 
-    amount-in : tollRate (b .schedule) event2 from 1 to highestRate ≡ true
+    amount-in : tollRate (b .lists) event2 from 1 to highestRate ≡ true
     unfolding tollRate
     amount-in =
-        rate-fits (b .schedule .rates) (schedule-parts (b .schedule) (s .schedule) .rates) (i .c) (i .d) (i .e)
+        rate-fits (inForce (b .lists) (i .b) .rates) (inForce-rates (b .lists) (s .lists) (i .b)) (i .c) (i .d) (i .e)
         (leb-true (i .e) 2 (and-right (leb 1 (i .e)) (leb (i .e) 2) (and-right (p1 && p2 && p3 && p4) (i .e from 1 to 2) form)))
 
-    amount-least : 1 ≤ tollRate (b .schedule) event2
-    amount-least = leb-true 1 (tollRate (b .schedule) event2) (and-left (leb 1 (tollRate (b .schedule) event2)) _ amount-in)
+    amount-least : 1 ≤ tollRate (b .lists) event2
+    amount-least = leb-true 1 (tollRate (b .lists) event2) (and-left (leb 1 (tollRate (b .lists) event2)) _ amount-in)
 
     -- "passage number in the journal": there is none
     fresh : count (passage (i .a)) (b .rows) ≡ 0
@@ -103,8 +105,8 @@ module _ (b : Book) (i : Instruction) where
         let L : ℕ = b .schedule .stage in
         let l : 1 ≤ L = schedule-parts (b .schedule) (s .schedule) .stage in
         record {
-          settled = and-both (leb 0 (tollRate (b .schedule) event2)) _ (le-leb 0 (tollRate (b .schedule) event2) (omega arith)) refl;
-          due = rw (le-leb (b .day + L) (b .day + L) (omega arith), lt-ltb 0 (tollRate (b .schedule) event2) amount-least) (lt-ltb (b .day) (b .day + L) (omega arith));
+          settled = and-both (leb 0 (tollRate (b .lists) event2)) _ (le-leb 0 (tollRate (b .lists) event2) (omega arith)) refl;
+          due = rw (le-leb (b .day + L) (b .day + L) (omega arith), lt-ltb 0 (tollRate (b .lists) event2) amount-least) (lt-ltb (b .day) (b .day + L) (omega arith));
           hold = refl;
         }
 

@@ -296,6 +296,7 @@ raiseTolls-near past b n t room =
     record {
       day = n .day;
       schedule = n .schedule;
+      lists = n .lists;
       sizes = n .sizes;
       fits = le-leb _ (b .room) room;
       shape = λ k h. grown-each (raise s (b .day)) blank (raise-blank s (b .day)) rows (added s (b .day) rows) k

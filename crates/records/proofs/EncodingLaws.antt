@@ -33,7 +33,7 @@ module _ {A : Type 0} (k : ℕ) (read : List ℤ → ℕ → A) (words : A → L
   length-writeAll (x ∷ xs) =
       length-append (words x) (writeAll words xs) ∙ omega (arith, c .width x, length-writeAll xs, suc-mul (length xs) k)
 
-  read-writeAll-at : (xs : List A) (p s : List ℤ) (i : ℕ) (d : A) → i < length xs → read (p ++ (writeAll words xs ++ s)) (length p + i * k) ≡ getD xs i d
+  pub read-writeAll-at : (xs : List A) (p s : List ℤ) (i : ℕ) (d : A) → i < length xs → read (p ++ (writeAll words xs ++ s)) (length p + i * k) ≡ getD xs i d
   unfolding writeAll
   read-writeAll-at [] p s i d h = absurd (omega arith)
   read-writeAll-at (x ∷ xs) p s zero d h =
@@ -57,7 +57,7 @@ module _ {A : Type 0} (k : ℕ) (read : List ℤ → ℕ → A) (words : A → L
   pub read-writeAll-whole : (xs : List A) (d : A) → tabulate (λ i. read (writeAll words xs) (i * k)) (length xs) ≡ xs
   read-writeAll-whole xs d = rw (append-nil (writeAll words xs)) at (read-writeAll xs [] d)
 
-  writeAll-snoc : (xs : List A) (x : A) → writeAll words (xs ++ (x ∷ [])) ≡ writeAll words xs ++ words x
+  pub writeAll-snoc : (xs : List A) (x : A) → writeAll words (xs ++ (x ∷ [])) ≡ writeAll words xs ++ words x
   unfolding writeAll
   writeAll-snoc [] x = append-nil (words x)
   writeAll-snoc (y ∷ xs) x = rw (writeAll-snoc xs x, append-assoc)

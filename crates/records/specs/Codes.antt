@@ -1,4 +1,4 @@
--- The numbers that document 01 gives to kinds of rows and events, states of accounts, methods of payment, disputes and modes, under
+-- The numbers that documents 01 and 02 give to kinds of rows and events, states of accounts, methods of payment, disputes and modes, under
 -- the names of the C header.
 use Prim.Native.Nat.{ℕ}
 
@@ -75,7 +75,7 @@ ModeTag = 1
 abbrev pub ModePlate : ℕ
 ModePlate = 2
 
--- the kinds of events: "1. Open" to "9. Day tick"
+-- the kinds of events: "1. Open" to "9. Day tick" (document 01); "A new event 10 .. adds one list" (document 02, No. 1)
 abbrev pub EventOpen : ℕ
 EventOpen = 1
 
@@ -102,3 +102,6 @@ EventCloseRequest = 8
 
 abbrev pub EventTick : ℕ
 EventTick = 9
+
+abbrev pub EventRateList : ℕ
+EventRateList = 10

@@ -75,9 +75,11 @@ instructionOf e = record {
   c = natOf (e .c);
   d = natOf (e .d);
   e = natOf (e .e);
+  f = natOf (e .f);
+  g = natOf (e .g);
 }
 
--- a single event's table: "Seven words: kind, account, a, b, c, d, e"
+-- a single event's table: "kind, account, a, b, c, d, e", and f and g (document 02, No. 1)
 unfoldable pub instructionFrom : List ℤ → Instruction
 instructionFrom t = record {
   kind = word t Layout.eventKindPlace;
@@ -87,6 +89,8 @@ instructionFrom t = record {
   c = word t Layout.cPlace;
   d = word t Layout.dPlace;
   e = word t Layout.ePlace;
+  f = word t Layout.fPlace;
+  g = word t Layout.gPlace;
 }
 
 -- ---- writing: the words of each record, in order of their places

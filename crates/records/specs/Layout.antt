@@ -1,11 +1,12 @@
--- The layout of the lent tables (document 01, "The book"): how many words a record has, and the place of each.
+-- The layout of the lent tables (document 01, "The book"; document 02): how many words a record has, and the place of each.
 -- A later word goes to the end of its record; definitions and code have no bare width or place of a record beside these.
 use Prim.Native.Nat.{ℕ}
 
--- ---- "Header, 12 words: day, rows used, stage length L, fees for stages 2, 3, 4, six rates"
+-- ---- "Header, 12 words: day, rows used, stage length L, fees for stages 2, 3, 4, six rates"; "The header has 62 words: its 12, the first
+-- list's first day, then seven lists (first day, rates)" (document 02, No. 1)
 
 abbrev pub headerWidth : ℕ
-headerWidth = 12
+headerWidth = 62
 
 abbrev pub dayPlace : ℕ
 dayPlace = 0
@@ -13,11 +14,25 @@ dayPlace = 0
 abbrev pub usedPlace : ℕ
 usedPlace = 1
 
--- the schedule: ten words from here on, in the header and in the opening's arguments
+-- the schedule: four words from here on
 abbrev pub headerSchedule : ℕ
 headerSchedule = 2
 
--- ---- the opening's arguments: the first day, then the schedule
+-- the first list's rates: six words from here on, and its first day
+abbrev pub headerRates : ℕ
+headerRates = 6
+
+abbrev pub headerFirstDay : ℕ
+headerFirstDay = 12
+
+-- the lists after the first: seven of seven words from here on
+abbrev pub headerLists : ℕ
+headerLists = 13
+
+abbrev pub laterLists : ℕ
+laterLists = 7
+
+-- ---- the opening's arguments: the first day, then the schedule and the rates
 
 abbrev pub openingWidth : ℕ
 openingWidth = 11
@@ -28,7 +43,13 @@ firstDayPlace = 0
 abbrev pub openingSchedule : ℕ
 openingSchedule = 1
 
+abbrev pub openingRates : ℕ
+openingRates = 5
+
 -- ---- the schedule's words, from its first
+
+abbrev pub scheduleWidth : ℕ
+scheduleWidth = 4
 
 abbrev pub stagePlace : ℕ
 stagePlace = 0
@@ -42,23 +63,39 @@ fee3Place = 2
 abbrev pub fee4Place : ℕ
 fee4Place = 3
 
+-- ---- six rates, from their first
+
+abbrev pub ratesWidth : ℕ
+ratesWidth = 6
+
 abbrev pub tag1Place : ℕ
-tag1Place = 4
+tag1Place = 0
 
 abbrev pub plate1Place : ℕ
-plate1Place = 5
+plate1Place = 1
 
 abbrev pub tag2Place : ℕ
-tag2Place = 6
+tag2Place = 2
 
 abbrev pub plate2Place : ℕ
-plate2Place = 7
+plate2Place = 3
 
 abbrev pub tag3Place : ℕ
-tag3Place = 8
+tag3Place = 4
 
 abbrev pub plate3Place : ℕ
-plate3Place = 9
+plate3Place = 5
+
+-- ---- a list after the first: "(first day, rates)"
+
+abbrev pub listWidth : ℕ
+listWidth = 7
+
+abbrev pub listDayPlace : ℕ
+listDayPlace = 0
+
+abbrev pub listRatesPlace : ℕ
+listRatesPlace = 1
 
 -- ---- "Accounts, 7 words each"
 
@@ -121,10 +158,10 @@ holdPlace = 8
 abbrev pub referencePlace : ℕ
 referencePlace = 9
 
--- ---- an event: "Seven words: kind, account, a, b, c, d, e"
+-- ---- an event: "kind, account, a, b, c, d, e"; "event records grow to nine words, a to g" (document 02, No. 1)
 
 abbrev pub eventWidth : ℕ
-eventWidth = 7
+eventWidth = 9
 
 abbrev pub eventKindPlace : ℕ
 eventKindPlace = 0
@@ -146,6 +183,12 @@ dPlace = 5
 
 abbrev pub ePlace : ℕ
 ePlace = 6
+
+abbrev pub fPlace : ℕ
+fPlace = 7
+
+abbrev pub gPlace : ℕ
+gPlace = 8
 
 -- ---- "Answer, five words"
 

@@ -1,4 +1,4 @@
--- The limits that document 01 sets, each named once.
+-- The limits that documents 01 and 02 set, each named once.
 use Prim.Native.Nat.{ℕ}
 
 -- "day 36,525 is 2099-12-31"
@@ -44,6 +44,10 @@ highestCredit = 1_300_000
 -- "10,649,600,000 (6)": a refund's amount
 abbrev pub highestRefund : ℕ
 highestRefund = 10_649_600_000
+
+-- "A book holds up to eight rate lists" (document 02, No. 1)
+abbrev pub mostLists : ℕ
+mostLists = 8
 
 -- "a passage number 1 to 1,000,000,000"
 abbrev pub highestPassage : ℕ

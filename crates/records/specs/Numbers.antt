@@ -1,4 +1,4 @@
--- The numbers of the answers (document 01's table of answers), under the names of the C header; 0 is "posted".
+-- The numbers of the answers (document 01's table of answers, and those of document 02), under the names of the C header; 0 is "posted".
 use Prim.Native.Nat.{ℕ}
 
 -- "book not sound; opening: lengths unfit"
@@ -56,3 +56,7 @@ Full = 13
 -- "a refund above 10,649,600,000"
 abbrev pub Ceiling : ℕ
 Ceiling = 14
+
+-- document 02, No. 1: "15 "list" for a first day not after the last list's, or for a ninth list" (List is the library's type)
+abbrev pub ListRefused : ℕ
+ListRefused = 15

@@ -57,12 +57,12 @@ withDeclines n d x = record { state = x .state; request = x .request; returned =
 
 -- the instruction with another kind: at a known kind, tests on the kind compute
 abbrev pub ofKind : ℕ → Instruction → Instruction
-ofKind k e = record { kind = k; account = e .account; a = e .a; b = e .b; c = e .c; d = e .d; e = e .e }
+ofKind k e = record { kind = k; account = e .account; a = e .a; b = e .b; c = e .c; d = e .d; e = e .e; f = e .f; g = e .g }
 
 -- the instruction on another account
 abbrev pub onAccount : ℕ → Instruction → Instruction
-onAccount n e = record { kind = e .kind; account = n; a = e .a; b = e .b; c = e .c; d = e .d; e = e .e }
+onAccount n e = record { kind = e .kind; account = n; a = e .a; b = e .b; c = e .c; d = e .d; e = e .e; f = e .f; g = e .g }
 
 -- the instruction with another word a, which for some kinds names a row
 abbrev pub onRow : ℕ → Instruction → Instruction
-onRow n e = record { kind = e .kind; account = e .account; a = n; b = e .b; c = e .c; d = e .d; e = e .e }
+onRow n e = record { kind = e .kind; account = e .account; a = n; b = e .b; c = e .c; d = e .d; e = e .e; f = e .f; g = e .g }

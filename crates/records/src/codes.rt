@@ -1,4 +1,4 @@
-// The numbers of kinds, states, methods, disputes, modes and events (document 01), under the names of records' Codes.
+// The numbers of kinds, states, methods, disputes, modes and events (documents 01 and 02), under the names of records' Codes.
 
 // ---- kinds of rows
 
@@ -71,3 +71,5 @@ pub const EVENT_TOPUP_RESULT: u64 = 7;
 pub const EVENT_CLOSE_REQUEST: u64 = 8;
 
 pub const EVENT_TICK: u64 = 9;
+
+pub const EVENT_RATE_LIST: u64 = 10;

@@ -1,5 +1,5 @@
 // The ledger's records as values: a journal row, an account with its own operations, an event, an answer; and the words in which each is
-// stored. Document 01 is the scope document of the toll account ledger.
+// stored. Document 01 is the scope document of the toll account ledger, document 02 its change requests.
 pub mod codes; // codes.rt: the numbers of kinds, states, methods, disputes, modes and events
 pub mod numbers; // numbers.rt: the numbers of the answers
 pub mod limits; // limits.rt: the limits of document 01
@@ -38,7 +38,7 @@ pub struct Account {
     pub declined: u64,
 }
 
-// An event as a host hands it over: seven signed words of any value.
+// An event as a host hands it over: nine signed words of any value.
 #[repr(C)]
 pub struct Event {
     pub kind: i64,
@@ -48,9 +48,11 @@ pub struct Event {
     pub c: i64,
     pub d: i64,
     pub e: i64,
+    pub f: i64,
+    pub g: i64,
 }
 
-// The same seven words as natural numbers; a negative word is past every limit.
+// The same nine words as natural numbers; a negative word is past every limit.
 pub struct Instruction {
     pub kind: u64,
     pub account: u64,
@@ -59,6 +61,8 @@ pub struct Instruction {
     pub c: u64,
     pub d: u64,
     pub e: u64,
+    pub f: u64,
+    pub g: u64,
 }
 
 // The answer to an event.

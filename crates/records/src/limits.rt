@@ -1,4 +1,4 @@
-// The limits that document 01 sets, under the names of records' Limits.
+// The limits that documents 01 and 02 set, under the names of records' Limits.
 
 pub const FINAL_DAY: u64 = 36525;
 
@@ -21,6 +21,8 @@ pub const HIGHEST_TOPUP: u64 = 1000000;
 pub const HIGHEST_CREDIT: u64 = 1300000;
 
 pub const HIGHEST_REFUND: u64 = 10649600000;
+
+pub const MOST_LISTS: usize = 8;
 
 pub const HIGHEST_PASSAGE: u64 = 1000000000;
 

@@ -1,4 +1,4 @@
-// The numbers of the answers (document 01's table of answers), under the names of records' Numbers.
+// The numbers of the answers (document 01's table of answers; document 02), under the names of records' Numbers.
 
 pub const UNSOUND: u64 = 1;
 
@@ -27,3 +27,5 @@ pub const LAST_DAY: u64 = 12;
 pub const FULL: u64 = 13;
 
 pub const CEILING: u64 = 14;
+
+pub const LIST: u64 = 15;

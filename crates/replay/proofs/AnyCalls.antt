@@ -13,7 +13,6 @@ use Rattle.rules.specs.Soundness.{sound}
 use Rattle.rules.specs.Tables.{Tables, bookOf, tablesOf, soundTables}
 use Rattle.rules.specs.Calls.{eventRefusals, eventCall, batchRefusals, batchCall}
 use Rattle.rules.proofs.SoundnessLaws.{sound-facts, facts-sound}
-use Rattle.rules.proofs.StorableLaws.{rows-le}
 use Rattle.rules.proofs.PostingLaws.{post-accepted, post-refused, post-number}
 use Rattle.rules.proofs.TableLaws.{bookOf-tablesOf, soundTables-tablesOf, sound-book}
 use Rattle.preservation.proofs.SoundKept.{post-keeps-sound, bookAfter-keeps-sound}
@@ -97,7 +96,7 @@ posted t s es =
     record {
       events = es;
       reported = refl;
-      book = bookOf-tablesOf (bookAfter (bookOf t) es) (rows-le _ _ (sound-facts _ b .near));
+      book = bookOf-tablesOf (bookAfter (bookOf t) es) (sound-facts _ b .near);
       tables-sound = soundTables-tablesOf (bookAfter (bookOf t) es) b;
     }
 

@@ -17,7 +17,7 @@ use Rattle.preservation.proofs.Accepted.{Accepted, accepted}
 use Rattle.replay.specs.Replay.{Replay, settledReplay, stepOf}
 use Rattle.replay.proofs.Relation.{Agrees}
 use Rattle.replay.proofs.Growing.{row-place, settled-agrees}
-use Rattle.replay.proofs.PlainEvents.{openAccount-agrees, requestClose-agrees, postToll-agrees, postPayment-agrees, topupResult-agrees}
+use Rattle.replay.proofs.PlainEvents.{openAccount-agrees, requestClose-agrees, addList-agrees, postToll-agrees, postPayment-agrees, topupResult-agrees}
 use Rattle.replay.proofs.RowEvents.{returnCheck-agrees, holdToll-agrees, decide-agrees}
 use Rattle.replay.proofs.Ticking.{tick-agrees}
 use Rattle.replay.proofs.ReplaySteps.{Proper}
@@ -103,6 +103,7 @@ module _ (b : Book) (e : Instruction) (z : answerNumber b e ≡ 0) where
         topup-result = λ q. topupResult-agrees b p e (s .near) a (known (rw q)) (topped-up (rw q));
         close-request = λ q. requestClose-agrees b p e a;
         tick = λ q. tick-agrees b p s a e;
+        rate-list = λ q. addList-agrees b p e a;
         none = λ q. a;
         past = λ k q. a;
       })

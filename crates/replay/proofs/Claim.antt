@@ -153,7 +153,7 @@ module _ (t : Tables) (w : List ℤ) (z : openCall t w .number ≡ 0) where
   unfolding replayStart begin openedBook opening
   start-underway = record {
     is-sound = openedBook-sound t w z;
-    alike = record { day = refl; schedule = refl; rows = none; notes = notes-noted (accountsIn t) };
+    alike = record { day = refl; schedule = refl; lists = refl; rows = none; notes = notes-noted (accountsIn t) };
     fees = start-fees;
   }
 

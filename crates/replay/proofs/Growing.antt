@@ -130,6 +130,7 @@ unfolding settled settledReplay
 settled-agrees b p a = record {
   day = a .day;
   schedule = a .schedule;
+  lists = a .lists;
   rows = rw (← (pairs-length (a .notes)))
       (settleAll-pairs (Match 0 (b .day) (b .schedule .stage)) (λ r x m. m .line) (match-keep 0 (b .day) (b .schedule .stage)) (length (b .accounts)) (a .rows));
   notes = a .notes;

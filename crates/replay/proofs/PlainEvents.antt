@@ -14,11 +14,11 @@ use Rattle.lists.specs.Tests.{_is_}
 use Rattle.lists.proofs.PairLaws.{none, more, pairs-at, pairs-set, pairs-set-left, pairs-self, pairs-to}
 use Rattle.rules.specs.Rows.{Row}
 use Rattle.rules.specs.Book.{Account, unused, StateUnused, Instruction, Book, account, putAccount, addRow}
-use Rattle.rules.specs.Events.{openAccount, tollRate, postToll, postPayment, payTopup, declineTopup, topupResult, requestClose}
+use Rattle.rules.specs.Events.{openAccount, tollRate, postToll, postPayment, payTopup, declineTopup, topupResult, requestClose, addList}
 use Rattle.rules.specs.SoundFacts.{Near}
 use Rattle.rules.proofs.StorableLaws.{unused-zero}
 use Rattle.replay.specs.Entries.{Entry, KindPayment, newEntry}
-use Rattle.replay.specs.Replay.{Note, noNote, Replay, noteNo, putNote, addEntry, noteTopup, noteRequest, addToll, addPayment, addTopup}
+use Rattle.replay.specs.Replay.{Note, noNote, Replay, noteNo, putNote, addEntry, noteTopup, noteRequest, noteList, addToll, addPayment, addTopup}
 use Rattle.replay.specs.Demand3.{tollNamed}
 use Rattle.replay.proofs.Relation.{SameLine, Match, Noted, Agrees, counts-other}
 use Rattle.replay.proofs.SoundRows.{stage-length}
@@ -34,14 +34,19 @@ noted-no b p a n = pairs-at unused noNote q (more q (a .notes)) n
 
 -- an account and its note change
 note-agrees : (b : Book) (p : Replay) → Agrees b p → (n : ℕ) (x : Account) (y : Note) → Noted x y → Agrees (putAccount n x b) (putNote n y p)
-note-agrees b p a n x y q = record { day = a .day; schedule = a .schedule; rows = a .rows; notes = pairs-set (n - 1) x y q (a .notes) }
+note-agrees b p a n x y q = record { day = a .day; schedule = a .schedule; lists = a .lists; rows = a .rows; notes = pairs-set (n - 1) x y q (a .notes) }
 
 -- an account changes
 pub account-agrees : (b : Book) (p : Replay) → Agrees b p → (n : ℕ) → 1 ≤ n → (x : Account) → Noted x (noteNo (p .notes) n) → Agrees (putAccount n x b) p
 account-agrees b p a zero h x q = absurd (omega arith)
 account-agrees b p a (suc n) h x q =
     let z : suc n - 1 ≡ n = omega arith in
-    record { day = a .day; schedule = a .schedule; rows = a .rows; notes = rw z (pairs-set-left n x noNote q (a .notes)) }
+    record { day = a .day; schedule = a .schedule; lists = a .lists; rows = a .rows; notes = rw z (pairs-set-left n x noNote q (a .notes)) }
+
+-- a rate list more
+pub addList-agrees : (b : Book) (p : Replay) (e : Instruction) → Agrees b p → Agrees (addList b e) (noteList p e)
+unfolding addList noteList
+addList-agrees b p e a = record { day = a .day; schedule = a .schedule; lists = rw (a .lists); rows = a .rows; notes = a .notes }
 
 -- an unused account has no request day
 unused-request : (b : Book) → Near (b .day) b → (n : ℕ) → account b n .state ≡ StateUnused → account b n .request ≡ 0
@@ -58,6 +63,7 @@ pub add-agrees : (b : Book) (p : Replay) → Referring (b .rows) → Agrees b p 
 add-agrees b p f a r x m t = record {
   day = a .day;
   schedule = a .schedule;
+  lists = a .lists;
   rows = grow (b .rows) (p .entries) f (a .rows) (b .rows) (p .entries)
       (pairs-self kept-self (b .rows)) (pairs-self (λ y. refl) (p .entries)) (pairs-to (λ s y n. n .is) (a .rows))
       (r ∷ []) (x ∷ []) (more (record { is = m; toll = t }) none);
@@ -87,7 +93,7 @@ postToll-agrees b p e near a =
     let l = stage-length b near in
     let z : 0 * L ≡ 0 = omega arith in
     add-agrees b p (referring b near) a _ _ (record {
-      line = record { kind = refl; account = refl; day = a .day; amount = rw (a .schedule); settled = refl; hold = refl };
+      line = record { kind = refl; account = refl; day = a .day; amount = rw (a .lists); settled = refl; hold = refl };
       counts = record {
         ticks = λ h. absurd (false≢true h);
         fresh = λ h. refl;

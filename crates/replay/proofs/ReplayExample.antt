@@ -10,7 +10,7 @@ use Rattle.rules.specs.Book.{Instruction, Book, row, balance}
 use Rattle.rules.specs.Posting.{bookAfter}
 use Rattle.rules.specs.Opening.{opening}
 use Rattle.rules.proofs.Computing.{computing}
-use Rattle.rules.proofs.Examples.{event, ticks, schedule}
+use Rattle.rules.proofs.Examples.{event, ticks, schedule, rates}
 use Rattle.replay.specs.Entries
 use Rattle.replay.specs.Replay
 use Rattle.replay.specs.Demand3
@@ -20,11 +20,12 @@ use Rattle.replay.specs.Demand3.{reportsOf, tollNamed, stageOf, stageFee
 
 -- what unfolds for the replay to compute
 unfoldable replaying : Unit {0}
-unfolding Entries.feeOf Entries.onHold Entries.sumOf Entries.balanceOf Entries.moneyIn Entries.moneyOut Entries.unusedOf Entries.wantedBy Entries.cover Entries.settleEntries Entries.settleAllEntries Replay.settledReplay Replay.noteTopup Replay.noteRequest Replay.addToll Replay.addPayment Replay.addTopup Replay.addReturn Replay.setHold Replay.tollAndFees Replay.addCredit Replay.freeToll Replay.gains Replay.countTick Replay.countDay Replay.reaches Replay.addFee Replay.addFees Replay.closing Replay.addRefund Replay.useMoney Replay.closeAll Replay.tickReplay Replay.stepOf Replay.replayOne Replay.replay Replay.begin Demand3.called Demand3.tablesAfter Demand3.reportsOf Demand3.reportsIf Demand3.reportsAt Demand3.reports Demand3.tollNamed Demand3.stageOf Demand3.dayReached Demand3.stageFees Demand3.feesNaming Demand3.replayStart
+unfolding Entries.feeOf Entries.onHold Entries.sumOf Entries.balanceOf Entries.moneyIn Entries.moneyOut Entries.unusedOf Entries.wantedBy Entries.cover Entries.settleEntries Entries.settleAllEntries Replay.settledReplay Replay.noteTopup Replay.noteRequest Replay.noteList Replay.addToll Replay.addPayment Replay.addTopup Replay.addReturn Replay.setHold Replay.tollAndFees Replay.addCredit Replay.freeToll Replay.gains Replay.countTick Replay.countDay Replay.reaches Replay.addFee Replay.addFees Replay.closing Replay.addRefund Replay.useMoney Replay.closeAll Replay.tickReplay Replay.stepOf Replay.replayOne Replay.replay Replay.begin Demand3.called Demand3.tablesAfter Demand3.reportsOf Demand3.reportsIf Demand3.reportsAt Demand3.reports Demand3.tollNamed Demand3.stageOf Demand3.dayReached Demand3.stageFees Demand3.feesNaming Demand3.replayStart
 replaying = tt
 
 -- two accounts: a duplicate passage that is refused; a hold freed by its thirtieth tick, its toll paid after 29 open days; an account that closes with a refund, pends again by
--- a returned check and closes again; a toll raised twice, disputed with its fee and upheld while a top-up lies idle beside them
+-- a returned check and closes again; a toll raised twice, disputed with its fee and upheld while a top-up lies idle beside them; a
+-- passage of one day posted before and after a rate list is added
 abbrev listed : List Instruction
 listed =
     event 1 1 100 2000 0 0 0
@@ -37,6 +38,8 @@ listed =
     ∷ ticks 10
     ++ event 8 2 0 0 0 0 0
     ∷ event 2 2 43 11 3 0 1
+    ∷ record { kind = 10; account = 0; a = 5; b = 260; c = 510; d = 610; e = 910; f = 1210; g = 1610 }
+    ∷ event 2 2 44 11 3 0 1
     ∷ ticks 49
     ++ event 3 1 500 2 0 0 0
     ∷ ticks 1
@@ -49,13 +52,13 @@ listed =
     ∷ ticks 30
 
 abbrev opened : Book
-opened = opening 1 schedule 2 24
+opened = opening 1 schedule rates 2 24
 
 abbrev book : Book
 book = bookAfter opened listed
 
 abbrev start : Replay
-start = begin 1 schedule 2
+start = begin 1 schedule rates 2
 
 abbrev reported : List Report
 reported = reportsOf opened listed

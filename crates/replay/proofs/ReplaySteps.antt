@@ -16,7 +16,7 @@ use Rattle.lists.proofs.PairLaws.{Pairs, none, more, pairs-at, pairs-to, pairs-
 use Rattle.lists.proofs.CollectLaws.{collect, collect-append, collect-pairs, collect-none}
 use Rattle.rules.proofs.KindLaws.{by-kind}
 use Rattle.replay.specs.Entries.{Entry, KindFee, noEntry, entryNo, coverWhole, feeOf, unusedOf, wantedBy, cover, settleEntries, settleAllEntries}
-use Rattle.replay.specs.Replay.{Replay, noteTopup, noteRequest, addToll, addPayment, addTopup, addReturn, setHold, addCredit, freeToll, stepOf}
+use Rattle.replay.specs.Replay.{Replay, noteTopup, noteRequest, noteList, addToll, addPayment, addTopup, addReturn, setHold, addCredit, freeToll, stepOf}
 use Rattle.replay.proofs.Growing.{number-at}
 
 -- the fee entries that name toll n: amounts and days
@@ -131,10 +131,10 @@ pub record Proper (e : Instruction) : Type 0 where
   pub dispute : e .kind ≡ EventDispute → 1 ≤ e .a
   pub decision : e .kind ≡ EventDecision → 1 ≤ e .a
 
--- events 1 to 8, and kinds of no event
+-- events but the tick, and kinds of no event
 pub step-steady : (k : ℕ) (p : Replay) (e : Instruction) → k ≢ EventTick → (k ≡ EventDispute → 1 ≤ e .a) → (k ≡ EventDecision → 1 ≤ e .a)
     → Stepped p (stepOf k p e)
-unfolding stepOf noteTopup noteRequest addToll addPayment addTopup addReturn setHold addCredit freeToll
+unfolding stepOf noteTopup noteRequest noteList addToll addPayment addTopup addReturn setHold addCredit freeToll
 step-steady k p e =
     by-kind (λ k. k ≢ EventTick → (k ≡ EventDispute → 1 ≤ e .a) → (k ≡ EventDecision → 1 ≤ e .a) → Stepped p (stepOf k p e))
     (record {
@@ -154,6 +154,7 @@ step-steady k p e =
           (record { schedule = refl; steady = steady-add (p .entries) _ (record { toll = refl; opened = refl }) }) (record { schedule = refl; steady = steady-self (p .entries) });
       close-request = λ n f g. record { schedule = refl; steady = steady-self (p .entries) };
       tick = λ n f g. absurd (n refl);
+      rate-list = λ n f g. record { schedule = refl; steady = steady-self (p .entries) };
       none = λ n f g. record { schedule = refl; steady = steady-self (p .entries) };
       past = λ k n f g. record { schedule = refl; steady = steady-self (p .entries) };
     }) k

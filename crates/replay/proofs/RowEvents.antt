@@ -35,6 +35,7 @@ change-agrees : (b : Book) (p : Replay) → Referring (b .rows) → Agrees b p �
 change-agrees b p f a n h r x k t m = record {
   day = a .day;
   schedule = a .schedule;
+  lists = a .lists;
   rows = regrow (b .rows) (p .entries) f (a .rows) (set (b .rows) (n - 1) r) (set (p .entries) (n - 1) x)
       (pairs-set-self kept-self (b .rows) (n - 1) r blank (rw (number-at (b .rows) n blank h) k))
       (pairs-set-self (λ y. refl) (p .entries) (n - 1) x noEntry (rw (number-at (p .entries) n noEntry h) t))
@@ -191,6 +192,7 @@ module _ (b : Book) (p : Replay) (e : Instruction) (near : Near (b .day) b) (a :
       rw twice (record {
         day = a .day;
         schedule = a .schedule;
+        lists = a .lists;
         notes = a .notes;
         rows = grow (b .rows) (p .entries) (referring b near) (a .rows) _ _
             (pairs-map-right fee-settled (λ s t q. kept-fee s t q) (pairs-set-self kept-self (b .rows) i r blank (rw (number-at (b .rows) n blank low) (record { kind = refl; reference = refl }))))
@@ -273,6 +275,7 @@ returnCheck-agrees b p e near a h k =
     rw (append-assoc olds, append-assoc (p .entries)) (record {
       day = a .day;
       schedule = a .schedule;
+      lists = a .lists;
       notes = ac .notes;
       rows = grow (b .rows) (p .entries) (referring b near) (a .rows) olds (p .entries) keeps (pairs-self (λ y. refl) (p .entries))
           (pairs-set-left (n - 1) r noEntry new (pairs-to (λ s y q. q .is) (a .rows)))

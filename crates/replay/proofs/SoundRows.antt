@@ -10,13 +10,12 @@ use lib.Dec.{leb, ltb}
 use borrow.Author.Tests.{leb-true, ltb-true, eqb-true}
 use Rattle.lists.specs.Tests.{_is_, _from_to_, _implies_}
 use Rattle.lists.proofs.TestLaws.{and-left, and-right, and3}
-use Rattle.records.specs.Limits.{longestStage, highestFee}
-use Rattle.rules.specs.Schedule.{Schedule, scheduleFits, ratesFit}
 use Rattle.rules.specs.Rows.{Row, KindToll, KindFee, KindPayment, LastStage, DisputeHeld, blank, rowNo, toll, heldToll, unsettled}
 use Rattle.rules.specs.Book.{Account, unused, StateUnused, Book, accountNo}
 use Rattle.rules.specs.Soundness.{markFits, holdFits, accountUsed, names, referenceFits}
 use Rattle.rules.specs.SoundFacts.{Near}
 use Rattle.rules.proofs.StorableLaws.{settled-le}
+use Rattle.preservation.proofs.FeeLaws.{schedule-parts}
 use Rattle.preservation.proofs.DisputeKept.{held-is}
 
 -- ---- a toll
@@ -92,11 +91,4 @@ module _ (b : Book) (near : Near (b .day) b) where
       }
 
   pub stage-length : 1 ≤ b .schedule .stage
-  unfolding scheduleFits
-  stage-length =
-      let s : Schedule = b .schedule in
-      let l : Bool = s .stage from 1 to longestStage in
-      let c : Bool = leb (s .fee2) highestFee in
-      let p : l && c && leb (s .fee3) highestFee && leb (s .fee4) highestFee && ratesFit (s .rates) ≡ true = near .schedule in
-      let q = and3 (l && c) (leb (s .fee3) highestFee) (leb (s .fee4) highestFee) (and-left (l && c && leb (s .fee3) highestFee && leb (s .fee4) highestFee) (ratesFit (s .rates)) p) in
-      leb-true 1 (s .stage) (and-left (leb 1 (s .stage)) (leb (s .stage) longestStage) (and-left l c (q .0)))
+  stage-length = schedule-parts (b .schedule) (near .schedule) .stage

@@ -221,6 +221,7 @@ module _ (b : Book) (p : Replay) (sound : Sound b) (a : Agrees b p) where
   tick-agrees e = record {
     day = ap (λ (n : ℕ). n + 1) (a .day);
     schedule = a .schedule;
+    lists = a .lists;
     rows = rw (← (a .day)) (rw (← (a .day)) at close-rows);
     notes = pairs-change-left (closeIf bookNow) close-noted 1 (a .notes);
   }

@@ -6,7 +6,7 @@ use mathlib.Core.List.{List, [], _∷_, _++_, map}
 use lib.Dec.{leb, ltb}
 use lib.IntN.{ℤ}
 use Rattle.records.specs.Codes.{LastStage}
-use Rattle.records.specs.Layout.{firstDayPlace, openingSchedule}
+use Rattle.records.specs.Layout.{firstDayPlace, openingSchedule, openingRates}
 use Rattle.records.specs.Encoding.{word, instructionOf, instructionFrom}
 use Rattle.lists.specs.Tests.{_is_, first}
 use Rattle.lists.specs.Lists.{one, gather, gatherFrom}
@@ -15,7 +15,7 @@ use Rattle.rules.specs.Rows.{Row, KindToll, KindFee, rowNo, heldToll, feeNaming
 use Rattle.rules.specs.Book.{Instruction, Book, row, balance}
 use Rattle.rules.specs.Refusals.{answerNumber}
 use Rattle.rules.specs.Posting.{post}
-use Rattle.rules.specs.Tables.{Tables, accountsIn, scheduleFrom, bookOf}
+use Rattle.rules.specs.Tables.{Tables, accountsIn, scheduleFrom, ratesFrom, bookOf}
 use Rattle.rules.specs.Calls.{Event, Called, openCall, eventCall, batchCall, eventRefusals, batchRefusals}
 use Rattle.replay.specs.Entries.{Entry, entryNo, isMoney, isDebt, isToll, coveredWhole, onHold, balanceOf}
 use Rattle.replay.specs.Replay.{Replay, Report, replayOne, replay, begin}
@@ -120,7 +120,7 @@ pub record Demand3 (b : Book) (start : Replay) (hs : List Report) (xs : List Ent
 
 -- "It starts where opening gave 0": w is the opening's words, t the tables it was given
 unfoldable pub replayStart : Tables → List ℤ → Replay
-replayStart t w = begin (word w firstDayPlace) (scheduleFrom w openingSchedule) (accountsIn t)
+replayStart t w = begin (word w firstDayPlace) (scheduleFrom w openingSchedule) (ratesFrom w openingRates) (accountsIn t)
 
 -- the claim over any tables and words for which opening gives 0, and any list of calls
 abbrev pub Claim3 : Type 0

@@ -9,7 +9,8 @@ use Rattle.records.specs.declared.Instruction.{Instruction}
 use Rattle.lists.specs.Tests.{_is_}
 use Rattle.lists.specs.Lists.{sumBy, only, exists, one, gather}
 use Rattle.records.specs.Limits.{returnFee, holdDays, closingDays}
-use Rattle.rules.specs.Schedule.{Schedule, class, rate, stageFee}
+use Rattle.rules.specs.Schedule.{Rates, Schedule, class, rate, stageFee}
+use Rattle.rules.specs.RateLists.{RateList, inForce, listOf}
 use Rattle.replay.specs.Entries.{Entry, EntryTest, KindToll, KindFee, KindReversal, KindPayment, KindCredit, KindRefund, newEntry, withCovered, withHold, withTicks, withOpenDays, withToll, entryNo, isMoney, isToll, uncovered, coveredWhole, coverWhole, feeOf, moneyIn, moneyOut, settleAllEntries}
 
 -- "per account the top-up amount and request day"
@@ -21,16 +22,18 @@ pub record Note : Type 0 where
 abbrev pub noNote : Note
 noNote = record { topup = 0; request = 0 }
 
--- "It keeps the day, per account the top-up amount and request day, and entries"; the schedule is the opening's
+-- "It keeps the day, per account the top-up amount and request day, and entries"; the schedule is the opening's, the rate lists are those
+-- added so far (document 02, No. 1)
 pub record Replay : Type 0 where
   pub day : ℕ
   pub schedule : Schedule
+  pub lists : List RateList
   pub notes : List Note
   pub entries : List Entry
 
 -- the replay with other entries
 abbrev pub withEntries : List Entry → Replay → Replay
-withEntries xs p = record { day = p .day; schedule = p .schedule; notes = p .notes; entries = xs }
+withEntries xs p = record { day = p .day; schedule = p .schedule; lists = p .lists; notes = p .notes; entries = xs }
 
 -- the note of account n, counted from 1
 abbrev pub noteNo : List Note → ℕ → Note
@@ -38,7 +41,7 @@ noteNo ns n = getD (noNote ∷ ns) n noNote
 
 -- the note of account n, written
 abbrev pub putNote : ℕ → Note → Replay → Replay
-putNote n x p = record { day = p .day; schedule = p .schedule; notes = set (p .notes) (n - 1) x; entries = p .entries }
+putNote n x p = record { day = p .day; schedule = p .schedule; lists = p .lists; notes = set (p .notes) (n - 1) x; entries = p .entries }
 
 -- an entry more
 abbrev pub addEntry : Entry → Replay → Replay
@@ -68,9 +71,9 @@ noteRequest p e = putNote (e .account) (record { topup = noteNo (p .notes) (e .a
 
 -- ---- "2 adds a toll at its rate, 3 a payment of a, 7 if paid one of the noted b"
 
--- "2 adds a toll at its rate"
+-- "2 adds a toll at its rate": "Sums of tolls are counted at the lists added before each" (document 02, No. 1)
 unfoldable pub addToll : Step
-addToll p e = addEntry (newEntry KindToll (e .account) (p .day) (rate (p .schedule .rates) (class (e .c) (e .d)) (e .e))) p
+addToll p e = addEntry (newEntry KindToll (e .account) (p .day) (rate (inForce (p .lists) (e .b) .rates) (class (e .c) (e .d)) (e .e))) p
 
 -- "3 a payment of a"
 unfoldable pub addPayment : Step
@@ -160,17 +163,23 @@ unfoldable pub tickReplay : Step
 tickReplay p e =
     let today : ℕ = p .day + 1 in
     let xs : List Entry = settleAllEntries (length (p .notes)) (map countDay (p .entries)) in
-    closeAll (record { day = today; schedule = p .schedule; notes = p .notes; entries = xs ++ gather (addFees (p .schedule) today) (p .entries) })
+    closeAll (record { day = today; schedule = p .schedule; lists = p .lists; notes = p .notes; entries = xs ++ gather (addFees (p .schedule) today) (p .entries) })
+
+-- ---- 10 (document 02, No. 1)
+
+-- "adds one list"
+unfoldable pub noteList : Step
+noteList p e = record { day = p .day; schedule = p .schedule; lists = p .lists ++ (listOf e ∷ []); notes = p .notes; entries = p .entries }
 
 -- ---- any event
 
 abbrev pub noStep : Step
 noStep p e = p
 
--- the nine events by their kind
+-- the events by their kind
 unfoldable pub stepOf : ℕ → Step
 stepOf k =
-    getD (noStep ∷ noteTopup ∷ addToll ∷ addPayment ∷ addReturn ∷ setHold true ∷ freeToll ∷ addTopup ∷ noteRequest ∷ tickReplay ∷ []) k noStep
+    getD (noStep ∷ noteTopup ∷ addToll ∷ addPayment ∷ addReturn ∷ setHold true ∷ freeToll ∷ addTopup ∷ noteRequest ∷ tickReplay ∷ noteList ∷ []) k noStep
 
 -- what a replay is fed: an event, and whether it is accepted
 pub record Report : Type 0 where
@@ -186,6 +195,7 @@ unfoldable pub replay : Replay → List Report → Replay
 replay p [] = p
 replay p (h ∷ hs) = replay (replayOne p h) hs
 
--- the replay at the opening: its day, its schedule, and how many accounts its table has
-unfoldable pub begin : ℕ → Schedule → ℕ → Replay
-begin day s accounts = record { day = day; schedule = s; notes = replicate accounts noNote; entries = [] }
+-- the replay at the opening: its day, its schedule and rates, and how many accounts its table has; "The opening's list has the opening day as
+-- its first day"
+unfoldable pub begin : ℕ → Schedule → Rates → ℕ → Replay
+begin day s r accounts = record { day = day; schedule = s; lists = record { firstDay = day; rates = r } ∷ []; notes = replicate accounts noNote; entries = [] }

@@ -18,21 +18,21 @@ use Rattle.rules.specs.Soundness.{kindFits, amountFits, settledFits, mar
 use Rattle.rules.specs.Tables.{Tables, soundTables}
 use Rattle.rules.specs.Calls.{batchRefusals, openCall, eventCall, batchCall, topupDueCall}
 use Rattle.rules.proofs.Computing.{computing}
-use Rattle.rules.proofs.Examples.{Case, _gives_, _amounts-to_, event, ticks, schedule, small, numbers}
+use Rattle.rules.proofs.Examples.{Case, _gives_, _amounts-to_, event, ticks, schedule, rates, small, numbers}
 use Rattle.rules.proofs.CallExamples.{lent, scheduleWords, opened, words, sent, day, posted}
 
 -- ---- how cases are written
 
 -- tests, and 1 for each that holds
 infix 5 _are_
-abbrev _are_ : List Bool → List ℕ → Case
+abbrev pub _are_ : List Bool → List ℕ → Case
 bs are ns = record { got = map (λ b. cond b (pos 1) (pos 0)) bs; want = map pos ns }
 
 -- ---- the schedule
 
--- a schedule of stage length and fees, all rates 1
+-- a schedule of stage length and fees
 abbrev feesOf : ℕ → ℕ → ℕ → ℕ → Schedule
-feesOf L f2 f3 f4 = record { stage = L; fee2 = f2; fee3 = f3; fee4 = f4; rates = record { tag1 = 1; plate1 = 1; tag2 = 1; plate2 = 1; tag3 = 1; plate3 = 1 } }
+feesOf L f2 f3 f4 = record { stage = L; fee2 = f2; fee3 = f3; fee4 = f4 }
 
 -- six rates
 abbrev ratesOf : ℕ → ℕ → ℕ → ℕ → ℕ → ℕ → Rates
@@ -82,7 +82,7 @@ closedOne = openOne ∷ event 3 1 100 3 0 0 0 ∷ event 8 1 0 0 0 0 0 ∷ ticks 
 -- stages of one day: an unpaid toll after n ticks
 abbrev daily : ℕ → Book
 daily n =
-    bookAfter (opening 1 (record { stage = 1; fee2 = 20; fee3 = 30; fee4 = 40; rates = schedule .rates }) 1 8)
+    bookAfter (opening 1 (feesOf 1 20 30 40) rates 1 8)
     (openOne ∷ event 2 1 41 1 2 60 2 ∷ ticks n)
 
 -- its stage, and its fees
@@ -119,7 +119,7 @@ lowOn2 = batchCall opened (sent 1 2 100 2_000 ∷ []) (replicate 5 (pos 7)) .tab
 
 -- a pending account whose days are over, with so much unused money
 abbrev leaving : ℕ → Book
-leaving n = record { day = 20; schedule = schedule; accounts = anAccount 2 5 0 0 0 0 0 ∷ []; rows = aRow 4 n ∷ []; room = 9 }
+leaving n = record { day = 20; schedule = schedule; lists = small 1 .lists; accounts = anAccount 2 5 0 0 0 0 0 ∷ []; rows = aRow 4 n ∷ []; room = 9 }
 
 -- a toll of day 1, disputed at once and decided three days later
 abbrev decided : ℕ → Row
@@ -148,12 +148,12 @@ cases =
     ∷ (soundTables filled ∷ [] are 1 ∷ [])
     -- the tables' lengths, and the words of opening, of an event and of its answer
     ∷ (map (λ t. openCall t scheduleWords .number)
-    (lengthsOf 12 14 30 ∷ lengthsOf 11 14 30 ∷ lengthsOf 13 14 30 ∷ lengthsOf 12 15 30 ∷ lengthsOf 12 14 29 ∷ lengthsOf 12 14 31 ∷ lengthsOf 12 14 0 ∷ [])
+    (lengthsOf 62 14 30 ∷ lengthsOf 61 14 30 ∷ lengthsOf 63 14 30 ∷ lengthsOf 62 15 30 ∷ lengthsOf 62 14 29 ∷ lengthsOf 62 14 31 ∷ lengthsOf 62 14 0 ∷ [])
     gives 0 ∷ 1 ∷ 1 ∷ 1 ∷ 1 ∷ 1 ∷ 1 ∷ [])
     ∷ (map openedBy
     (take 10 scheduleWords ∷ (scheduleWords ++ pos 1 ∷ []) ∷ set scheduleWords 0 (pos 36_525) ∷ set scheduleWords 0 (pos 36_526) ∷ set scheduleWords 10 (pos 0) ∷ [])
     gives 2 ∷ 2 ∷ 0 ∷ 2 ∷ 2 ∷ [])
-    ∷ (map (λ e. eventCall opened e (replicate 5 (pos 0)) .number) (take 6 (words 9 0 0 0) ∷ words 9 0 0 0 ∷ (words 9 0 0 0 ++ pos 0 ∷ []) ∷ [])
+    ∷ (map (λ e. eventCall opened e (replicate 5 (pos 0)) .number) (take 8 (words 9 0 0 0) ∷ words 9 0 0 0 ∷ (words 9 0 0 0 ++ pos 0 ∷ []) ∷ [])
     gives 2 ∷ 0 ∷ 2 ∷ [])
     -- top-up due: 1 yes, 0 no
     ∷ (topupDueCall lowOn2 (pos 2) .value amounts-to pos 1)
@@ -162,7 +162,7 @@ cases =
     ∷ (batchOf 4_096 ∷ batchOf 4_097 ∷ [] gives 0 ∷ 2 ∷ [])
     -- class and rate
     ∷ (class 1 90 ∷ class 1 91 ∷ class 3 0 ∷ class 3 999 ∷ class 4 999 ∷ class 5 0 ∷ class 99 999 ∷ [] gives 1 ∷ 0 ∷ 2 ∷ 2 ∷ 2 ∷ 3 ∷ 3 ∷ [])
-    ∷ (map (tollRate schedule)
+    ∷ (map (tollRate (small 1 .lists))
     (event 2 1 1 1 2 0 1 ∷ event 2 1 1 1 2 0 2 ∷ event 2 1 1 1 3 0 1 ∷ event 2 1 1 1 3 0 2 ∷ event 2 1 1 1 5 0 1 ∷ event 2 1 1 1 5 0 2 ∷ [])
     gives 250 ∷ 500 ∷ 600 ∷ 900 ∷ 1200 ∷ 1600 ∷ [])
     -- a row's kind, amount, settled part, mark, other words
@@ -277,7 +277,7 @@ cases =
     -- 12: the last day
     ∷ (numbers (small 36_524) (ticks 2) gives 0 ∷ 12 ∷ [])
     -- 13: one free row for a payment, none; two rows for a returned check
-    ∷ (numbers (opening 1 schedule 1 2) (openOne ∷ event 3 1 1 3 0 0 0 ∷ event 4 1 1 0 0 0 0 ∷ event 3 1 1 1 0 0 0 ∷ event 3 1 1 1 0 0 0 ∷ [])
+    ∷ (numbers (opening 1 schedule rates 1 2) (openOne ∷ event 3 1 1 3 0 0 0 ∷ event 4 1 1 0 0 0 0 ∷ event 3 1 1 1 0 0 0 ∷ event 3 1 1 1 0 0 0 ∷ [])
     gives 0 ∷ 0 ∷ 13 ∷ 0 ∷ 13 ∷ [])
     -- 14: a refund above the highest
     ∷ (answerNumber (leaving 10_649_600_000) (event 9 0 0 0 0 0 0) ∷ answerNumber (leaving 10_649_600_001) (event 9 0 0 0 0 0 0) ∷ [] gives 0 ∷ 14 ∷ [])
@@ -293,7 +293,7 @@ cases =
     ∷ (stageAndFees (daily 1) ++ stageAndFees (daily 2) ++ stageAndFees (daily 3) ++ stageAndFees (daily 5) gives
     1 ∷ 0 ∷ 0 ∷ 0 ∷ 0 ∷ 2 ∷ 20 ∷ 0 ∷ 0 ∷ 0 ∷ 3 ∷ 20 ∷ 30 ∷ 0 ∷ 0 ∷ 4 ∷ 20 ∷ 30 ∷ 40 ∷ 0 ∷ [])
     -- no row for a fee of 0
-    ∷ (length (bookAfter (opening 1 (feesOf 1 0 0 0) 1 8) (openOne ∷ event 2 1 41 1 2 60 2 ∷ ticks 4) .rows) ∷ [] gives 1 ∷ [])
+    ∷ (length (bookAfter (opening 1 (feesOf 1 0 0 0) rates 1 8) (openOne ∷ event 2 1 41 1 2 60 2 ∷ ticks 4) .rows) ∷ [] gives 1 ∷ [])
     ∷ []
 
 -- every case computes to what document 01 says

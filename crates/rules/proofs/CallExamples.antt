@@ -13,7 +13,7 @@ use Rattle.rules.proofs.Examples.{Case, _gives_, _amounts-to_}
 
 -- as a host may hand them over, full of other numbers
 abbrev pub lent : Tables
-lent = record { header = replicate 12 (pos 9); accounts = replicate 14 (pos 9); journal = replicate 30 (pos 9) }
+lent = record { header = replicate 62 (pos 9); accounts = replicate 14 (pos 9); journal = replicate 30 (pos 9) }
 
 abbrev pub scheduleWords : List ℤ
 scheduleWords = pos 1 ∷ pos 30 ∷ pos 500 ∷ pos 2500 ∷ pos 3000 ∷ pos 250 ∷ pos 500 ∷ pos 600 ∷ pos 900 ∷ pos 1200 ∷ pos 1600 ∷ []
@@ -24,10 +24,10 @@ opened = openCall lent scheduleWords .tables
 -- ---- events
 
 abbrev pub words : ℕ → ℕ → ℕ → ℕ → List ℤ
-words kind account a b = pos kind ∷ pos account ∷ pos a ∷ pos b ∷ pos 0 ∷ pos 0 ∷ pos 0 ∷ []
+words kind account a b = pos kind ∷ pos account ∷ pos a ∷ pos b ∷ replicate 5 (pos 0)
 
 abbrev pub sent : ℕ → ℕ → ℕ → ℕ → Event
-sent kind account a b = record { kind = pos kind; account = pos account; a = pos a; b = pos b; c = pos 0; d = pos 0; e = pos 0 }
+sent kind account a b = record { kind = pos kind; account = pos account; a = pos a; b = pos b; c = pos 0; d = pos 0; e = pos 0; f = pos 0; g = pos 0 }
 
 -- an answer table of six words
 abbrev six : List ℤ
@@ -53,13 +53,13 @@ cases =
     ∷ openCall lent (set scheduleWords 1 (pos 366)) .number
     ∷ openCall lent (set scheduleWords 0 (negsuc 0)) .number
     ∷ openCall lent [] .number ∷ [] gives 0 ∷ 1 ∷ 1 ∷ 2 ∷ 2 ∷ 2 ∷ [])
-    -- a single event: unsound before malformed; seven words, and five for the answer
+    -- a single event: unsound before malformed; nine words, and five for the answer
     ∷ (eventCall lent (words 9 0 0 0) six .number
     ∷ eventCall lent [] [] .number
     ∷ eventCall damaged (words 9 0 0 0) six .number
     ∷ eventCall opened [] six .number
     ∷ eventCall opened (words 9 0 0 0) (replicate 4 (pos 7)) .number
-    ∷ eventCall opened (words 10 0 0 0) six .number
+    ∷ eventCall opened (words 11 0 0 0) six .number
     ∷ eventCall opened (words 3 3 100 2) six .number
     ∷ eventCall opened (words 9 0 0 0) six .number ∷ [] gives 1 ∷ 1 ∷ 1 ∷ 2 ∷ 2 ∷ 2 ∷ 3 ∷ 0 ∷ [])
     -- a batch: it goes on after a refusal; an empty one runs; 4 events want 20 words

@@ -6,7 +6,7 @@ use lib.ListN.{length, replicate}
 use lib.IntN.{ℤ, pos}
 use Rattle.dates.specs.declared.Date.{Date}
 use Rattle.dates.specs.Gregorian.{dateOf}
-use Rattle.rules.specs.Schedule.{Schedule, class}
+use Rattle.rules.specs.Schedule.{Rates, Schedule, class}
 use Rattle.rules.specs.Book.{Instruction, Book, account, row}
 use Rattle.rules.specs.Posting.{bookAfter, answersTo}
 use Rattle.rules.specs.Opening.{opening}
@@ -14,20 +14,24 @@ use Rattle.rules.proofs.Computing.{computing}
 
 -- ---- how cases are written
 
--- an event's seven words
+-- an event's words but for f and g, which are 0
 abbrev pub event : ℕ → ℕ → ℕ → ℕ → ℕ → ℕ → ℕ → Instruction
-event k n a b c d e = record { kind = k; account = n; a = a; b = b; c = c; d = d; e = e }
+event k n a b c d e = record { kind = k; account = n; a = a; b = b; c = c; d = d; e = e; f = 0; g = 0 }
 
 abbrev pub ticks : ℕ → List Instruction
 ticks n = replicate n (event 9 0 0 0 0 0 0)
 
 -- the schedule of M1
 abbrev pub schedule : Schedule
-schedule = record { stage = 30; fee2 = 500; fee3 = 2500; fee4 = 3000; rates = record { tag1 = 250; plate1 = 500; tag2 = 600; plate2 = 900; tag3 = 1200; plate3 = 1600 } }
+schedule = record { stage = 30; fee2 = 500; fee3 = 2500; fee4 = 3000 }
+
+-- and its rates
+abbrev pub rates : Rates
+rates = record { tag1 = 250; plate1 = 500; tag2 = 600; plate2 = 900; tag3 = 1200; plate3 = 1600 }
 
 -- a book of two accounts and sixteen rows, opened on a day
 abbrev pub small : ℕ → Book
-small day = opening day schedule 2 16
+small day = opening day schedule rates 2 16
 
 abbrev pub numbers : Book → List Instruction → List ℕ
 numbers b es = map (λ a. a .number) (answersTo b es)

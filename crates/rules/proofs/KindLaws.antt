@@ -1,6 +1,6 @@
--- A claim for every kind of event: one case for each of the nine, and one for every other number.
+-- A claim for every kind of event: one case for each of them, and one for every other number.
 use Prim.Native.Nat.{ℕ, zero, suc}
-use Rattle.records.specs.Codes.{EventOpen, EventToll, EventPayment, EventReturnedCheck, EventDispute, EventDecision, EventTopupResult, EventCloseRequest, EventTick}
+use Rattle.records.specs.Codes.{EventOpen, EventToll, EventPayment, EventReturnedCheck, EventDispute, EventDecision, EventTopupResult, EventCloseRequest, EventTick, EventRateList}
 
 -- the cases of a claim P about a kind
 pub record ByKind (P : ℕ → Type 0) : Type 0 where
@@ -13,8 +13,9 @@ pub record ByKind (P : ℕ → Type 0) : Type 0 where
   pub topup-result : P EventTopupResult
   pub close-request : P EventCloseRequest
   pub tick : P EventTick
+  pub rate-list : P EventRateList
   pub none : P 0
-  pub past : (k : ℕ) → P (suc (suc (suc (suc (suc (suc (suc (suc (suc (suc k))))))))))
+  pub past : (k : ℕ) → P (suc (suc (suc (suc (suc (suc (suc (suc (suc (suc (suc k)))))))))))
 
 pub by-kind : (P : ℕ → Type 0) → ByKind P → (k : ℕ) → P k
 by-kind P c zero = c .none
@@ -27,4 +28,5 @@ by-kind P c (suc (suc (suc (suc (suc (suc zero)))))) = c .decision
 by-kind P c (suc (suc (suc (suc (suc (suc (suc zero))))))) = c .topup-result
 by-kind P c (suc (suc (suc (suc (suc (suc (suc (suc zero)))))))) = c .close-request
 by-kind P c (suc (suc (suc (suc (suc (suc (suc (suc (suc zero))))))))) = c .tick
-by-kind P c (suc (suc (suc (suc (suc (suc (suc (suc (suc (suc k)))))))))) = c .past k
+by-kind P c (suc (suc (suc (suc (suc (suc (suc (suc (suc (suc zero)))))))))) = c .rate-list
+by-kind P c (suc (suc (suc (suc (suc (suc (suc (suc (suc (suc (suc k))))))))))) = c .past k

@@ -7,10 +7,13 @@ pub mod PostingLaws
 pub mod RefusalLaws
 pub mod Computing
 pub mod Examples
+pub mod RateListLaws
 pub mod StorableLaws
+pub mod HeaderLaws
 pub mod TableLaws
 pub mod OpeningLaws
 pub mod Boundaries
 pub mod CallExamples
 pub mod KindLaws
 pub mod Borders
+pub mod RateListExamples

@@ -12,6 +12,7 @@ use Rattle.lists.specs.Lists.{every}
 use Rattle.lists.proofs.TestLaws.{allOf-at}
 use Rattle.lists.proofs.ListLaws.{every-at, every-all}
 use Rattle.rules.specs.Schedule.{scheduleFits}
+use Rattle.rules.specs.RateLists.{listsFit}
 use Rattle.rules.specs.Rows.{blank}
 use Rattle.rules.specs.Book.{unused, Book}
 use Rattle.rules.specs.Opening.{dayFits, sizesFit}
@@ -21,16 +22,16 @@ use Rattle.rules.specs.SoundFacts.{Sound}
 -- ---- the test gives the facts
 
 module _ (b : Book) (e : sound b ≡ true) where
-  part : (k : ℕ) → getD (dayFits (b .day) ∷ scheduleFits (b .schedule) ∷ sizesFit (length (b .accounts)) (b .room) ∷ leb (length (b .rows)) (b .room)
+  part : (k : ℕ) → getD (dayFits (b .day) ∷ scheduleFits (b .schedule) ∷ listsFit (b .lists) ∷ sizesFit (length (b .accounts)) (b .room) ∷ leb (length (b .rows)) (b .room)
       ∷ every (rowSound b) (b .rows) ∷ every (accountSound b) (b .accounts) ∷ []) k true ≡ true
   unfolding sound
   part = allOf-at _ e
 
   row-sound : (k : ℕ) → k < length (b .rows) → rowSound b (suc k) (getD (b .rows) k blank) ≡ true
-  row-sound k h = every-at (rowSound b) 1 (b .rows) blank (part 4) k (suc k) (omega arith) h
+  row-sound k h = every-at (rowSound b) 1 (b .rows) blank (part 5) k (suc k) (omega arith) h
 
   account-sound : (k : ℕ) → k < length (b .accounts) → accountSound b (suc k) (getD (b .accounts) k unused) ≡ true
-  account-sound k h = every-at (accountSound b) 1 (b .accounts) unused (part 5) k (suc k) (omega arith) h
+  account-sound k h = every-at (accountSound b) 1 (b .accounts) unused (part 6) k (suc k) (omega arith) h
 
   pub sound-facts : Sound b
   unfolding rowSound accountSound
@@ -38,8 +39,9 @@ module _ (b : Book) (e : sound b ≡ true) where
     near = record {
       day = part 0;
       schedule = part 1;
-      sizes = part 2;
-      fits = part 3;
+      lists = part 2;
+      sizes = part 3;
+      fits = part 4;
       shape = λ k h. let p = allOf-at _ (row-sound k h) in record {
         kind = p 0;
         amount = p 1;
@@ -74,4 +76,4 @@ facts-sound b s =
     let v = s .near .standing k h in
     let w = s .near .counted k h in
     rw (z, v .state, v .zero, v .request, v .topup, v .decline, w .returned, w .used-is-paid, s .no-idle-money k h, w .clear)) in
-    rw (s .near .day, s .near .schedule, s .near .sizes, s .near .fits, p, q)
+    rw (s .near .day, s .near .schedule, s .near .lists, s .near .sizes, s .near .fits, p, q)

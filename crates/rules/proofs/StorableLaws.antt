@@ -16,12 +16,14 @@ use Rattle.lists.specs.Lists.{count}
 use Rattle.lists.proofs.TestLaws.{and-left, and-right, allOf-zero}
 use Rattle.lists.proofs.SumLaws.{count-le}
 use Rattle.records.specs.Limits.{finalDay, mostAccounts, mostRows, longestStage, highestFee, highestRate, highestRefund, highestPassage, highestTopup, mostDeclines}
-use Rattle.rules.specs.Schedule.{Schedule, scheduleFits, ratesFit}
+use Rattle.rules.specs.Schedule.{Rates, Schedule, scheduleFits, ratesFit}
+use Rattle.rules.specs.RateLists.{RateList, noList, listInRange}
 use Rattle.rules.specs.Rows.{Row, blank, KindToll, KindFee, KindReversal, KindPayment, KindCredit, rowNo, toll, unsettled}
 use Rattle.rules.specs.Book.{Account, StateUnused, unused, accountNo, Book}
 use Rattle.rules.specs.Opening.{dayFits, sizesFit}
 use Rattle.rules.specs.Soundness.{kindFits, mostOf, amountFits, settledFits, markFits, tollWordsFit, noReference, rowDayFits, dueWithin, holdFits, accountUsed, names, referenceFits, stateFits, unusedZero, requestFits, topupFits, declineFits, returnedOf, returnedFits}
 use Rattle.rules.specs.SoundFacts.{Near}
+use Rattle.rules.proofs.RateListLaws.{list-in-range}
 
 -- ---- what the tests bound
 
@@ -208,47 +210,66 @@ pub record StorableSchedule (s : Schedule) : Type 0 where
   pub fee2 : s .fee2 ≤ highestFee
   pub fee3 : s .fee3 ≤ highestFee
   pub fee4 : s .fee4 ≤ highestFee
-  pub tag1 : s .rates .tag1 ≤ highestRate
-  pub plate1 : s .rates .plate1 ≤ highestRate
-  pub tag2 : s .rates .tag2 ≤ highestRate
-  pub plate2 : s .rates .plate2 ≤ highestRate
-  pub tag3 : s .rates .tag3 ≤ highestRate
-  pub plate3 : s .rates .plate3 ≤ highestRate
 
 pub schedule-storable : (s : Schedule) → scheduleFits s ≡ true → StorableSchedule s
-unfolding scheduleFits ratesFit
+unfolding scheduleFits
 schedule-storable s e =
     let l : Bool = s .stage from 1 to longestStage in
     let f2 : Bool = leb (s .fee2) highestFee in
     let f3 : Bool = leb (s .fee3) highestFee in
     let f4 : Bool = leb (s .fee4) highestFee in
-    let fit : ℕ → Bool = λ n. n from 1 to highestRate in
-    let r1 : Bool = fit (s .rates .tag1) in
-    let r2 : Bool = fit (s .rates .plate1) in
-    let r3 : Bool = fit (s .rates .tag2) in
-    let r4 : Bool = fit (s .rates .plate2) in
-    let r5 : Bool = fit (s .rates .tag3) in
-    let r6 : Bool = fit (s .rates .plate3) in
-    let e4 = and-left (l && f2 && f3 && f4) (ratesFit (s .rates)) e in
-    let e3 = and-left (l && f2 && f3) f4 e4 in
+    let e3 = and-left (l && f2 && f3) f4 e in
     let e2 = and-left (l && f2) f3 e3 in
-    let q6 = and-right (l && f2 && f3 && f4) (r1 && r2 && r3 && r4 && r5 && r6) e in
+    record {
+      stage = between-le 1 longestStage (s .stage) (and-left l f2 e2);
+      fee2 = leb-true (s .fee2) highestFee (and-right l f2 e2);
+      fee3 = leb-true (s .fee3) highestFee (and-right (l && f2) f3 e3);
+      fee4 = leb-true (s .fee4) highestFee (and-right (l && f2 && f3) f4 e);
+    }
+
+-- ---- a rate list's words
+
+pub record StorableRates (r : Rates) : Type 0 where
+  pub tag1 : r .tag1 ≤ highestRate
+  pub plate1 : r .plate1 ≤ highestRate
+  pub tag2 : r .tag2 ≤ highestRate
+  pub plate2 : r .plate2 ≤ highestRate
+  pub tag3 : r .tag3 ≤ highestRate
+  pub plate3 : r .plate3 ≤ highestRate
+
+pub rates-storable : (r : Rates) → ratesFit r ≡ true → StorableRates r
+unfolding ratesFit
+rates-storable r q6 =
+    let fit : ℕ → Bool = λ n. n from 1 to highestRate in
+    let r1 : Bool = fit (r .tag1) in
+    let r2 : Bool = fit (r .plate1) in
+    let r3 : Bool = fit (r .tag2) in
+    let r4 : Bool = fit (r .plate2) in
+    let r5 : Bool = fit (r .tag3) in
+    let r6 : Bool = fit (r .plate3) in
     let q5 = and-left (r1 && r2 && r3 && r4 && r5) r6 q6 in
     let q4 = and-left (r1 && r2 && r3 && r4) r5 q5 in
     let q3 = and-left (r1 && r2 && r3) r4 q4 in
     let q2 = and-left (r1 && r2) r3 q3 in
     record {
-      stage = between-le 1 longestStage (s .stage) (and-left l f2 e2);
-      fee2 = leb-true (s .fee2) highestFee (and-right l f2 e2);
-      fee3 = leb-true (s .fee3) highestFee (and-right (l && f2) f3 e3);
-      fee4 = leb-true (s .fee4) highestFee (and-right (l && f2 && f3) f4 e4);
-      tag1 = between-le 1 highestRate (s .rates .tag1) (and-left r1 r2 q2);
-      plate1 = between-le 1 highestRate (s .rates .plate1) (and-right r1 r2 q2);
-      tag2 = between-le 1 highestRate (s .rates .tag2) (and-right (r1 && r2) r3 q3);
-      plate2 = between-le 1 highestRate (s .rates .plate2) (and-right (r1 && r2 && r3) r4 q4);
-      tag3 = between-le 1 highestRate (s .rates .tag3) (and-right (r1 && r2 && r3 && r4) r5 q5);
-      plate3 = between-le 1 highestRate (s .rates .plate3) (and-right (r1 && r2 && r3 && r4 && r5) r6 q6);
+      tag1 = between-le 1 highestRate (r .tag1) (and-left r1 r2 q2);
+      plate1 = between-le 1 highestRate (r .plate1) (and-right r1 r2 q2);
+      tag2 = between-le 1 highestRate (r .tag2) (and-right (r1 && r2) r3 q3);
+      plate2 = between-le 1 highestRate (r .plate2) (and-right (r1 && r2 && r3) r4 q4);
+      tag3 = between-le 1 highestRate (r .tag3) (and-right (r1 && r2 && r3 && r4) r5 q5);
+      plate3 = between-le 1 highestRate (r .plate3) (and-right (r1 && r2 && r3 && r4 && r5) r6 q6);
     }
+
+pub record StorableList (l : RateList) : Type 0 where
+  pub day : l .firstDay ≤ finalDay
+  pub rates : StorableRates (l .rates)
+
+pub list-storable : (l : RateList) → listInRange l ≡ true → StorableList l
+unfolding listInRange
+list-storable l e = record {
+  day = between-le 1 finalDay (l .firstDay) (and-left (l .firstDay from 1 to finalDay) (ratesFit (l .rates)) e);
+  rates = rates-storable (l .rates) (and-right (l .firstDay from 1 to finalDay) (ratesFit (l .rates)) e);
+}
 
 -- ---- a nearly sound book's own limits
 
@@ -259,6 +280,9 @@ module _ (past : ℕ) (b : Book) (n : Near past b) where
 
   pub stage-le : b .schedule .stage ≤ longestStage
   stage-le = schedule-storable (b .schedule) (n .schedule) .stage
+
+  pub list-at-storable : (k : ℕ) → k < length (b .lists) → StorableList (getD (b .lists) k noList)
+  list-at-storable k h = list-storable (getD (b .lists) k noList) (list-in-range (b .lists) (n .lists) k h)
 
   pub accounts-le : length (b .accounts) ≤ mostAccounts
   unfolding sizesFit

@@ -1,4 +1,5 @@
--- The book (document 01, "The book"): a day, a schedule, accounts, the used rows, and how many rows the journal has room for.
+-- The book (document 01, "The book"): a day, a schedule, rate lists (document 02, No. 1), accounts, the used rows, and how many rows the
+-- journal has room for.
 use mathlib.Core.Bool.{Bool, not, _&&_}
 use Prim.Native.Nat.{ℕ, _+_, _-_}
 use mathlib.Core.List.{List, [], _∷_, _++_}
@@ -13,27 +14,33 @@ pub use Rattle.records.specs.Updates.{unused}
 use Rattle.lists.specs.Tests.{_is_}
 use Rattle.lists.specs.Lists.{sumBy, only}
 use Rattle.rules.specs.Schedule.{Schedule}
+use Rattle.rules.specs.RateLists.{RateList}
 use Rattle.rules.specs.Rows.{Row, rowNo, sourceOf, debitOf}
 use Rattle.rules.specs.Settlement.{settleAccounts}
 
 pub record Book : Type 0 where
   pub day : ℕ
   pub schedule : Schedule
+  pub lists : List RateList
   pub accounts : List Account
   pub rows : List Row
   pub room : ℕ
 
 -- the book with another day
 abbrev pub withDay : ℕ → Book → Book
-withDay d b = record { day = d; schedule = b .schedule; accounts = b .accounts; rows = b .rows; room = b .room }
+withDay d b = record { day = d; schedule = b .schedule; lists = b .lists; accounts = b .accounts; rows = b .rows; room = b .room }
+
+-- the book with other rate lists
+abbrev pub withLists : List RateList → Book → Book
+withLists ls b = record { day = b .day; schedule = b .schedule; lists = ls; accounts = b .accounts; rows = b .rows; room = b .room }
 
 -- the book with other accounts
 abbrev pub withAccounts : List Account → Book → Book
-withAccounts xs b = record { day = b .day; schedule = b .schedule; accounts = xs; rows = b .rows; room = b .room }
+withAccounts xs b = record { day = b .day; schedule = b .schedule; lists = b .lists; accounts = xs; rows = b .rows; room = b .room }
 
 -- the book with other rows
 abbrev pub withRows : List Row → Book → Book
-withRows rs b = record { day = b .day; schedule = b .schedule; accounts = b .accounts; rows = rs; room = b .room }
+withRows rs b = record { day = b .day; schedule = b .schedule; lists = b .lists; accounts = b .accounts; rows = rs; room = b .room }
 
 -- ---- accounts and rows by their numbers, "numbered from 1"; all 0 where there is none
 

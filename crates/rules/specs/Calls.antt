@@ -1,7 +1,7 @@
 -- The calls, on any tables and lengths: every answer word, value, part and table word afterwards (document 01, "Events" and
 -- "Questions, dates, listing").
 use mathlib.Core.Path.{_≡_}
-use mathlib.Core.Bool.{not, cond, _&&_, _||_}
+use mathlib.Core.Bool.{Bool, not, cond, _&&_, _||_}
 use Prim.Native.Nat.{ℕ, _*_, _-_}
 use mathlib.Core.List.{List, [], _∷_, _++_, map}
 use lib.ListN.{length, drop, take}
@@ -13,11 +13,11 @@ use Rattle.records.specs.Layout
 use Rattle.records.specs.Encoding.{natOf, word, instructionOf, instructionFrom, answerWords, writeAll}
 use Rattle.lists.specs.Tests.{_is_, _from_to_, Cases, first}
 use Rattle.records.specs.Limits.{mostEvents}
-use Rattle.rules.specs.Schedule.{scheduleFits}
+use Rattle.rules.specs.Schedule.{ratesFit, scheduleFits}
 use Rattle.rules.specs.Book.{Instruction, Answer, StateUnused, Book, account, balance, topupDue}
 use Rattle.rules.specs.Posting.{post, Posted, refusalBy, bookAfter, answersTo}
 use Rattle.rules.specs.Opening.{opening, dayFits}
-use Rattle.rules.specs.Tables.{Tables, accountsIn, roomIn, rowsUsed, scheduleFrom, bookOf, tablesOf, lengthsFit, soundTables}
+use Rattle.rules.specs.Tables.{Tables, accountsIn, roomIn, rowsUsed, scheduleFrom, ratesFrom, bookOf, tablesOf, lengthsFit, soundTables}
 
 -- what a call leaves: the number that it returns, the book's tables and the answer table
 pub record Called : Type 0 where
@@ -35,18 +35,22 @@ pub record Gives (c : Called) (n : ℤ) (u : Tables) (v : List ℤ) : Type 0 whe
 unfoldable pub written : List Answer → List ℤ → List ℤ
 written xs t = writeAll answerWords xs ++ drop (length xs * Layout.answerWidth) t
 
--- ---- opening: the first day and the schedule, eleven words
+-- ---- opening: the first day, the schedule and six rates, eleven words
+
+-- eleven words, each in its range
+unfoldable pub openingFits : List ℤ → Bool
+openingFits w =
+    length w is Layout.openingWidth && dayFits (word w Layout.firstDayPlace)
+    && scheduleFits (scheduleFrom w Layout.openingSchedule) && ratesFit (ratesFrom w Layout.openingRates)
 
 -- "1: opening: lengths unfit", "2: opening: first day or schedule out of range"
 unfoldable pub openingRefusals : Tables → List ℤ → Cases
-openingRefusals t w =
-    (Unsound, not (lengthsFit t))
-    ∷ (Malformed, not (length w is Layout.openingWidth && dayFits (word w Layout.firstDayPlace) && scheduleFits (scheduleFrom w Layout.openingSchedule)))
-    ∷ []
+openingRefusals t w = (Unsound, not (lengthsFit t)) ∷ (Malformed, not (openingFits w)) ∷ []
 
--- the book that opening makes: first day and schedule from its words, sizes from the tables
+-- the book that opening makes: first day, schedule and rates from its words, sizes from the tables
 unfoldable pub openedBook : Tables → List ℤ → Book
-openedBook t w = opening (word w Layout.firstDayPlace) (scheduleFrom w Layout.openingSchedule) (accountsIn t) (roomIn t)
+openedBook t w =
+    opening (word w Layout.firstDayPlace) (scheduleFrom w Layout.openingSchedule) (ratesFrom w Layout.openingRates) (accountsIn t) (roomIn t)
 
 -- "a refused batch or opening writes nothing"
 unfoldable pub openCall : Tables → List ℤ → Called
@@ -54,7 +58,7 @@ openCall t w =
     let n : ℕ = first (openingRefusals t w) in
     record { number = n; tables = cond (n is 0) (tablesOf (openedBook t w)) t; answers = [] }
 
--- ---- a single event: seven words, and an answer table with room for five
+-- ---- a single event: nine words, and an answer table with room for five
 
 -- "1: book not sound"; "2: kind, range, length, batch or answer table wrong"
 unfoldable pub eventRefusals : Tables → List ℤ → List ℤ → Cases

@@ -1,16 +1,17 @@
--- Events 1 to 8 (document 01, "Events"): what each does to the book when it is accepted, before settlement.
+-- Events 1 to 8 (document 01, "Events") and 10 (document 02, No. 1): what each does to the book when it is accepted, before settlement.
 use mathlib.Core.Bool.{cond}
 use Prim.Native.Nat.{ℕ, _+_, _-_}
-use mathlib.Core.List.{map}
+use mathlib.Core.List.{List, [], _∷_, _++_, map}
 use lib.ListN.{set}
 use Rattle.records.specs.Codes.{MethodCard, MethodCheckReturned, DisputeEnded, DisputeUpheld, Yes}
 use Rattle.records.specs.AccountOperations.{opened, checkReturned, declinedOn, topupPaid, closeRequestedOn}
 use Rattle.lists.specs.Tests.{_is_}
 use Rattle.lists.specs.Lists.{sumBy, only}
 use Rattle.records.specs.Limits.{returnFee}
-use Rattle.rules.specs.Schedule.{Schedule, class, rate}
+use Rattle.rules.specs.Schedule.{class, rate}
+use Rattle.rules.specs.RateLists.{RateList, inForce, listOf}
 use Rattle.rules.specs.Rows.{Row, KindToll, KindFee, KindReversal, KindPayment, KindCredit, DisputeHeld, newRow, withSettled, withMark, withDue, withDispute, withHoldStart, withReference, remaining, settleWhole, feeNaming}
-use Rattle.rules.specs.Book.{Book, Instruction, withRows, account, row, putAccount, putRow, addRow}
+use Rattle.rules.specs.Book.{Book, Instruction, withLists, withRows, account, row, putAccount, putRow, addRow}
 
 -- what an accepted event makes of the book, settlement apart
 abbrev pub Change : Type 0
@@ -24,14 +25,14 @@ openAccount b e = putAccount (e .account) (opened (e .a) (e .b)) b
 
 -- ---- 2. "Toll: a passage number, .. c axles, d height, e mode. Row: rate, stage 0, due today + L"
 
--- the rate by class and mode
-unfoldable pub tollRate : Schedule → Instruction → ℕ
-tollRate s e = rate (s .rates) (class (e .c) (e .d)) (e .e)
+-- the rate by class and mode: "A toll takes the list in force on its passage day, not on the posting day" (document 02, No. 1)
+unfoldable pub tollRate : List RateList → Instruction → ℕ
+tollRate ls e = rate (inForce ls (e .b) .rates) (class (e .c) (e .d)) (e .e)
 
 -- "Row: rate, stage 0, due today + L", its reference the passage number
 unfoldable pub postToll : Change
 postToll b e =
-    addRow (withReference (e .a) (withDue (b .day + b .schedule .stage) (newRow KindToll (e .account) (b .day) (tollRate (b .schedule) e)))) b
+    addRow (withReference (e .a) (withDue (b .day + b .schedule .stage) (newRow KindToll (e .account) (b .day) (tollRate (b .lists) e)))) b
 
 -- ---- 3. "Payment: a amount, b method"
 
@@ -106,3 +107,9 @@ topupResult b e = cond (e .b is Yes) (payTopup b e) (declineTopup b e)
 -- the account is put back as pending
 unfoldable pub requestClose : Change
 requestClose b e = putAccount (e .account) (closeRequestedOn (b .day) (account b (e .account))) b
+
+-- ---- 10. "A new event 10, account 0 as at a tick, adds one list" (document 02, No. 1)
+
+-- after the lists there are
+unfoldable pub addList : Change
+addList b e = withLists (b .lists ++ (listOf e ∷ [])) b

@@ -1,4 +1,5 @@
 pub mod Schedule
+pub mod RateLists
 pub mod Rows
 pub mod Settlement
 pub mod SettlementSteps

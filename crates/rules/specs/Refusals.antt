@@ -1,30 +1,31 @@
--- The refusals 2 to 14 (document 01, "Events" and its table of answers), each a test, as one table in checking order.
+-- The refusals 2 to 15 (document 01, "Events" and its table of answers; document 02), each a test, as one table in checking order.
 use mathlib.Core.Bool.{Bool, false, not, cond, _&&_, _||_}
 use Prim.Native.Nat.{ℕ, _+_}
 use mathlib.Core.List.{[], _∷_}
 use lib.ListN.{length, getD, take, drop}
 use lib.Dec.{leb, ltb}
-use Rattle.records.specs.Numbers.{Malformed, Unknown, Taken, Closed, Unclassed, Misdated, Duplicate, Barred, NoRow, Untimely, LastDay, Full, Ceiling}
-use Rattle.records.specs.Codes.{MethodCheck, EventOpen, EventToll, EventPayment, EventReturnedCheck, EventDispute, EventDecision, EventTopupResult, EventCloseRequest, EventTick, MethodCard, Yes, ModeTag, ModePlate}
+use Rattle.records.specs.Numbers.{Malformed, Unknown, Taken, Closed, Unclassed, Misdated, Duplicate, Barred, NoRow, Untimely, LastDay, Full, Ceiling, ListRefused}
+use Rattle.records.specs.Codes.{MethodCheck, EventOpen, EventToll, EventPayment, EventReturnedCheck, EventDispute, EventDecision, EventTopupResult, EventCloseRequest, EventTick, EventRateList, MethodCard, Yes, ModeTag, ModePlate}
 use Rattle.lists.specs.Tests.{_is_, _from_to_, _implies_, Cases, first}
 use Rattle.lists.specs.Lists.{exists}
 use Rattle.records.specs.Limits
 use Rattle.rules.specs.Schedule.{class}
+use Rattle.rules.specs.RateLists.{listOf, lastFirstDay, listInRange}
 use Rattle.rules.specs.Rows.{KindToll, KindPayment, KindRefund, toll, heldToll, unsettled}
 use Rattle.rules.specs.Book.{StateUnused, StatePending, StateClosed, Instruction, Book, account, row, settled, topupDue}
-use Rattle.rules.specs.Events.{Change, openAccount, postToll, postPayment, returnCheck, holdToll, decide, topupResult, requestClose}
+use Rattle.rules.specs.Events.{Change, openAccount, postToll, postPayment, returnCheck, holdToll, decide, topupResult, requestClose, addList}
 use Rattle.rules.specs.Tick.{tick}
 
--- ---- the nine events by their kind, each ended by settlement
+-- ---- the events by their kind, each ended by settlement
 
--- a kind that is none of the nine
+-- a kind that is none of these
 abbrev pub noChange : Change
 noChange b e = b
 
--- events 1 to 9; no other kind changes anything
+-- events 1 to 10; no other kind changes anything
 unfoldable pub changeOf : ℕ → Change
 changeOf k =
-    getD (noChange ∷ openAccount ∷ postToll ∷ postPayment ∷ returnCheck ∷ holdToll ∷ decide ∷ topupResult ∷ requestClose ∷ tick ∷ []) k noChange
+    getD (noChange ∷ openAccount ∷ postToll ∷ postPayment ∷ returnCheck ∷ holdToll ∷ decide ∷ topupResult ∷ requestClose ∷ tick ∷ addList ∷ []) k noChange
 
 -- the book after the event, were it accepted
 unfoldable pub after : Change
@@ -36,19 +37,23 @@ after b e = settled (changeOf (e .kind) b e)
 abbrev pub Form : Type 0
 Form = Instruction → Bool
 
--- c, d and e are not named
-abbrev pub zeroFrom-c : Form
-zeroFrom-c e = e .c is 0 && e .d is 0 && e .e is 0
+-- f and g are not named
+abbrev pub zeroFrom-f : Form
+zeroFrom-f e = e .f is 0 && e .g is 0
 
--- b to e are not named
+-- c to g are not named
+abbrev pub zeroFrom-c : Form
+zeroFrom-c e = e .c is 0 && e .d is 0 && e .e is 0 && zeroFrom-f e
+
+-- b to g are not named
 abbrev pub zeroFrom-b : Form
 zeroFrom-b e = e .b is 0 && zeroFrom-c e
 
--- a to e are not named
+-- a to g are not named
 abbrev pub zeroFrom-a : Form
 zeroFrom-a e = e .a is 0 && zeroFrom-b e
 
--- a kind that is none of the nine is malformed
+-- a kind that is none of the events' is malformed
 abbrev pub noForm : Form
 noForm e = false
 
@@ -60,7 +65,7 @@ openForm e = leb (e .a) Limits.highestTopup && leb (e .b) Limits.highestTopup &&
 unfoldable pub tollForm : Form
 tollForm e =
     e .a from 1 to Limits.highestPassage && e .b from 1 to Limits.finalDay && e .c from 1 to Limits.mostAxles
-    && leb (e .d) Limits.highestHeight && e .e from ModeTag to ModePlate
+    && leb (e .d) Limits.highestHeight && e .e from ModeTag to ModePlate && zeroFrom-f e
 
 -- "3. Payment: a amount 1 to 1,000,000, b method 1 to 3"
 unfoldable pub paymentForm : Form
@@ -90,16 +95,20 @@ requestForm e = zeroFrom-a e
 unfoldable pub tickForm : Form
 tickForm e = e .account is 0 && zeroFrom-a e
 
+-- "A new event 10, account 0 as at a tick, .. for its first day (1 to 36,525) and six rates" (document 02, No. 1)
+unfoldable pub listForm : Form
+listForm e = e .account is 0 && listInRange (listOf e)
+
 -- the form of each kind
 unfoldable pub formOf : ℕ → Form
 formOf k =
-    getD (noForm ∷ openForm ∷ tollForm ∷ paymentForm ∷ returnForm ∷ disputeForm ∷ decisionForm ∷ resultForm ∷ requestForm ∷ tickForm ∷ []) k noForm
+    getD (noForm ∷ openForm ∷ tollForm ∷ paymentForm ∷ returnForm ∷ disputeForm ∷ decisionForm ∷ resultForm ∷ requestForm ∷ tickForm ∷ listForm ∷ []) k noForm
 
 -- the words are those of the event's kind
 unfoldable pub wellFormed : Form
 wellFormed e = formOf (e .kind) e
 
--- ---- 3 to 14
+-- ---- 15, and 3 to 14
 
 -- a test of an event on a book
 abbrev pub Refusal : Type 0
@@ -113,13 +122,17 @@ inTable b e = e .account from 1 to length (b .accounts)
 abbrev pub stateOf : Book → Instruction → ℕ
 stateOf b e = account b (e .account) .state
 
--- "9. Day tick, account 0": the event concerns the whole book and names no account
+-- "9. Day tick, account 0"; "event 10, account 0 as at a tick": the event concerns the whole book and names no account
 abbrev pub wholeBook : Form
-wholeBook e = e .kind is EventTick
+wholeBook e = e .kind is EventTick || e .kind is EventRateList
 
 -- the account whose rows an event adds, changes and settles; every other account is left alone
 abbrev pub postsOn : Book → Instruction → ℕ
 postsOn b e = e .account
+
+-- 15 "for a first day not after the last list's, or for a ninth list, checked after 2" (document 02, No. 1)
+unfoldable pub listRefused : Refusal
+listRefused b e = e .kind is EventRateList && (leb (e .a) (lastFirstDay (b .lists)) || leb Limits.mostLists (length (b .lists)))
 
 -- 3 "account unused, or not from 1 to the table's count"; "3 doesn't concern event 1 inside the table"
 unfoldable pub unknown : Refusal
@@ -178,10 +191,11 @@ full b e = ltb (b .room) (length (after b e .rows))
 unfoldable pub ceiling : Refusal
 ceiling b e = exists (λ r. r .kind is KindRefund && ltb Limits.highestRefund (r .amount)) (drop (length (b .rows)) (after b e .rows))
 
--- "The lowest number that applies wins" (1 is the tables': see Calls)
+-- "The lowest number that applies wins" (1 is the tables': see Calls), 15 "checked after 2" (document 02, No. 1)
 unfoldable pub refusals : Book → Instruction → Cases
 refusals b e =
     (Malformed, not (wellFormed e))
+    ∷ (ListRefused, listRefused b e)
     ∷ (Unknown, unknown b e)
     ∷ (Taken, taken b e)
     ∷ (Closed, onClosed b e)
@@ -200,9 +214,9 @@ refusals b e =
 unfoldable pub answerNumber : Book → Instruction → ℕ
 answerNumber b e = first (refusals b e)
 
--- how many of the refusals concern every kind alike: 2 to 5
+-- how many of the refusals are decided for every kind alike: 2, 15, 3, 4 and 5
 unfoldable pub sharedCount : ℕ
-sharedCount = 4
+sharedCount = 5
 
 -- the refusals that are decided before the event's kind is looked into further
 unfoldable pub sharedRefusals : Book → Instruction → Cases

@@ -1,4 +1,4 @@
--- The schedule of stage length, fees and rates, and the class of a vehicle (document 01, "The book" and event 2).
+-- The schedule of stage length and fees, six rates, and the class of a vehicle (document 01, "The book" and event 2).
 use Prim.Native.Nat.{ℕ, _+_, _*_, _-_}
 use mathlib.Core.Bool.{Bool, _&&_, _||_}
 use mathlib.Core.List.{[], _∷_}
@@ -16,13 +16,12 @@ pub record Rates : Type 0 where
   pub tag3 : ℕ
   pub plate3 : ℕ
 
--- "stage length L, fees for stages 2, 3, 4, six rates"
+-- "stage length L, fees for stages 2, 3, 4"
 pub record Schedule : Type 0 where
   pub stage : ℕ
   pub fee2 : ℕ
   pub fee3 : ℕ
   pub fee4 : ℕ
-  pub rates : Rates
 
 -- ---- the class of a vehicle
 
@@ -60,4 +59,3 @@ ratesFit r =
 unfoldable pub scheduleFits : Schedule → Bool
 scheduleFits s =
     s .stage from 1 to longestStage && leb (s .fee2) highestFee && leb (s .fee3) highestFee && leb (s .fee4) highestFee
-    && ratesFit (s .rates)

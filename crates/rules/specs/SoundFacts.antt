@@ -7,6 +7,7 @@ use mathlib.Core.List.{List}
 use lib.ListN.{length, getD}
 use lib.Dec.{leb}
 use Rattle.rules.specs.Schedule.{scheduleFits}
+use Rattle.rules.specs.RateLists.{listsFit}
 use Rattle.rules.specs.Rows.{Row, blank}
 use Rattle.rules.specs.Book.{Account, unused, Book}
 use Rattle.rules.specs.Opening.{dayFits, sizesFit}
@@ -49,6 +50,7 @@ pub record SumsFit (rows : List Row) (n : ℕ) (x : Account) : Type 0 where
 pub record Near (past : ℕ) (b : Book) : Type 0 where
   pub day : dayFits (b .day) ≡ true
   pub schedule : scheduleFits (b .schedule) ≡ true
+  pub lists : listsFit (b .lists) ≡ true
   pub sizes : sizesFit (length (b .accounts)) (b .room) ≡ true
   pub fits : leb (length (b .rows)) (b .room) ≡ true
   pub shape : (k : ℕ) → k < length (b .rows) → Shape (b .day) (b .accounts) (b .rows) (suc k) (getD (b .rows) k blank)

@@ -11,6 +11,7 @@ use Rattle.lists.specs.Lists.{count, every}
 use Rattle.records.specs.Limits
 use Rattle.records.specs.Encoding.{accountFields}
 use Rattle.rules.specs.Schedule.{scheduleFits}
+use Rattle.rules.specs.RateLists.{listsFit}
 use Rattle.rules.specs.Rows.{Row, KindToll, KindFee, KindReversal, KindPayment, KindCredit, KindRefund, DisputeHeld, LastStage, Test, rowNo, toll, heldToll, unsettled, feeNaming}
 use Rattle.rules.specs.Settlement.{money, debt, used, paid, owed}
 use Rattle.rules.specs.Book.{Account, StateUnused, StateOpen, StatePending, StateClosed, Book, accountNo}
@@ -171,5 +172,5 @@ accountSound b n x = allOf
 -- every clause about the book
 unfoldable pub sound : Book → Bool
 sound b = allOf
-    (dayFits (b .day) ∷ scheduleFits (b .schedule) ∷ sizesFit (length (b .accounts)) (b .room) ∷ leb (length (b .rows)) (b .room)
+    (dayFits (b .day) ∷ scheduleFits (b .schedule) ∷ listsFit (b .lists) ∷ sizesFit (length (b .accounts)) (b .room) ∷ leb (length (b .rows)) (b .room)
     ∷ every (rowSound b) (b .rows) ∷ every (accountSound b) (b .accounts) ∷ [])

@@ -3,13 +3,14 @@ use mathlib.Core.Bool.{Bool, _&&_}
 use Prim.Native.Nat.{ℕ, _+_, _*_, _-_, _/_, _%_, min}
 use mathlib.Core.List.{List, [], _∷_, _++_, map}
 use lib.ListN.{length, drop, replicate}
-use lib.Dec.{leb}
+use lib.Dec.{leb, ltb}
 use lib.IntN.{ℤ, pos}
 use Rattle.records.specs.Layout
 use Rattle.records.specs.Encoding.{natOf, word, accountsOf, rowsOf, accountWords, rowWords, writeAll}
 use Rattle.lists.specs.Tests.{_is_, allOf}
-use Rattle.lists.specs.Lists.{every}
-use Rattle.rules.specs.Schedule.{Schedule}
+use Rattle.lists.specs.Lists.{count, every, tabulate}
+use Rattle.rules.specs.Schedule.{Rates, Schedule}
+use Rattle.rules.specs.RateLists.{RateList, listNo}
 use Rattle.rules.specs.Book.{Book}
 use Rattle.rules.specs.Opening.{sizesFit}
 use Rattle.rules.specs.Soundness.{sound}
@@ -45,21 +46,45 @@ scheduleFrom t p = record {
   fee2 = word t (p + Layout.fee2Place);
   fee3 = word t (p + Layout.fee3Place);
   fee4 = word t (p + Layout.fee4Place);
-  rates = record {
-    tag1 = word t (p + Layout.tag1Place);
-    plate1 = word t (p + Layout.plate1Place);
-    tag2 = word t (p + Layout.tag2Place);
-    plate2 = word t (p + Layout.plate2Place);
-    tag3 = word t (p + Layout.tag3Place);
-    plate3 = word t (p + Layout.plate3Place);
-  };
 }
+
+-- the six rates whose words start at a place
+unfoldable pub ratesFrom : List ℤ → ℕ → Rates
+ratesFrom t p = record {
+  tag1 = word t (p + Layout.tag1Place);
+  plate1 = word t (p + Layout.plate1Place);
+  tag2 = word t (p + Layout.tag2Place);
+  plate2 = word t (p + Layout.plate2Place);
+  tag3 = word t (p + Layout.tag3Place);
+  plate3 = word t (p + Layout.plate3Place);
+}
+
+-- the first list of a header, its rates among the words of document 01: "its 12, the first list's first day" (document 02, No. 1)
+unfoldable pub firstListIn : List ℤ → RateList
+firstListIn h = record { firstDay = word h Layout.headerFirstDay; rates = ratesFrom h Layout.headerRates }
+
+-- "then seven lists (first day, rates)": the one whose words start at a place
+unfoldable pub listFrom : List ℤ → ℕ → RateList
+listFrom t p = record { firstDay = word t (p + Layout.listDayPlace); rates = ratesFrom t (p + Layout.listRatesPlace) }
+
+-- list i after the first, counted from 0
+abbrev pub laterListAt : List ℤ → ℕ → RateList
+laterListAt h i = listFrom h (Layout.headerLists + i * Layout.listWidth)
+
+-- how many of the seven are used: those that have a first day
+unfoldable pub listsUsed : List ℤ → ℕ
+listsUsed h = count (λ l. ltb 0 (l .firstDay)) (tabulate (laterListAt h) Layout.laterLists)
+
+-- the lists of a header: the first, and the used ones of the seven
+unfoldable pub listsIn : List ℤ → List RateList
+listsIn h = firstListIn h ∷ tabulate (laterListAt h) (listsUsed h)
 
 -- the book of any tables; a negative count of rows reads past every limit, so never more rows than there are
 unfoldable pub bookOf : Tables → Book
 bookOf t = record {
   day = word (t .header) Layout.dayPlace;
   schedule = scheduleFrom (t .header) Layout.headerSchedule;
+  lists = listsIn (t .header);
   accounts = accountsOf (t .accounts) (accountsIn t);
   rows = rowsOf (t .journal) (min (rowsUsed t) (roomIn t));
   room = roomIn t;
@@ -67,15 +92,27 @@ bookOf t = record {
 
 -- ---- writing
 
--- "stage length L, fees for stages 2, 3, 4, six rates"
+-- "stage length L, fees for stages 2, 3, 4"
 unfoldable pub scheduleWords : Schedule → List ℤ
-scheduleWords s = map pos
-    (s .stage ∷ s .fee2 ∷ s .fee3 ∷ s .fee4
-    ∷ s .rates .tag1 ∷ s .rates .plate1 ∷ s .rates .tag2 ∷ s .rates .plate2 ∷ s .rates .tag3 ∷ s .rates .plate3 ∷ [])
+scheduleWords s = map pos (s .stage ∷ s .fee2 ∷ s .fee3 ∷ s .fee4 ∷ [])
 
--- "Header, 12 words: day, rows used", then the schedule
+-- "six rates: class 1 tag, class 1 plate, then classes 2 and 3 likewise"
+unfoldable pub ratesWords : Rates → List ℤ
+ratesWords r = map pos (r .tag1 ∷ r .plate1 ∷ r .tag2 ∷ r .plate2 ∷ r .tag3 ∷ r .plate3 ∷ [])
+
+-- "(first day, rates)"
+unfoldable pub listWords : RateList → List ℤ
+listWords l = pos (l .firstDay) ∷ ratesWords (l .rates)
+
+-- the lists after the first, "unused ones last and all 0"
+unfoldable pub laterListsWords : List RateList → List ℤ
+laterListsWords ls = writeAll listWords ls ++ replicate ((Layout.laterLists - length ls) * Layout.listWidth) (pos 0)
+
+-- "its 12, the first list's first day, then seven lists": day, rows used, the schedule, the lists
 unfoldable pub headerWords : Book → List ℤ
-headerWords b = pos (b .day) ∷ pos (length (b .rows)) ∷ scheduleWords (b .schedule)
+headerWords b =
+    (pos (b .day) ∷ pos (length (b .rows)) ∷ scheduleWords (b .schedule))
+    ++ ((ratesWords (listNo (b .lists) 1 .rates) ++ (pos (listNo (b .lists) 1 .firstDay) ∷ [])) ++ laterListsWords (drop 1 (b .lists)))
 
 -- the tables of a book: the rows past the used ones are all 0
 unfoldable pub tablesOf : Book → Tables
@@ -87,7 +124,7 @@ tablesOf b = record {
 
 -- ---- "A book is sound when"
 
--- "Header, 12 words", "Accounts, 7 words each", "Journal, 10 words a row": no word over
+-- "The header has 62 words", "Accounts, 7 words each", "Journal, 10 words a row": no word over
 unfoldable pub wholeRecords : Tables → Bool
 wholeRecords t =
     length (t .header) is Layout.headerWidth && length (t .accounts) % Layout.accountWidth is 0 && length (t .journal) % Layout.rowWidth is 0
@@ -108,6 +145,10 @@ zeroWord i w = natOf w is 0
 unfoldable pub laterRowsZero : Tables → Bool
 laterRowsZero t = every zeroWord (drop (rowsUsed t * Layout.rowWidth) (t .journal))
 
+-- "unused ones last and all 0": every word after the used lists (document 02, No. 1)
+unfoldable pub unusedListsZero : Tables → Bool
+unusedListsZero t = every zeroWord (drop (Layout.headerLists + listsUsed (t .header) * Layout.listWidth) (t .header))
+
 -- the whole paragraph, on any tables
 unfoldable pub soundTables : Tables → Bool
-soundTables t = allOf (lengthsFit t ∷ usedFits t ∷ laterRowsZero t ∷ sound (bookOf t) ∷ [])
+soundTables t = allOf (lengthsFit t ∷ usedFits t ∷ laterRowsZero t ∷ unusedListsZero t ∷ sound (bookOf t) ∷ [])

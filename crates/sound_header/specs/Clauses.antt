@@ -8,7 +8,7 @@ use lib.ListN.{length, drop}
 use lib.Dec.{eqb}
 use Rattle.lists.specs.Tests.{allOf}
 use Rattle.lists.specs.Lists.{every}
-use Rattle.records.specs.Layout.{rowWidth, accountWidth}
+use Rattle.records.specs.Layout.{scheduleWidth, ratesWidth, rowWidth, accountWidth}
 use Rattle.records.specs.Encoding.{rowsOf, accountsOf}
 use Rattle.records.specs.Limits.{finalDay, longestStage, mostAccounts, mostRows}
 use Rattle.rules.specs.Rows.{Row}
@@ -63,6 +63,9 @@ restZero journal used = every zeroWord (drop (used * rowWidth) journal)
 
 -- ---- the lent tables
 
--- ten words of a schedule from place p on
+-- the words of a schedule, and of six rates, from place p on
 abbrev pub ScheduleIn : List ℤ → ℕ → Type 0
-ScheduleIn t p = p + 10 ≤ length t
+ScheduleIn t p = p + scheduleWidth ≤ length t
+
+abbrev pub RatesIn : List ℤ → ℕ → Type 0
+RatesIn t p = p + ratesWidth ≤ length t

@@ -29,8 +29,8 @@ ghost use Rattle.records.specs.Encoding.{word};
 ghost use Rattle.records.specs.Limits.{highestFee, highestRate};
 ghost use Rattle.rules.specs.Opening.{dayFits, sizesFit};
 ghost use Rattle.rules.specs.Schedule.{ratesFit, scheduleFits};
-ghost use Rattle.rules.specs.Tables.{scheduleFrom, lengthsFit};
-ghost use Rattle.sound_header.specs.Clauses.{ScheduleIn};
+ghost use Rattle.rules.specs.Tables.{scheduleFrom, ratesFrom, lengthsFit};
+ghost use Rattle.sound_header.specs.Clauses.{ScheduleIn, RatesIn};
 ghost use Rattle.rules.specs.Lent.{atEntry};
 
 pub fn day_fits(day: u64) -> bool
@@ -69,25 +69,21 @@ fn fee_fits(t: &[i64], i: usize) -> bool
     get(t, i) <= HIGHEST_FEE
 }
 
-// The rates of the schedule whose words start at place p.
-fn rates_fit(t: &[i64], p: usize) -> bool
-    requires { ⌜ ScheduleIn (now t) p ⌝ }
-    ensures { λ b. ⌜ b ≡ ratesFit (scheduleFrom (now (t .entry)) p .rates) ⌝ }
+// The six rates whose words start at place p: in the header, in a list after the first, and in the opening's arguments.
+pub fn rates_fit(t: &[i64], p: usize) -> bool
+    requires { ⌜ RatesIn (now t) p ⌝ }
+    ensures { λ b. ⌜ b ≡ ratesFit (ratesFrom (now (t .entry)) p) ⌝ }
 {
     let class1 = rate_fits(t, p + TAG1_PLACE) & rate_fits(t, p + PLATE1_PLACE);
     let class2 = class1 & rate_fits(t, p + TAG2_PLACE) & rate_fits(t, p + PLATE2_PLACE);
     class2 & rate_fits(t, p + TAG3_PLACE) & rate_fits(t, p + PLATE3_PLACE)
 }
 
-// The schedule whose words start at place p: in the header, and in the opening's arguments.
+// The schedule whose four words start at place p: in the header, and in the opening's arguments.
 pub fn schedule_fits(t: &[i64], p: usize) -> bool
     requires { ⌜ ScheduleIn (now t) p ⌝ }
     ensures { λ b. ⌜ b ≡ scheduleFits (scheduleFrom (now (t .entry)) p) ⌝ }
 {
     let stage = between(1, get(t, p + STAGE_PLACE), LONGEST_STAGE);
-    stage
-        & fee_fits(t, p + FEE2_PLACE)
-        & fee_fits(t, p + FEE3_PLACE)
-        & fee_fits(t, p + FEE4_PLACE)
-        & rates_fit(t, p)
+    stage & fee_fits(t, p + FEE2_PLACE) & fee_fits(t, p + FEE3_PLACE) & fee_fits(t, p + FEE4_PLACE)
 }

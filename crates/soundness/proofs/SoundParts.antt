@@ -11,20 +11,22 @@ use borrow.Author.Tests.{le-leb}
 use borrow.Author.Count.{below-none}
 use Rattle.lists.specs.Tests.{allOf}
 use Rattle.lists.specs.Lists.{every}
-use Rattle.lists.proofs.TestLaws.{and-right}
+use Rattle.lists.proofs.TestLaws.{and-left, and-right, and-then}
 use Rattle.lists.proofs.ListLaws.{every-ext, every-and, every-tabulate, length-tabulate}
 use Rattle.records.specs.Layout.{dayPlace, usedPlace, headerSchedule, stagePlace, accountWidth, rowWidth}
 use Rattle.records.specs.Encoding.{word, rowAt, rowsOf, accountsOf}
 use Rattle.records.specs.Limits.{mostRows, finalDay}
 use Rattle.rules.specs.Schedule.{scheduleFits}
+use Rattle.rules.specs.RateLists.{listsFit}
 use Rattle.rules.specs.Book.{Book}
 use Rattle.rules.specs.Opening.{dayFits, sizesFit}
 use Rattle.rules.specs.Soundness.{passageOnce, feesFit, rowSound, returnedFits, usedIsPaid, noIdleMoney, closedClear, accountSound, sound}
-use Rattle.rules.specs.Tables.{Tables, accountsIn, roomIn, rowsUsed, scheduleFrom, bookOf, wholeRecords, lengthsFit, usedFits, laterRowsZero, soundTables}
+use Rattle.rules.specs.Tables.{Tables, accountsIn, roomIn, rowsUsed, scheduleFrom, bookOf, wholeRecords, lengthsFit, usedFits, laterRowsZero, unusedListsZero, soundTables}
 use Rattle.rules.proofs.StorableLaws.{between-le, schedule-storable}
 use Rattle.sound_header.specs.declared.frame.Frame.{Frame}
 use Rattle.sound_header.specs.Clauses.{ownWords, rowAlone, rowPasses, rowsStand, restZero, tablesAt, Bounds}
 use Rattle.sound_header.proofs.LengthLaws.{lengths-known}
+use Rattle.sound_lists.specs.Standing.{listsStand}
 use Rattle.sound_passages.specs.Trees.{passagesDiffer, TreesOf}
 use Rattle.sound_passages.proofs.PassageLaws.{clean-differ}
 use Rattle.sound_fees.specs.Fees.{feesFew, FeesCounted}
@@ -80,13 +82,37 @@ module _ (t : Tables) where
   unfolding soundTables sound allOf
   unfit-schedule e = simp (e, and-false)
 
+  unfit-listed : listsFit (bookOf t .lists) ≡ false → soundTables t ≡ false
+  unfolding soundTables sound allOf
+  unfit-listed e = simp (e, and-false)
+
+  unfit-unused : unusedListsZero t ≡ false → soundTables t ≡ false
+  unfolding soundTables allOf
+  unfit-unused e = simp (e, and-false)
+
+  -- the clauses on the rate lists: one is of the book, one of the tables alone
+  lists-parts : listsStand (t .header) ≡ listsFit (bookOf t .lists) && unusedListsZero t
+  unfolding listsStand bookOf unusedListsZero
+  lists-parts = refl
+
+  pub unfit-lists : listsStand (t .header) ≡ false → soundTables t ≡ false
+  unfit-lists e = go (listsFit (bookOf t .lists)) refl
+    where
+      go : (v : Bool) → listsFit (bookOf t .lists) ≡ v → soundTables t ≡ false
+      go true q = unfit-unused (and-then (listsFit (bookOf t .lists)) (unusedListsZero t) q (sym lists-parts ∙ e))
+      go false q = unfit-listed q
+
   pub fit-tables : lengthsFit t ≡ true → usedFits t ≡ true → laterRowsZero t ≡ true → dayFits (bookOf t .day) ≡ true → scheduleFits (bookOf t .schedule) ≡ true
+      → listsStand (t .header) ≡ true
       → soundTables t ≡ bookPasses (bookOf t .accounts) (bookOf t .rows) (bookOf t .day) (bookOf t .schedule .stage)
   unfolding soundTables sound allOf
-  fit-tables l u z d s =
+  fit-tables l u z d s w =
+      let p : listsFit (bookOf t .lists) && unusedListsZero t ≡ true = sym lists-parts ∙ w in
+      let y : listsFit (bookOf t .lists) ≡ true = and-left (listsFit (bookOf t .lists)) (unusedListsZero t) p in
+      let q : unusedListsZero t ≡ true = and-right (listsFit (bookOf t .lists)) (unusedListsZero t) p in
       let n : sizesFit (length (bookOf t .accounts)) (bookOf t .room) ≡ true = sizes-again in
       let f : leb (length (bookOf t .rows)) (bookOf t .room) ≡ true = few-again in
-      rw (l, u, z, d, s, n, f, and-true) (rest (bookOf t))
+      rw (l, u, z, q, d, s, y, n, f, and-true) (rest (bookOf t))
     where
       sizes-again : sizesFit (length (bookOf t .accounts)) (bookOf t .room) ≡ true
       sizes-again = unfold bookOf lengthsFit in (rw (length-tabulate) (and-right (wholeRecords t) (sizesFit (accountsIn t) (roomIn t)) l))
@@ -106,6 +132,7 @@ pub record Fit (h a j : List ℤ) (used today stage : ℕ) : Type 0 where
   pub readStage : stage ≡ word h (headerSchedule + stagePlace)
   pub day : dayFits today ≡ true
   pub schedule : scheduleFits (scheduleFrom h headerSchedule) ≡ true
+  pub lists : listsStand h ≡ true
   pub fits : used ≤ length j / rowWidth
   pub later : restZero j used ≡ true
 
@@ -114,7 +141,7 @@ module _ (h a j : List ℤ) (used today stage : ℕ) (f : Fit h a j used today s
   tables = tablesAt h a j
 
   pub fit-sound : bookPasses (accountsOf a (length a / accountWidth)) (rowsOf j used) today stage ≡ soundTables tables
-  fit-sound = unfold bookOf scheduleFrom in (rw (f .readDay, f .readStage, least) (sym (fit-tables tables (f .lengths) used-fits later-zero day-fits schedule-fits)))
+  fit-sound = unfold bookOf scheduleFrom in (rw (f .readDay, f .readStage, least) (sym (fit-tables tables (f .lengths) used-fits later-zero day-fits schedule-fits (f .lists))))
     where
       least : used ≡ min (rowsUsed tables) (roomIn tables)
       least = omega (arith, f .readUsed, f .fits)

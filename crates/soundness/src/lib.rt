@@ -13,6 +13,7 @@ use sound_header::header::day_fits;
 use sound_header::header::lengths_fit;
 use sound_header::header::schedule_fits;
 use sound_journal::later_rows_zero;
+use sound_lists::lists_stand;
 use sound_passages::passages::CELLS;
 use sound_passages::passages::ROW_CELLS;
 use sound_sums::accounts::all_agree;
@@ -102,6 +103,9 @@ pub fn sound(header: &[i64], accounts: &[i64], journal: &[i64]) -> bool
         return false;
     }
     if !schedule_fits(header, HEADER_SCHEDULE) {
+        return false;
+    }
+    if !lists_stand(header) {
         return false;
     }
     let used = get(header, USED_PLACE);

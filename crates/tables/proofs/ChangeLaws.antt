@@ -69,7 +69,7 @@ changed-accounts = changed-set accountAt
 
 -- ---- where a change comes from: words put
 
-putAll-sets : (zs t : List ℤ) (p j : ℕ) → putAll t p j zs ≡ sets t (p + j) zs
+pub putAll-sets : (zs t : List ℤ) (p j : ℕ) → putAll t p j zs ≡ sets t (p + j) zs
 unfolding putAll
 putAll-sets [] t p j = refl
 putAll-sets (z ∷ zs) t p j =

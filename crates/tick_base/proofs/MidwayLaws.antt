@@ -20,6 +20,7 @@ use Rattle.rules.specs.Tables.{Tables, accountsIn, roomIn, rowsUsed, bookOf, wh
 use Rattle.rules.proofs.StorableLaws.{amount-le, settled-le, used-inside, accounts-le, room-le}
 use Rattle.rules.proofs.TableLaws.{sound-book}
 use Rattle.posting.specs.Written.{Written}
+use Rattle.posting_laws.proofs.HeaderLaws.{schedule-same, lists-same}
 use Rattle.account_sums.specs.Tallies.{Countable}
 use Rattle.tick_base.specs.Midway.{Midway}
 
@@ -32,13 +33,21 @@ written-written t u v b c f g = record {
   journal-size = g .journal-size ∙ f .journal-size;
   day = g .day;
   used = g .used;
-  schedule = g .schedule;
+  fixed = λ k l. g .fixed k l ∙ f .fixed k l;
+  schedule = g .schedule ∙ schedule-kept;
+  lists = g .lists ∙ lists-kept;
   accounts = rw (f .accounts-size) at (g .accounts);
   rows = g .rows;
   room = g .room ∙ ap (λ (n : ℕ). n / rowWidth) (f .journal-size);
   longer = omega (arith, f .longer, f .used, g .longer);
   rest = λ k h. g .rest k h ∙ f .rest k (omega (arith, f .used, g .longer));
 }
+  where
+    schedule-kept : bookOf u .schedule ≡ bookOf t .schedule
+    schedule-kept = unfold bookOf in (schedule-same (t .header) (u .header) (f .fixed))
+
+    lists-kept : bookOf u .lists ≡ bookOf t .lists
+    lists-kept = unfold bookOf in (lists-same (t .header) (u .header) (f .fixed))
 
 -- ---- sound tables are such
 

@@ -13,7 +13,7 @@ ghost use mathlib.Core.List.{[]};
 ghost use Rattle.rules.specs.Calls.{Gives, Replies, openCall, eventCall, batchCall, balanceCall, topupDueCall};
 ghost use Rattle.rules.specs.Lent.{atEntry, atExit};
 
-// Opens a book: eleven words, the first day and the schedule.
+// Opens a book: eleven words, the first day, the schedule and the first rate list.
 #[no_mangle]
 pub extern "C" fn toll_ledger_open(
     header: &mut [i64],
@@ -30,7 +30,7 @@ pub extern "C" fn toll_ledger_open(
     open_book(header, accounts, journal, schedule) as i64
 }
 
-// Posts one event of seven words; the answer's five words are written wherever there is room for them.
+// Posts one event of nine words; the answer's five words are written wherever there is room for them.
 #[no_mangle]
 pub extern "C" fn toll_ledger_event(
     header: &mut [i64],

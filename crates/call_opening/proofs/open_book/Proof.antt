@@ -72,7 +72,8 @@ returns-3 c =
     let w = c .before .before .before .before .before .before .before in
     let x = w .before .before in
     let e = x .before .before in
-    rw (w .write-header .ensures, c .before .before .before .before .clear .ensures, c .before .clear2 .ensures)
+    let s = e .before .before .before .before .before in
+    rw (w .write-header .ensures (tablesAt (s .args .header .now) (s .args .accounts .now) (s .args .journal .now)), c .before .before .before .before .clear .ensures, c .before .clear2 .ensures)
     (opened _ _ _ _ (fit e) (sym (x .before .opening-fits .ensures) ∙ not-false _ (x .if2 .left)))
 
 pub open-book-spec : {M : Type 1} → statement M

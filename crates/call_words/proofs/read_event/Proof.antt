@@ -1,4 +1,4 @@
--- `read_event` meets its contract: seven words, read in the layout's order.
+-- `read_event` meets its contract: nine words, read in the layout's order.
 use Rattle.records.specs.Encoding.{instructionFrom}
 use borrow.Author.Needs.{needs}
 use Rattle.call_words.proofs.read_event.Statement.{statement}
@@ -25,6 +25,12 @@ get-requires-6 c κs = search needs
 get-requires-7 : tie.Need-get-requires-7
 get-requires-7 c κs = search needs
 
+get-requires-8 : tie.Need-get-requires-8
+get-requires-8 c κs = search needs
+
+get-requires-9 : tie.Need-get-requires-9
+get-requires-9 c κs = search needs
+
 returns : tie.Need-returns
 unfolding instructionFrom
 returns c = cc
@@ -40,4 +46,6 @@ read-event-spec =
     get-requires-5
     get-requires-6
     get-requires-7
+    get-requires-8
+    get-requires-9
     returns)

@@ -33,6 +33,9 @@ request-form-requires c κs = search needs
 tick-form-requires : tie.Need-tick-form-requires
 tick-form-requires c κs = search needs
 
+list-form-requires : tie.Need-list-form-requires
+list-form-requires c κs = search needs
+
 returns : tie.Need-returns
 unfolding formOf
 returns c = c .open-form .ensures ∙ wellFormed-of _ 1 (c .before .match .keys1)
@@ -70,9 +73,13 @@ unfolding formOf
 returns-9 c = c .tick-form .ensures ∙ wellFormed-of _ 9 (c .before .match .keys9)
 
 returns-10 : tie.Need-returns-10
-returns-10 c =
+unfolding formOf
+returns-10 c = c .list-form .ensures ∙ wellFormed-of _ 10 (c .before .match .keys10)
+
+returns-11 : tie.Need-returns-11
+returns-11 c =
     let r = c .match .rest in
-    sym (no-form _ _ (r .0 .0 .0 .0 .0 .0 .0 .0 .1) (r .0 .0 .0 .0 .0 .0 .0 .1) (r .0 .0 .0 .0 .0 .0 .1) (r .0 .0 .0 .0 .0 .1) (r .0 .0 .0 .0 .1) (r .0 .0 .0 .1) (r .0 .0 .1) (r .0 .1) (r .1)) ∙ wellFormed-of _ _ refl
+    sym (no-form _ _ (r .0 .0 .0 .0 .0 .0 .0 .0 .0 .1) (r .0 .0 .0 .0 .0 .0 .0 .0 .1) (r .0 .0 .0 .0 .0 .0 .0 .1) (r .0 .0 .0 .0 .0 .0 .1) (r .0 .0 .0 .0 .0 .1) (r .0 .0 .0 .0 .1) (r .0 .0 .0 .1) (r .0 .0 .1) (r .0 .1) (r .1)) ∙ wellFormed-of _ _ refl
 
 pub well-formed-spec : {M : Type 1} → statement M
 well-formed-spec =
@@ -87,6 +94,7 @@ well-formed-spec =
     result-form-requires
     request-form-requires
     tick-form-requires
+    list-form-requires
     returns
     returns-2
     returns-3
@@ -96,4 +104,5 @@ well-formed-spec =
     returns-7
     returns-8
     returns-9
-    returns-10)
+    returns-10
+    returns-11)

@@ -6,6 +6,7 @@ use mathlib.Core.Path.{sym, _∙_}
 use lib.ListN.{length-set}
 use Rattle.rules.proofs.TableLaws.{header-length, journal-length}
 use Rattle.posting.proofs.BookLaws.{day-small, stage-small, used-small}
+use Rattle.table_lists.proofs.OnDayLaws.{sound-lists}
 use Rattle.event_lookups.proofs.LookupLaws.{begun-added}
 use Rattle.posting_laws.proofs.AddedLaws.{posts-refused, added-journal}
 use Rattle.event_toll.proofs.TollLaws.{rate-applies, toll-fits, toll-storable, toll-read, toll-posts}
@@ -43,7 +44,7 @@ rate-of-requires c κs =
     let s = c .before .before .before .before .before .before .before .before .before .before .pre .0 in
     let r = rate-applies _ s _ (c .before .before .before .before .before .before .before .before .before .before .pre .1) (sym (c .before .before .before .before .before .before .if1 .left) ∙ c .before .before .before .before .before .before .before .toll-refusal .ensures) in
     let k = c .class-of .ensures in
-    (omega (arith, header-length _ s), rw k (r .0), rw k (r .1), r .2, r .3)
+    (sound-lists _ s, rw k (r .0), rw k (r .1), r .2, r .3)
 
 new-row-requires : tie.Need-new-row-requires
 new-row-requires c κs = search needs

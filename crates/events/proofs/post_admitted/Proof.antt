@@ -34,6 +34,9 @@ request-close-requires c κs = search needs
 tick-requires : tie.Need-tick-requires
 tick-requires c κs = search needs
 
+add-list-requires : tie.Need-add-list-requires
+add-list-requires c κs = search needs
+
 refused-requires : tie.Need-refused-requires
 refused-requires c κs = search needs
 
@@ -145,11 +148,23 @@ same-length-27 c = search needs
 returns-9 : tie.Need-returns-9
 returns-9 c = search needs
 
+same-length-28 : tie.Need-same-length-28
+same-length-28 c = search needs
+
+same-length-29 : tie.Need-same-length-29
+same-length-29 c = search needs
+
+same-length-30 : tie.Need-same-length-30
+same-length-30 c = search needs
+
 returns-10 : tie.Need-returns-10
-returns-10 c =
+returns-10 c = search needs
+
+returns-11 : tie.Need-returns-11
+returns-11 c =
     let r = c .before .match .rest in
     let formed = shared-formed _ _ (c .before .before .pre .2) in
-    let none = no-form _ _ (r .0 .0 .0 .0 .0 .0 .0 .0 .1) (r .0 .0 .0 .0 .0 .0 .0 .1) (r .0 .0 .0 .0 .0 .0 .1) (r .0 .0 .0 .0 .0 .1) (r .0 .0 .0 .0 .1) (r .0 .0 .0 .1) (r .0 .0 .1) (r .0 .1) (r .1) in
+    let none = no-form _ _ (r .0 .0 .0 .0 .0 .0 .0 .0 .0 .1) (r .0 .0 .0 .0 .0 .0 .0 .0 .1) (r .0 .0 .0 .0 .0 .0 .0 .1) (r .0 .0 .0 .0 .0 .0 .1) (r .0 .0 .0 .0 .0 .1) (r .0 .0 .0 .0 .1) (r .0 .0 .0 .1) (r .0 .0 .1) (r .0 .1) (r .1) in
     absurd (true≢false (sym formed ∙ sym (wellFormed-of _ _ refl) ∙ none))
 
 pub post-admitted-spec : {M : Type 1} → statement M
@@ -165,6 +180,7 @@ post-admitted-spec =
     topup-result-requires
     request-close-requires
     tick-requires
+    add-list-requires
     refused-requires
     same-length
     same-length-2
@@ -202,4 +218,8 @@ post-admitted-spec =
     same-length-26
     same-length-27
     returns-9
-    returns-10)
+    same-length-28
+    same-length-29
+    same-length-30
+    returns-10
+    returns-11)

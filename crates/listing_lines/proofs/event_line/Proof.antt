@@ -3,6 +3,7 @@ use native.Mathlib.Omega.{arith}
 use mathlib.Core.Path.{refl, sym, ap, _∙_}
 use borrow.Author.Tests.{not-true, not-false}
 use lib.Seq.{take-length}
+use Rattle.records.specs.Layout.{eventWidth}
 use Rattle.decimal.specs.Decimal.{isNumbers}
 use Rattle.listing_lines.proofs.TakenLaws.{taken-bad, taken-good, numbers-read, event-good, posted-text, posted-book, posted-sound}
 use borrow.Author.Needs.{needs}
@@ -24,7 +25,9 @@ same-length c = search needs
 returns : tie.Need-returns
 returns c =
     let a = c .before .before .before .before .before .before .before .before .before .before .args in
-    taken-bad (a .n) _ _ (a .line .now) _ _ (a .at) _ (event-good (a .line .now) (a .n) (omega arith) ∙ sym (c .before .before .before .before .before .before .read-fields .ensures .0 ∙ ap (isNumbers 7) (take-length (a .line .now))) ∙ not-true _ (c .before .before .before .before .if1 .taken)) (c .before .before .bad-line .ensures)
+    let read = c .before .before .before .before .before .before .read-fields .ensures .0 ∙ ap (isNumbers eventWidth) (take-length (a .line .now)) in
+    let good = event-good (a .line .now) (a .n) (omega arith) ∙ sym read ∙ not-true _ (c .before .before .before .before .if1 .taken) in
+    taken-bad (a .n) _ _ (a .line .now) _ _ (a .at) _ good (c .before .before .bad-line .ensures)
 
 slice-aggregate-read-event : tie.Need-slice-aggregate-read-event
 slice-aggregate-read-event c = search needs
@@ -55,19 +58,27 @@ same-length-5 c = search needs
 
 returns-2 : tie.Need-returns-2
 returns-2 c =
-    let a = c .before .before .before .before .before .before .before .before .before .before .before .before .before .before .before .before .before .before .before .args in
-    let f = c .before .before .before .before .before .before .before .before .before .before .before .before .before .before .before .read-fields in
-    let read = not-false _ (c .before .before .before .before .before .before .before .before .before .before .before .before .before .if1 .left) in
-    let values = numbers-read (a .line .now) (f .last .1 .1 .0) 7 (f .ensures .1 .0 read) (omega arith) in
-    let three = c .before .before .before .before .before .before .before .before .before .before .before .before .before .before .before .before .before .before .before .pre .1 in
-    let sized = c .before .before .before .before .before .before .before .before .before .before .before .before .before .before .before .before .before .before .before .pre .3 .sized in
-    let sound = c .before .before .before .before .before .before .before .before .before .before .before .before .before .before .before .before .before .before .before .pre .3 .sound (omega (arith, three)) in
+    let g = c .before .before .before .before .before .before .before .before .before .before .before .before .before in
+    let f = g .before .before .read-fields in
+    let s = g .before .before .before .before .before .before in
+    let a = s .args in
+    let three = s .pre .1 in
+    let sized = s .pre .3 .sized in
+    let sound = s .pre .3 .sound (omega (arith, three)) in
+    let read = not-false _ (g .if1 .left) in
+    let numbers = sym (f .ensures .0 ∙ ap (isNumbers eventWidth) (take-length (a .line .now))) ∙ read in
+    let values = numbers-read (a .line .now) (f .last .1 .1 .0) eventWidth (f .ensures .1 .0 read) (omega arith) in
     let e = c .before .before .before .before .before .before .before .before .before .before .before .read-event .ensures in
     let p = c .before .before .before .before .before .before .before .post-event .ensures in
     let w = c .before .before .write-answer .ensures in
-    taken-good (a .n) _ _ (a .line .now) _ _ (a .at) _ (event-good (a .line .now) (a .n) three ∙ sym (f .ensures .0 ∙ ap (isNumbers 7) (take-length (a .line .now))) ∙ read) refl
-    (rw (← posted-text (a .n) _ _ (a .line .now) _ _ _ three sound values e p) (w .0)) (omega arith) (posted-book (a .n) _ _ (a .line .now) _ _ _ three sound values e p)
-    (record { sized = record { header = omega (arith, sized .header); accounts = omega (arith, sized .accounts); journal = omega (arith, sized .journal) }; sound = λ q. posted-sound (a .n) _ _ (a .line .now) _ _ _ three sound values e p })
+    taken-good (a .n) _ _ (a .line .now) _ _ (a .at) _ (event-good (a .line .now) (a .n) three ∙ numbers) refl
+    (rw (← posted-text (a .n) _ _ (a .line .now) _ _ _ three sound values e p) (w .0))
+    (omega arith)
+    (posted-book (a .n) _ _ (a .line .now) _ _ _ three sound values e p)
+    (record {
+      sized = record { header = omega (arith, sized .header); accounts = omega (arith, sized .accounts); journal = omega (arith, sized .journal) };
+      sound = λ q. posted-sound (a .n) _ _ (a .line .now) _ _ _ three sound values e p;
+    })
 
 pub event-line-spec : {M : Type 1} → statement M
 event-line-spec =

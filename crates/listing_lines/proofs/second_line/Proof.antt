@@ -3,6 +3,7 @@ use native.Mathlib.Omega.{arith}
 use mathlib.Core.Path.{_≡_, refl, sym, ap, _∙_}
 use borrow.Author.Tests.{not-true, not-false}
 use lib.Seq.{take-length}
+use Rattle.records.specs.Layout.{openingWidth}
 use Rattle.decimal.specs.Decimal.{isNumbers}
 use Rattle.listing_text.proofs.PutsLaws.{puts-nothing}
 use Rattle.listing_lines.proofs.TakenLaws.{taken-bad, taken-good, numbers-read, second-unread, second-refused, second-good, second-book, second-sound, second-text}
@@ -25,7 +26,9 @@ same-length c = search needs
 returns : tie.Need-returns
 returns c =
     let a = c .before .before .before .before .before .before .before .before .before .before .args in
-    taken-bad 1 _ _ (a .line .now) _ _ (a .at) _ (second-unread (a .line .now) (sym (not-true _ (c .before .before .before .before .if1 .taken)) ∙ c .before .before .before .before .before .before .read-fields .ensures .0 ∙ ap (isNumbers 11) (take-length (a .line .now)))) (c .before .before .bad-line .ensures)
+    let read = c .before .before .before .before .before .before .read-fields .ensures .0 ∙ ap (isNumbers openingWidth) (take-length (a .line .now)) in
+    let unread = sym (not-true _ (c .before .before .before .before .if1 .taken)) ∙ read in
+    taken-bad 1 _ _ (a .line .now) _ _ (a .at) _ (second-unread (a .line .now) unread) (c .before .before .bad-line .ensures)
 
 slice-aggregate-open-book : tie.Need-slice-aggregate-open-book
 slice-aggregate-open-book c = search needs
@@ -50,10 +53,16 @@ same-length-5 c = search needs
 
 returns-2 : tie.Need-returns-2
 returns-2 c =
-    let a = c .before .before .before .before .before .before .before .before .before .before .before .before .before .before .before .before .before .before .before .args in
-    let f = c .before .before .before .before .before .before .before .before .before .before .before .before .before .before .before .read-fields in
-    let read = not-false _ (c .before .before .before .before .before .before .before .before .before .before .before .before .before .if1 .left) in
-    taken-bad 1 _ _ (a .line .now) _ _ (a .at) _ (second-refused _ _ (a .line .now) _ _ (c .before .before .before .before .before .before .before .before .before .before .before .before .before .before .before .before .before .before .before .pre .1 .sized) (sym (f .ensures .0 ∙ ap (isNumbers 11) (take-length (a .line .now))) ∙ read) (numbers-read (a .line .now) (f .last .1 .1 .0) 11 (f .ensures .1 .0 read) (omega arith)) (c .before .before .before .before .before .before .before .before .open-book .ensures) (λ z. omega arith)) (c .before .before .bad-line2 .ensures)
+    let g = c .before .before .before .before .before .before .before .before .before .before .before .before .before in
+    let f = g .before .before .read-fields in
+    let s = g .before .before .before .before .before .before in
+    let a = s .args in
+    let read = not-false _ (g .if1 .left) in
+    let numbers = sym (f .ensures .0 ∙ ap (isNumbers openingWidth) (take-length (a .line .now))) ∙ read in
+    let values = numbers-read (a .line .now) (f .last .1 .1 .0) openingWidth (f .ensures .1 .0 read) (omega arith) in
+    let opened = c .before .before .before .before .before .before .before .before .open-book .ensures in
+    let refused = second-refused _ _ (a .line .now) _ _ (s .pre .1 .sized) numbers values opened (λ z. omega arith) in
+    taken-bad 1 _ _ (a .line .now) _ _ (a .at) _ refused (c .before .before .bad-line2 .ensures)
 
 same-length-6 : tie.Need-same-length-6
 same-length-6 c = search needs
@@ -69,13 +78,19 @@ returns-3 c =
     let a = c .before .before .before .before .before .before .before .before .before .before .before .before .before .before .before .args in
     let f = c .before .before .before .before .before .before .before .before .before .before .before .read-fields in
     let read = not-false _ (c .before .before .before .before .before .before .before .before .before .if1 .left) in
-    let numbers = sym (f .ensures .0 ∙ ap (isNumbers 11) (take-length (a .line .now))) ∙ read in
-    let values = numbers-read (a .line .now) (f .last .1 .1 .0) 11 (f .ensures .1 .0 read) (omega arith) in
+    let numbers = sym (f .ensures .0 ∙ ap (isNumbers openingWidth) (take-length (a .line .now))) ∙ read in
+    let values = numbers-read (a .line .now) (f .last .1 .1 .0) openingWidth (f .ensures .1 .0 read) (omega arith) in
     let o = c .before .before .before .before .open-book .ensures in
     let s = c .before .before .before .before .before .before .before .before .before .before .before .before .before .before .before .pre .1 .sized in
     let z : c .before .before .before .before .open-book .result ≡ 0 = omega arith in
-    taken-good 1 _ _ (a .line .now) _ _ (a .at) _ (second-good _ _ (a .line .now) _ _ s numbers values o z) refl (rw (← second-text _ (a .line .now)) (puts-nothing (a .out .now) (a .at) (omega arith))) (omega arith)
-    (second-book _ _ (a .line .now) _ _ s numbers values o z) (record { sized = record { header = omega (arith, s .header); accounts = omega (arith, s .accounts); journal = omega (arith, s .journal) }; sound = λ q. second-sound _ _ (a .line .now) _ _ s numbers values o z })
+    taken-good 1 _ _ (a .line .now) _ _ (a .at) _ (second-good _ _ (a .line .now) _ _ s numbers values o z) refl
+    (rw (← second-text _ (a .line .now)) (puts-nothing (a .out .now) (a .at) (omega arith)))
+    (omega arith)
+    (second-book _ _ (a .line .now) _ _ s numbers values o z)
+    (record {
+      sized = record { header = omega (arith, s .header); accounts = omega (arith, s .accounts); journal = omega (arith, s .journal) };
+      sound = λ q. second-sound _ _ (a .line .now) _ _ s numbers values o z;
+    })
 
 pub second-line-spec : {M : Type 1} → statement M
 second-line-spec =

@@ -274,10 +274,10 @@ module _ {M : Type 1} (𝓤 : URA M) (H : Heap 𝓤) (A : Atoms 𝓤) (W : Given
               lend _ 5 31 4 8 (to 4) lent (k₄ κs qs) 0 (λ x. x) (same (mslice I (to 4) 4)) (gone lent) refl tt refl refl refl (λ b o. tt) ▸
               slice (asMut I) _ 31 32 8 lent lent (λ x. x) (oFld 5 (field 1 ∷ []) num 8 (λ v. lenV (v .0))) (same (msptr I lent 8)) (gone (sliceTy lent)) (reads-owed-len 𝓤 H A W I (to 4) 4 8 (k₄ κs qs) 8 refl, refl) refl refl (λ b o k. tt) ▸
               -- events[i] is read
-              op2 _ (mul unsigned) (oAt 9 num i) (oInt w64 56) 22 N num i (sInt w64 .of) (has, refl) tt (gone num) hold refl (λ u. refl) (λ u. tt) ▸
+              op2 _ (mul unsigned) (oAt 9 num i) (oInt w64 72) 22 N num i (sInt w64 .of) (has, refl) tt (gone num) hold refl (λ u. refl) (λ u. tt) ▸
               op2 _ offset (oFld 4 (field 0 ∷ []) of 0 ptrVal) (oAt 22 num i) 33 (sc-here sPtr) tyPtr (valS sPtr) (sPtr .of) (reads-sslice-ptr 𝓤 H A W Ev of 3 0 refl, refl) (has, refl) (gone tyPtr) (holds-sc 𝓤 H A W sPtr) refl (λ u. refl) (λ u. tt) ▸
-              t-shs-copy-out 𝓤 H A W E Ev 𝓣 refl (copies .copy 𝓤 H A W) (halved 𝓤 H A W copies) (λ ρ. Unit {0}) _ 4 33 34 3 of (k₃ κs qs) T′.mir T′.mir (whole Ev) (bySize 56) (λ u. u .1 .1 .1 .1 .1 .1 .1 .1 .1 .0) (λ x. x) noEvent (λ x. Unit {0}) (λ x. x) (λ x. x)
-              (λ i o. at-mul o 56 i) refl refl (told-none 𝓤 H A _) (learns-nothing 𝓤 H A Ev) (same (sslice Ev of 3)) (same (sc-here sPtr)) (gone T′.mir) (makes-mem 𝓤 H A W (λ ρ. Unit {0}) Ev refl (whole Ev) (λ x. x) (λ ρ told. whole-mem 𝓤 H A W Ev ρ)) refl tt refl refl ▸
+              t-shs-copy-out 𝓤 H A W E Ev 𝓣 refl (copies .copy 𝓤 H A W) (halved 𝓤 H A W copies) (λ ρ. Unit {0}) _ 4 33 34 3 of (k₃ κs qs) T′.mir T′.mir (whole Ev) (bySize 72) (λ u. u .1 .1 .1 .1 .1 .1 .1 .1 .1 .0) (λ x. x) noEvent (λ x. Unit {0}) (λ x. x) (λ x. x)
+              (λ i o. at-mul o 72 i) refl refl (told-none 𝓤 H A _) (learns-nothing 𝓤 H A Ev) (same (sslice Ev of 3)) (same (sc-here sPtr)) (gone T′.mir) (makes-mem 𝓤 H A W (λ ρ. Unit {0}) Ev refl (whole Ev) (λ x. x) (λ ρ told. whole-mem 𝓤 H A W Ev ρ)) refl tt refl refl ▸
               -- the arrays are lent, at the slots 9 and 10
               begin _ 9 _ ▹
               borrow _ 6 35 9 Cells toCells (λ x. x) (mem-arr 𝓤 H A W (U w16) 32768) (gone toCells) refl (λ b o. tt) ▸
@@ -457,7 +457,7 @@ module _ {M : Type 1} (𝓤 : URA M) (H : Heap 𝓤) (A : Atoms 𝓤) (W : Given
       let t = tablesAt (now (a .0)) (now (a .1 .0)) (now (a .1 .1 .0)) in
       let es = now (a .1 .1 .1 .0) in
       let w = now (a .1 .1 .1 .1 .0) in
-      let bytes : length es * 56 < 2 ^ 63 = good .1 .1 .1 .0 .1 in
+      let bytes : length es * 72 < 2 ^ 63 = good .1 .1 .1 .0 .1 in
       λ γ₁. (
         refl,
         λ γ₂. (

@@ -1,5 +1,5 @@
 -- `rates_fit` meets its contract: six words, each tested.
-use Rattle.rules.specs.Tables.{scheduleFrom}
+use Rattle.rules.specs.Tables.{ratesFrom}
 use Rattle.rules.specs.Schedule.{ratesFit}
 use borrow.Author.Needs.{needs}
 use Rattle.sound_header.proofs.header.rates_fit.Statement.{statement}
@@ -42,7 +42,7 @@ rate-fits-requires-6 : tie.Need-rate-fits-requires-6
 rate-fits-requires-6 c κs = search needs
 
 returns : tie.Need-returns
-unfolding ratesFit scheduleFrom
+unfolding ratesFit ratesFrom
 returns c = cc
 
 pub rates-fit-spec : {M : Type 1} → statement M

@@ -1,4 +1,4 @@
--- `schedule_fits` meets its contract: ten words, each tested.
+-- `schedule_fits` meets its contract: four words, each tested.
 use Rattle.rules.specs.Tables.{scheduleFrom}
 use Rattle.rules.specs.Schedule.{scheduleFits}
 use borrow.Author.Needs.{needs}
@@ -32,9 +32,6 @@ add-fee-fits-3 c = search needs
 fee-fits-requires-3 : tie.Need-fee-fits-requires-3
 fee-fits-requires-3 c κs = search needs
 
-rates-fit-requires : tie.Need-rates-fit-requires
-rates-fit-requires c κs = search needs
-
 returns : tie.Need-returns
 unfolding scheduleFits scheduleFrom
 returns c = cc
@@ -52,5 +49,4 @@ schedule-fits-spec =
     fee-fits-requires-2
     add-fee-fits-3
     fee-fits-requires-3
-    rates-fit-requires
     returns)
