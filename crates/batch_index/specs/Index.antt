@@ -51,7 +51,8 @@ slotWord slots a w = cond (ltb a slotCount) (getD slots (a * 4 + w) 0) 0
 pub record SlotsHold (j : List ℤ) (n i : ℕ) (slots : List ℕ) : Type 0 where
   pub sized : length slots ≡ indexSize
   pub first-in : (s a : ℕ) → s < 2 → a < slotCount → getD slots (firstAt a s) 0 ≤ n
-  pub passed : (s a : ℕ) → s < 2 → a < slotCount → (k : ℕ) → i ≤ k → k < getD slots (firstAt a s) 0 → only (ofSide s a) remaining (rowAt j k) ≡ 0
+  pub passed : (s a : ℕ) → s < 2 → a < slotCount → (k : ℕ) → i ≤ k → k < getD slots (firstAt a s) 0 →
+      only (ofSide s a) remaining (rowAt j k) ≡ 0
   pub summed : (s a : ℕ) → s < 2 → a < slotCount → getD slots (sumAt a s) 0 ≡ sumBy (only (ofSide s a) (λ r. r .amount)) (rowsOf j n)
 
 -- every first row is `used`, and the sums are as before

@@ -1,4 +1,5 @@
--- The texts of numbers and dates as bytes, and the numbers that a line states. The sentences quoted are of document 01, "Questions, dates, listing".
+-- The texts of numbers and dates as bytes, and the numbers that a line states. The sentences quoted are of document 01, "Questions, dates,
+-- listing".
 use Prim.Native.Nat.{ℕ, zero, suc, _+_, _-_, _*_, _/_, _%_, _^_}
 use mathlib.Core.Bool.{Bool, true, false, cond, _&&_}
 use mathlib.Core.List.{List, [], _∷_, _++_}
@@ -44,7 +45,8 @@ twoDigits n = (48 + n / 10 % 10) ∷ (48 + n % 10) ∷ []
 
 -- a date as yyyy-mm-dd: "2000-01-01"
 unfoldable pub textOfDate : Date → List ℕ
-textOfDate d = twoDigits (d .year / 100) ++ twoDigits (d .year % 100) ++ (45 ∷ []) ++ twoDigits (d .month) ++ (45 ∷ []) ++ twoDigits (d .day)
+textOfDate d =
+    twoDigits (d .year / 100) ++ twoDigits (d .year % 100) ++ (45 ∷ []) ++ twoDigits (d .month) ++ (45 ∷ []) ++ twoDigits (d .day)
 
 -- the date of a day number: "Day 1 is 2000-01-01, day 36,525 is 2099-12-31"
 unfoldable pub dateText : ℕ → List ℕ
@@ -54,7 +56,8 @@ dateText day = textOfDate (dateOf day)
 unfoldable pub written : List ℕ → ℕ → List ℕ → List ℕ
 written b at t = take at b ++ t ++ drop (at + length t) b
 
--- ---- reading: "signed 64-bit numbers (perhaps a minus, 1 to 19 digits)". So 007 is 7 and -0 is 0; a plus, a blank or a 20th digit is no number
+-- ---- reading: "signed 64-bit numbers (perhaps a minus, 1 to 19 digits)". So 007 is 7 and -0 is 0; a plus, a blank or a 20th digit is no
+-- number
 
 -- the value of a digit's byte, 10 for any other byte
 unfoldable pub digitValue : ℕ → ℕ

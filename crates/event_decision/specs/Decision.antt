@@ -49,7 +49,8 @@ upheldToll r = settleWhole (withHoldStart 0 (withDispute DisputeUpheld r))
 -- "a credit of the toll plus all its fees settles what is unsettled of exactly these"
 unfoldable pub creditFor : List Row → ℕ → Instruction → Row
 creditFor rows today e =
-    withReference (e .a) (withSettled (tollAndFees rows (e .a) (part false)) (newRow KindCredit (e .account) today (tollAndFees rows (e .a) (part true))))
+    withReference (e .a) (withSettled (tollAndFees rows (e .a) (part false))
+    (newRow KindCredit (e .account) today (tollAndFees rows (e .a) (part true))))
 
 -- the row that the event names
 abbrev pub rowNamed : List ℤ → List ℤ → Instruction → Row

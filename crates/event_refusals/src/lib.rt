@@ -50,7 +50,8 @@ fn list_refused(header: &[i64], e: Instruction) -> bool
     (e.a <= last_day(header, used)) | (MOST_LISTS <= used + 1)
 }
 
-// 3: the account, x, is unused or not one of the table's; event 1 may name an unused one of the table's, and a tick and a rate list name none.
+// 3: the account, x, is unused or not one of the table's; event 1 may name an unused one of the table's, and a tick and a rate list name
+// none.
 fn account_unknown(count: u64, e: Instruction, x: Account) -> bool
     ensures { λ r. ⌜ ((b : Book) → Read b e count x → r ≡ unknown b e) ⌝ }
 {

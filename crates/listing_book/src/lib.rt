@@ -74,7 +74,8 @@ fn write_rows(out: &mut [u8], at: usize, journal: &[i64], used: usize) -> usize
 
 // ---- accounts
 
-// Writes the balance of account n, its sources less its debits, as the last field of a line, and returns where that ends. Every other byte stays.
+// Writes the balance of account n, its sources less its debits, as the last field of a line, and returns where that ends. Every other byte
+// stays.
 fn write_balance(out: &mut [u8], at: usize, journal: &[i64], used: usize, n: u64) -> usize
     requires { ⌜ (at + mostFieldBytes ≤ length (now out)) × Amounts (now journal) used ⌝ }
     ensures { λ r. ⌜ Puts (now (out .entry)) (now (out .exit)) at r (line (textOf
@@ -143,7 +144,8 @@ fn write_accounts(
 
 // ---- the book
 
-// Writes the rows and the used accounts of a sound book, each part with its names before it, and returns where that ends. Every other byte stays.
+// Writes the rows and the used accounts of a sound book, each part with its names before it, and returns where that ends. Every other byte
+// stays.
 pub fn write_book(
     header: &[i64],
     accounts: &[i64],

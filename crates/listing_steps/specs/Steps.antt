@@ -1,4 +1,5 @@
--- A step of the listing: what is to be listed before it is what it prints, and what is to be listed after it, whatever input is still to come.
+-- A step of the listing: what is to be listed before it is what it prints, and what is to be listed after it, whatever input is still to
+-- come.
 use mathlib.Core.Path.{_≡_}
 use mathlib.Core.Bool.{true, false, cond}
 use Prim.Native.Nat.{ℕ, _+_, _≤_, _<_}

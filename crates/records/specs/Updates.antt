@@ -1,4 +1,5 @@
--- A row, an account and an instruction with one field changed: with their reading and writing (Encoding), the only definitions that list all the fields of one.
+-- A row, an account and an instruction with one field changed: with their reading and writing (Encoding), the only definitions that list
+-- all the fields of one.
 use Prim.Native.Nat.{ℕ}
 use Rattle.records.specs.declared.Row.{Row}
 use Rattle.records.specs.declared.Account.{Account}
@@ -15,22 +16,88 @@ abbrev pub newRow : ℕ → ℕ → ℕ → ℕ → Row
 newRow k a d n = record { kind = k; account = a; day = d; amount = n; settled = 0; mark = 0; due = 0; dispute = 0; hold = 0; reference = 0 }
 
 abbrev pub withSettled : ℕ → Row → Row
-withSettled v r = record { kind = r .kind; account = r .account; day = r .day; amount = r .amount; settled = v; mark = r .mark; due = r .due; dispute = r .dispute; hold = r .hold; reference = r .reference }
+withSettled v r = record {
+  kind = r .kind;
+  account = r .account;
+  day = r .day;
+  amount = r .amount;
+  settled = v;
+  mark = r .mark;
+  due = r .due;
+  dispute = r .dispute;
+  hold = r .hold;
+  reference = r .reference;
+}
 
 abbrev pub withMark : ℕ → Row → Row
-withMark v r = record { kind = r .kind; account = r .account; day = r .day; amount = r .amount; settled = r .settled; mark = v; due = r .due; dispute = r .dispute; hold = r .hold; reference = r .reference }
+withMark v r = record {
+  kind = r .kind;
+  account = r .account;
+  day = r .day;
+  amount = r .amount;
+  settled = r .settled;
+  mark = v;
+  due = r .due;
+  dispute = r .dispute;
+  hold = r .hold;
+  reference = r .reference;
+}
 
 abbrev pub withDue : ℕ → Row → Row
-withDue v r = record { kind = r .kind; account = r .account; day = r .day; amount = r .amount; settled = r .settled; mark = r .mark; due = v; dispute = r .dispute; hold = r .hold; reference = r .reference }
+withDue v r = record {
+  kind = r .kind;
+  account = r .account;
+  day = r .day;
+  amount = r .amount;
+  settled = r .settled;
+  mark = r .mark;
+  due = v;
+  dispute = r .dispute;
+  hold = r .hold;
+  reference = r .reference;
+}
 
 abbrev pub withDispute : ℕ → Row → Row
-withDispute v r = record { kind = r .kind; account = r .account; day = r .day; amount = r .amount; settled = r .settled; mark = r .mark; due = r .due; dispute = v; hold = r .hold; reference = r .reference }
+withDispute v r = record {
+  kind = r .kind;
+  account = r .account;
+  day = r .day;
+  amount = r .amount;
+  settled = r .settled;
+  mark = r .mark;
+  due = r .due;
+  dispute = v;
+  hold = r .hold;
+  reference = r .reference;
+}
 
 abbrev pub withHoldStart : ℕ → Row → Row
-withHoldStart v r = record { kind = r .kind; account = r .account; day = r .day; amount = r .amount; settled = r .settled; mark = r .mark; due = r .due; dispute = r .dispute; hold = v; reference = r .reference }
+withHoldStart v r = record {
+  kind = r .kind;
+  account = r .account;
+  day = r .day;
+  amount = r .amount;
+  settled = r .settled;
+  mark = r .mark;
+  due = r .due;
+  dispute = r .dispute;
+  hold = v;
+  reference = r .reference;
+}
 
 abbrev pub withReference : ℕ → Row → Row
-withReference v r = record { kind = r .kind; account = r .account; day = r .day; amount = r .amount; settled = r .settled; mark = r .mark; due = r .due; dispute = r .dispute; hold = r .hold; reference = v }
+withReference v r = record {
+  kind = r .kind;
+  account = r .account;
+  day = r .day;
+  amount = r .amount;
+  settled = r .settled;
+  mark = r .mark;
+  due = r .due;
+  dispute = r .dispute;
+  hold = r .hold;
+  reference = v;
+}
 
 -- ---- accounts
 
@@ -39,19 +106,59 @@ abbrev pub unused : Account
 unused = record { state = 0; request = 0; returned = 0; threshold = 0; topup = 0; declines = 0; declined = 0 }
 
 abbrev pub withState : ℕ → Account → Account
-withState v x = record { state = v; request = x .request; returned = x .returned; threshold = x .threshold; topup = x .topup; declines = x .declines; declined = x .declined }
+withState v x = record {
+  state = v;
+  request = x .request;
+  returned = x .returned;
+  threshold = x .threshold;
+  topup = x .topup;
+  declines = x .declines;
+  declined = x .declined;
+}
 
 abbrev pub withRequest : ℕ → Account → Account
-withRequest v x = record { state = x .state; request = v; returned = x .returned; threshold = x .threshold; topup = x .topup; declines = x .declines; declined = x .declined }
+withRequest v x = record {
+  state = x .state;
+  request = v;
+  returned = x .returned;
+  threshold = x .threshold;
+  topup = x .topup;
+  declines = x .declines;
+  declined = x .declined;
+}
 
 abbrev pub withReturned : ℕ → Account → Account
-withReturned v x = record { state = x .state; request = x .request; returned = v; threshold = x .threshold; topup = x .topup; declines = x .declines; declined = x .declined }
+withReturned v x = record {
+  state = x .state;
+  request = x .request;
+  returned = v;
+  threshold = x .threshold;
+  topup = x .topup;
+  declines = x .declines;
+  declined = x .declined;
+}
 
 abbrev pub withTopup : ℕ → ℕ → Account → Account
-withTopup t n x = record { state = x .state; request = x .request; returned = x .returned; threshold = t; topup = n; declines = x .declines; declined = x .declined }
+withTopup t n x = record {
+  state = x .state;
+  request = x .request;
+  returned = x .returned;
+  threshold = t;
+  topup = n;
+  declines = x .declines;
+  declined = x .declined;
+}
 
 abbrev pub withDeclines : ℕ → ℕ → Account → Account
-withDeclines n d x = record { state = x .state; request = x .request; returned = x .returned; threshold = x .threshold; topup = x .topup; declines = n; declined = d }
+withDeclines n d x = record {
+  state = x .state;
+  request = x .request;
+  returned = x .returned;
+  threshold = x .threshold;
+  topup = x .topup;
+  declines = n;
+  declined = d;
+}
 
 -- ---- instructions
 

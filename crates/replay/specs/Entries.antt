@@ -27,19 +27,69 @@ abbrev pub newEntry : ℕ → ℕ → ℕ → ℕ → Entry
 newEntry k a d n = record { kind = k; account = a; day = d; amount = n; covered = 0; hold = false; ticks = 0; open-days = 0; toll = 0 }
 
 abbrev pub withCovered : ℕ → Entry → Entry
-withCovered v x = record { kind = x .kind; account = x .account; day = x .day; amount = x .amount; covered = v; hold = x .hold; ticks = x .ticks; open-days = x .open-days; toll = x .toll }
+withCovered v x = record {
+  kind = x .kind;
+  account = x .account;
+  day = x .day;
+  amount = x .amount;
+  covered = v;
+  hold = x .hold;
+  ticks = x .ticks;
+  open-days = x .open-days;
+  toll = x .toll;
+}
 
 abbrev pub withHold : Bool → Entry → Entry
-withHold v x = record { kind = x .kind; account = x .account; day = x .day; amount = x .amount; covered = x .covered; hold = v; ticks = x .ticks; open-days = x .open-days; toll = x .toll }
+withHold v x = record {
+  kind = x .kind;
+  account = x .account;
+  day = x .day;
+  amount = x .amount;
+  covered = x .covered;
+  hold = v;
+  ticks = x .ticks;
+  open-days = x .open-days;
+  toll = x .toll;
+}
 
 abbrev pub withTicks : ℕ → Entry → Entry
-withTicks v x = record { kind = x .kind; account = x .account; day = x .day; amount = x .amount; covered = x .covered; hold = x .hold; ticks = v; open-days = x .open-days; toll = x .toll }
+withTicks v x = record {
+  kind = x .kind;
+  account = x .account;
+  day = x .day;
+  amount = x .amount;
+  covered = x .covered;
+  hold = x .hold;
+  ticks = v;
+  open-days = x .open-days;
+  toll = x .toll;
+}
 
 abbrev pub withOpenDays : ℕ → Entry → Entry
-withOpenDays v x = record { kind = x .kind; account = x .account; day = x .day; amount = x .amount; covered = x .covered; hold = x .hold; ticks = x .ticks; open-days = v; toll = x .toll }
+withOpenDays v x = record {
+  kind = x .kind;
+  account = x .account;
+  day = x .day;
+  amount = x .amount;
+  covered = x .covered;
+  hold = x .hold;
+  ticks = x .ticks;
+  open-days = v;
+  toll = x .toll;
+}
 
 abbrev pub withToll : ℕ → Entry → Entry
-withToll v x = record { kind = x .kind; account = x .account; day = x .day; amount = x .amount; covered = x .covered; hold = x .hold; ticks = x .ticks; open-days = x .open-days; toll = v }
+withToll v x = record {
+  kind = x .kind;
+  account = x .account;
+  day = x .day;
+  amount = x .amount;
+  covered = x .covered;
+  hold = x .hold;
+  ticks = x .ticks;
+  open-days = x .open-days;
+  toll = v;
+}
 
 -- "A row word means the entry of that number": entry n, counted from 1; an empty one where there is none
 abbrev pub noEntry : Entry
@@ -111,7 +161,8 @@ refunds a xs = sumOf KindRefund a xs
 
 -- demand 3's formula: payments + credits - tolls - fees - reversals - refunds
 unfoldable pub balanceOf : ℕ → List Entry → ℤ
-balanceOf a xs = pos (payments a xs) +ℤ pos (credits a xs) -ℤ pos (tolls a xs) -ℤ pos (fees a xs) -ℤ pos (reversals a xs) -ℤ pos (refunds a xs)
+balanceOf a xs =
+    pos (payments a xs) +ℤ pos (credits a xs) -ℤ pos (tolls a xs) -ℤ pos (fees a xs) -ℤ pos (reversals a xs) -ℤ pos (refunds a xs)
 
 -- its two sides: the balance is at least 0 where the first is at least the second, and is their difference
 unfoldable pub moneyIn : ℕ → List Entry → ℕ

@@ -104,8 +104,10 @@ tollAndFees n f xs = f (entryNo xs n) + sumBy (only (feeOf n) f) xs
 -- "Verdict 1 adds a credit of their amounts, which first covers what is uncovered of exactly these"
 unfoldable pub addCredit : Step
 addCredit p e =
-    addEntry (withCovered (tollAndFees (e .a) uncovered (p .entries)) (newEntry KindCredit (e .account) (p .day) (tollAndFees (e .a) (λ x. x .amount) (p .entries))))
-    (withEntries (map (λ x. cond (feeOf (e .a) x) (coverWhole x) x) (set (p .entries) (e .a - 1) (coverWhole (entryNo (p .entries) (e .a))))) p)
+    addEntry (withCovered (tollAndFees (e .a) uncovered (p .entries))
+    (newEntry KindCredit (e .account) (p .day) (tollAndFees (e .a) (λ x. x .amount) (p .entries))))
+    (withEntries (map (λ x. cond (feeOf (e .a) x) (coverWhole x) x)
+    (set (p .entries) (e .a - 1) (coverWhole (entryNo (p .entries) (e .a))))) p)
 
 -- event 6: frees the toll; an upheld one is credited
 unfoldable pub freeToll : Step
@@ -131,7 +133,8 @@ reaches L k x = gains x && x .open-days + 1 is k * L
 
 -- "adds fee k if not 0": n is the toll's number
 unfoldable pub addFee : Schedule → ℕ → ℕ → Entry → ℕ → List Entry
-addFee s today n x k = one (reaches (s .stage) k x && ltb 0 (stageFee s k)) (withToll n (newEntry KindFee (x .account) today (stageFee s k)))
+addFee s today n x k =
+    one (reaches (s .stage) k x && ltb 0 (stageFee s k)) (withToll n (newEntry KindFee (x .account) today (stageFee s k)))
 
 -- "k 2 to 4"
 unfoldable pub addFees : Schedule → ℕ → ℕ → Entry → List Entry
@@ -147,7 +150,8 @@ closing today xs a x =
 -- "that balance, if not 0, is added as a refund covered whole"
 unfoldable pub addRefund : ℕ → List Entry → ℕ → Note → List Entry
 addRefund today xs a x =
-    one (closing today xs a x && ltb (moneyOut a xs) (moneyIn a xs)) (coverWhole (newEntry KindRefund a today (moneyIn a xs - moneyOut a xs)))
+    one (closing today xs a x && ltb (moneyOut a xs) (moneyIn a xs))
+    (coverWhole (newEntry KindRefund a today (moneyIn a xs - moneyOut a xs)))
 
 -- "all its money used"
 unfoldable pub useMoney : ℕ → List Note → List Entry → Entry → Entry
@@ -163,7 +167,13 @@ unfoldable pub tickReplay : Step
 tickReplay p e =
     let today : ℕ = p .day + 1 in
     let xs : List Entry = settleAllEntries (length (p .notes)) (map countDay (p .entries)) in
-    closeAll (record { day = today; schedule = p .schedule; lists = p .lists; notes = p .notes; entries = xs ++ gather (addFees (p .schedule) today) (p .entries) })
+    closeAll (record {
+      day = today;
+      schedule = p .schedule;
+      lists = p .lists;
+      notes = p .notes;
+      entries = xs ++ gather (addFees (p .schedule) today) (p .entries);
+    })
 
 -- ---- 10 (document 02, No. 1)
 
@@ -179,7 +189,8 @@ noStep p e = p
 -- the events by their kind
 unfoldable pub stepOf : ℕ → Step
 stepOf k =
-    getD (noStep ∷ noteTopup ∷ addToll ∷ addPayment ∷ addReturn ∷ setHold true ∷ freeToll ∷ addTopup ∷ noteRequest ∷ tickReplay ∷ noteList ∷ []) k noStep
+    getD (noStep ∷ noteTopup ∷ addToll ∷ addPayment ∷ addReturn ∷ setHold true ∷ freeToll ∷ addTopup ∷ noteRequest ∷ tickReplay
+    ∷ noteList ∷ []) k noStep
 
 -- what a replay is fed: an event, and whether it is accepted
 pub record Report : Type 0 where
@@ -195,7 +206,13 @@ unfoldable pub replay : Replay → List Report → Replay
 replay p [] = p
 replay p (h ∷ hs) = replay (replayOne p h) hs
 
--- the replay at the opening: its day, its schedule and rates, and how many accounts its table has; "The opening's list has the opening day as
--- its first day"
+-- the replay at the opening: its day, its schedule and rates, and how many accounts its table has; "The opening's list has the opening day
+-- as its first day"
 unfoldable pub begin : ℕ → Schedule → Rates → ℕ → Replay
-begin day s r accounts = record { day = day; schedule = s; lists = record { firstDay = day; rates = r } ∷ []; notes = replicate accounts noNote; entries = [] }
+begin day s r accounts = record {
+  day = day;
+  schedule = s;
+  lists = record { firstDay = day; rates = r } ∷ [];
+  notes = replicate accounts noNote;
+  entries = [];
+}

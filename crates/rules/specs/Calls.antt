@@ -50,7 +50,8 @@ openingRefusals t w = (Unsound, not (lengthsFit t)) ∷ (Malformed, not (opening
 -- the book that opening makes: first day, schedule and rates from its words, sizes from the tables
 unfoldable pub openedBook : Tables → List ℤ → Book
 openedBook t w =
-    opening (word w Layout.firstDayPlace) (scheduleFrom w Layout.openingSchedule) (ratesFrom w Layout.openingRates) (accountsIn t) (roomIn t)
+    opening (word w Layout.firstDayPlace) (scheduleFrom w Layout.openingSchedule) (ratesFrom w Layout.openingRates)
+    (accountsIn t) (roomIn t)
 
 -- "a refused batch or opening writes nothing"
 unfoldable pub openCall : Tables → List ℤ → Called
@@ -62,7 +63,8 @@ openCall t w =
 
 -- "1: book not sound"; "2: kind, range, length, batch or answer table wrong"
 unfoldable pub eventRefusals : Tables → List ℤ → List ℤ → Cases
-eventRefusals t e answers = (Unsound, not (soundTables t)) ∷ (Malformed, not (length e is Layout.eventWidth) || ltb (length answers) Layout.answerWidth) ∷ []
+eventRefusals t e answers =
+    (Unsound, not (soundTables t)) ∷ (Malformed, not (length e is Layout.eventWidth) || ltb (length answers) Layout.answerWidth) ∷ []
 
 -- a refusal is an answer too, and is written where there is room for one
 unfoldable pub answered : Answer → List ℤ → List ℤ
@@ -79,7 +81,8 @@ eventCall t e answers =
 -- ---- a batch: "at most 4,096", "at least five words per event"
 
 unfoldable pub batchRefusals : Tables → List Event → List ℤ → Cases
-batchRefusals t es answers = (Unsound, not (soundTables t)) ∷ (Malformed, ltb mostEvents (length es) || ltb (length answers) (length es * Layout.answerWidth)) ∷ []
+batchRefusals t es answers =
+    (Unsound, not (soundTables t)) ∷ (Malformed, ltb mostEvents (length es) || ltb (length answers) (length es * Layout.answerWidth)) ∷ []
 
 -- "it goes on after a refusal"; "a refused batch .. writes nothing"
 unfoldable pub batchCall : Tables → List Event → List ℤ → Called

@@ -78,7 +78,8 @@ withFees b n f = f (row b n) + sumBy (only (feeNaming n) f) (b .rows)
 -- "1: dispute 3, and a credit of the toll plus all its fees settles what is unsettled of exactly these; the rest of the credit is unused"
 unfoldable pub uphold : Change
 uphold b e =
-    addRow (withReference (e .a) (withSettled (withFees b (e .a) remaining) (newRow KindCredit (e .account) (b .day) (withFees b (e .a) (λ r. r .amount)))))
+    addRow (withReference (e .a) (withSettled (withFees b (e .a) remaining)
+    (newRow KindCredit (e .account) (b .day) (withFees b (e .a) (λ r. r .amount)))))
     (withRows (map (λ r. cond (feeNaming (e .a) r) (settleWhole r) r)
     (set (b .rows) (e .a - 1) (settleWhole (withHoldStart 0 (withDispute DisputeUpheld (row b (e .a))))))) b)
 

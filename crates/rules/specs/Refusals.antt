@@ -25,7 +25,8 @@ noChange b e = b
 -- events 1 to 10; no other kind changes anything
 unfoldable pub changeOf : ℕ → Change
 changeOf k =
-    getD (noChange ∷ openAccount ∷ postToll ∷ postPayment ∷ returnCheck ∷ holdToll ∷ decide ∷ topupResult ∷ requestClose ∷ tick ∷ addList ∷ []) k noChange
+    getD (noChange ∷ openAccount ∷ postToll ∷ postPayment ∷ returnCheck ∷ holdToll ∷ decide ∷ topupResult ∷ requestClose ∷ tick
+    ∷ addList ∷ []) k noChange
 
 -- the book after the event, were it accepted
 unfoldable pub after : Change
@@ -61,7 +62,8 @@ noForm e = false
 unfoldable pub openForm : Form
 openForm e = leb (e .a) Limits.highestTopup && leb (e .b) Limits.highestTopup && (e .b is 0 implies e .a is 0) && zeroFrom-c e
 
--- "2. Toll: a passage number 1 to 1,000,000,000, b passage day 1 to 36,525, c axles 1 to 99, d height 0 to 999 inches, e mode (1 tag, 2 plate)"
+-- "2. Toll: a passage number 1 to 1,000,000,000, b passage day 1 to 36,525, c axles 1 to 99, d height 0 to 999 inches, e mode (1 tag,
+-- 2 plate)"
 unfoldable pub tollForm : Form
 tollForm e =
     e .a from 1 to Limits.highestPassage && e .b from 1 to Limits.finalDay && e .c from 1 to Limits.mostAxles
@@ -102,7 +104,8 @@ listForm e = e .account is 0 && listInRange (listOf e)
 -- the form of each kind
 unfoldable pub formOf : ℕ → Form
 formOf k =
-    getD (noForm ∷ openForm ∷ tollForm ∷ paymentForm ∷ returnForm ∷ disputeForm ∷ decisionForm ∷ resultForm ∷ requestForm ∷ tickForm ∷ listForm ∷ []) k noForm
+    getD (noForm ∷ openForm ∷ tollForm ∷ paymentForm ∷ returnForm ∷ disputeForm ∷ decisionForm ∷ resultForm ∷ requestForm ∷ tickForm
+    ∷ listForm ∷ []) k noForm
 
 -- the words are those of the event's kind
 unfoldable pub wellFormed : Form
@@ -144,7 +147,9 @@ taken b e = e .kind is EventOpen && not (stateOf b e is StateUnused)
 
 -- 5 "events 2, 3, 7, 8 on state 3"
 unfoldable pub onClosed : Refusal
-onClosed b e = (e .kind is EventToll || e .kind is EventPayment || e .kind is EventTopupResult || e .kind is EventCloseRequest) && stateOf b e is StateClosed
+onClosed b e =
+    (e .kind is EventToll || e .kind is EventPayment || e .kind is EventTopupResult || e .kind is EventCloseRequest)
+    && stateOf b e is StateClosed
 
 -- 6 "one axle above 90 inches": no class applies
 unfoldable pub unclassed : Refusal

@@ -26,7 +26,8 @@ kindFits r = r .kind from KindToll to KindRefund
 -- "at most 1,000,000 (kinds 1, 3, 4), 100,000 (2), 1,300,000 (5), 10,649,600,000 (6)"
 unfoldable pub mostOf : ℕ → ℕ
 mostOf kind =
-    getD (0 ∷ Limits.highestRate ∷ Limits.highestFee ∷ Limits.highestPayment ∷ Limits.highestPayment ∷ Limits.highestCredit ∷ Limits.highestRefund ∷ []) kind 0
+    getD (0 ∷ Limits.highestRate ∷ Limits.highestFee ∷ Limits.highestPayment ∷ Limits.highestPayment ∷ Limits.highestCredit
+    ∷ Limits.highestRefund ∷ []) kind 0
 
 -- "amounts are at least 1 and at most .."
 unfoldable pub amountFits : Test
@@ -42,7 +43,9 @@ markFits r = cond (toll r) (leb (r .mark) LastStage) (cond (r .kind is KindPayme
 
 -- "Dispute, tolls only: 0 .. 3"; "Reference: a toll's passage number"; due day, dispute and hold start have no use in other kinds
 unfoldable pub tollWordsFit : Test
-tollWordsFit r = cond (toll r) (leb (r .dispute) DisputeUpheld && r .reference from 1 to Limits.highestPassage) (r .due is 0 && r .dispute is 0 && r .hold is 0)
+tollWordsFit r =
+    cond (toll r) (leb (r .dispute) DisputeUpheld && r .reference from 1 to Limits.highestPassage)
+    (r .due is 0 && r .dispute is 0 && r .hold is 0)
 
 -- a payment and a refund have no reference
 unfoldable pub noReference : Test
@@ -172,5 +175,6 @@ accountSound b n x = allOf
 -- every clause about the book
 unfoldable pub sound : Book → Bool
 sound b = allOf
-    (dayFits (b .day) ∷ scheduleFits (b .schedule) ∷ listsFit (b .lists) ∷ sizesFit (length (b .accounts)) (b .room) ∷ leb (length (b .rows)) (b .room)
+    (dayFits (b .day) ∷ scheduleFits (b .schedule) ∷ listsFit (b .lists)
+    ∷ sizesFit (length (b .accounts)) (b .room) ∷ leb (length (b .rows)) (b .room)
     ∷ every (rowSound b) (b .rows) ∷ every (accountSound b) (b .accounts) ∷ [])

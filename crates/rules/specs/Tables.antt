@@ -127,7 +127,8 @@ tablesOf b = record {
 -- "The header has 62 words", "Accounts, 7 words each", "Journal, 10 words a row": no word over
 unfoldable pub wholeRecords : Tables → Bool
 wholeRecords t =
-    length (t .header) is Layout.headerWidth && length (t .accounts) % Layout.accountWidth is 0 && length (t .journal) % Layout.rowWidth is 0
+    length (t .header) is Layout.headerWidth && length (t .accounts) % Layout.accountWidth is 0
+    && length (t .journal) % Layout.rowWidth is 0
 
 -- "the lengths are exactly those above"
 unfoldable pub lengthsFit : Tables → Bool

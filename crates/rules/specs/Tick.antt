@@ -66,7 +66,9 @@ raisedBy b = count (rises (beforeRaising b .day)) (beforeRaising b .rows)
 
 -- such an account
 unfoldable pub closes : Book → ℕ → Account → Bool
-closes b n x = x .state is StatePending && leb (x .request + closingDays) (b .day) && not (exists (λ r. debitOf n r && unsettled r) (b .rows))
+closes b n x =
+    x .state is StatePending && leb (x .request + closingDays) (b .day)
+    && not (exists (λ r. debitOf n r && unsettled r) (b .rows))
 
 -- the account after the closings
 unfoldable pub closeIf : Book → ℕ → Account → Account
@@ -82,7 +84,9 @@ useUp b r = cond (source r && closes b (r .account) (account b (r .account))) (s
 
 -- the accounts closed, their money used, the refund rows added by account number
 unfoldable pub closeAccounts : Book → Book
-closeAccounts b = withAccounts (change (closeIf b) (b .accounts)) (withRows (map (useUp b) (b .rows) ++ gather (refundRow b) (b .accounts)) b)
+closeAccounts b =
+    withAccounts (change (closeIf b) (b .accounts))
+    (withRows (map (useUp b) (b .rows) ++ gather (refundRow b) (b .accounts)) b)
 
 -- ---- the tick
 

@@ -81,7 +81,8 @@ fn add_settled(journal: &mut [i64], i: usize, m: u64)
     put_settled(journal, i, r.settled + m);
 }
 
-// Settles the account among the used rows, from the rows given for its sources and its debits on. Sources and debits are each passed over once.
+// Settles the account among the used rows, from the rows given for its sources and its debits on. Sources and debits are each passed over
+// once.
 pub fn settle_from(journal: &mut [i64], used: usize, account: u64, source: usize, debit: usize)
     requires { ⌜ Journal (now journal) used × Begun (now journal) used account source debit ⌝ }
     ensures { λ _. ⌜ Settled (now (journal .entry)) (now (journal .exit)) used account ⌝ }

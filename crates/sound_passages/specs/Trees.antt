@@ -1,5 +1,6 @@
 -- Digital search trees of tolls in one array, of four cells for each row that it has space for: the first half of the cells are roots, and
--- cells 2 space + 2 r and the next are the two branches of row r, counted from 0. A cell holds a row's number, counted from 1, and 0 for none.
+-- cells 2 space + 2 r and the next are the two branches of row r, counted from 0. A cell holds a row's number, counted from 1, and 0 for
+-- none.
 use Prim.Native.Nat.{ℕ, _+_, _*_, _/_, _%_, _≤_, _<_}
 use mathlib.Core.Path.{_≡_}
 use mathlib.Core.Bool.{Bool, true, false}

@@ -1,5 +1,5 @@
-// "Passage numbers differ", in linear time, a row at a time: the tolls read so far stand in digital search trees, so that no choice of numbers makes
-// a way down longer than the bits that tell two numbers apart.
+// "Passage numbers differ", in linear time, a row at a time: the tolls read so far stand in digital search trees, so that no choice of
+// numbers makes a way down longer than the bits that tell two numbers apart.
 use records::codes::KIND_TOLL;
 use records::limits::MOST_ROWS;
 use table_rows::kind_at;

@@ -25,7 +25,9 @@ pub record Walked (accounts journal : List ℤ) (f : Frame) (cells counts sums :
 
 -- a row does not stand, or has the passage number of another, or too many fees
 abbrev pub Unfit : List ℤ → List ℤ → Frame → Type 0
-Unfit accounts journal f = rowsStand (accountsOf accounts (f .count)) (rowsOf journal (f .used)) (f .today) (f .stage) && (passagesDiffer (rowsOf journal (f .used)) && feesFew (rowsOf journal (f .used))) ≡ false
+Unfit accounts journal f =
+    rowsStand (accountsOf accounts (f .count)) (rowsOf journal (f .used)) (f .today) (f .stage)
+    && (passagesDiffer (rowsOf journal (f .used)) && feesFew (rowsOf journal (f .used))) ≡ false
 
 -- what b says of the first i rows
 pub record Walks (accounts journal : List ℤ) (f : Frame) (cells counts sums : List ℕ) (i : ℕ) (b : Bool) : Type 0 where

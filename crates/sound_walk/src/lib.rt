@@ -30,8 +30,8 @@ ghost use Rattle.account_sums.specs.Columns.{Tallies, Addable};
 ghost use Rattle.sound_walk.specs.Walks.{Walked, Walks, Turn, Turns, FeeTurn, FeeTurns};
 ghost use Rattle.records.specs.Codes.{KindToll, KindPayment};
 
-// Row i, r, a toll: false where it does not stand, or an earlier one has its passage number. As any row, it is added only once it is found to
-// stand, so the sums are of amounts that are known to be small.
+// Row i, r, a toll: false where it does not stand, or an earlier one has its passage number. As any row, it is added only once it is found
+// to stand, so the sums are of amounts that are known to be small.
 fn toll_turn(
     accounts: &[i64],
     journal: &[i64],

@@ -46,8 +46,8 @@ pub fn last_day(header: &[i64], used: usize) -> u64
     later_day(header, used - 1)
 }
 
-// How many lists after the first have begun by a day: each is compared once, in order of first days, until one has not begun or is unused. 0: the
-// first list is in force; else the one of that number after it.
+// How many lists after the first have begun by a day: each is compared once, in order of first days, until one has not begun or is unused.
+// 0: the first list is in force; else the one of that number after it.
 pub fn list_on(header: &[i64], day: u64) -> usize
     requires { ⌜ ListsStand (now header) ⌝ }
     ensures { λ n. ⌜ OnDay (now (header .entry)) day n ⌝ }

@@ -107,4 +107,5 @@ pub record ClosedTo (h a j h′ a′ j′ : List ℤ) (today : ℕ) (money owed 
 pub record ReadyToClose (t : Tables) (closing : Bool) : Type 0 where
   pub midway : Midway (word (t .header) dayPlace) t
   pub room : length (closeAccounts (bookOf t) .rows) ≤ length (t .journal) / rowWidth
-  pub quiet : closing ≡ false → (k : ℕ) → k < length (bookOf t .accounts) → closes (bookOf t) (suc k) (getD (bookOf t .accounts) k unused) ≡ false
+  pub quiet : closing ≡ false → (k : ℕ) → k < length (bookOf t .accounts) →
+      closes (bookOf t) (suc k) (getD (bookOf t .accounts) k unused) ≡ false

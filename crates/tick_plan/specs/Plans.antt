@@ -31,7 +31,9 @@ closeBy today stays owed money x = daysOver today x && stays is 0 && leb owed mo
 
 -- none of the first i does
 abbrev pub NoneClosesBy : ℕ → List ℕ → List ℕ → List ℕ → List ℤ → ℕ → Type 0
-NoneClosesBy today stays owed money a i = (k : ℕ) → k < i → closeBy today (getD stays (k + 1) 0) (getD owed (k + 1) 0) (getD money (k + 1) 0) (accountAt a k) ≡ false
+NoneClosesBy today stays owed money a i =
+    (k : ℕ) → k < i →
+    closeBy today (getD stays (k + 1) 0) (getD owed (k + 1) 0) (getD money (k + 1) 0) (accountAt a k) ≡ false
 
 -- it closes with money left
 unfoldable pub refundBy : ℕ → ℕ → ℕ → ℕ → Account → Bool
