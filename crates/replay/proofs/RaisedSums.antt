@@ -12,15 +12,16 @@ use borrow.Author.Tests.{eqb-true, eq-eqb, ltb-true}
 use Rattle.lists.specs.Tests.{_is_}
 use Rattle.lists.specs.Lists.{sumBy, only, one, gather}
 use Rattle.lists.proofs.TestLaws.{and-left, and-right}
-use Rattle.lists.proofs.SumLaws.{sumBy-append, sumBy-map, sumBy-ext, sumBy-ext-at, sumBy-add, sumBy-le, sumBy-at-le, sumBy-some, sumBy-gather, sumBy-gather-none}
+use Rattle.lists.proofs.SumLaws.{sumBy-append, sumBy-map, sumBy-ext, sumBy-ext-at, sumBy-le, sumBy-at-le, sumBy-some, sumBy-gather, sumBy-gather-none}
 use Rattle.rules.specs.Schedule.{stageFee}
-use Rattle.rules.specs.Rows.{Row, Test, KindToll, KindFee, DisputeHeld, blank, newRow, withReference, withDue, withMark, rowNo, debit, toll, heldToll, held, unsettled, sourceOf, debitOf, payable, remaining}
+use Rattle.rules.specs.Rows.{Row, KindToll, KindFee, DisputeHeld, blank, newRow, withReference, withDue, withMark, rowNo, debit, toll, heldToll, held, unsettled, sourceOf, debitOf, payable, remaining}
 use Rattle.rules.specs.Settlement.{money, debt, moved, used, paid, owed}
 use Rattle.rules.specs.Book.{StateClosed, Book, settled, account, sources, debits}
 use Rattle.rules.specs.Events.{release}
 use Rattle.rules.specs.Tick.{nextDay, holdEnds, endHold, endHolds, beforeRaising, rises, raise, feeRow, raiseTolls}
 use Rattle.rules.specs.Soundness.{usedIsPaid, closedClear}
 use Rattle.rules.proofs.AllocationLaws.{bare}
+use Rattle.rules.proofs.BalanceLaws.{sum-split}
 use Rattle.rules.specs.SoundFacts.{Sound}
 use Rattle.rules.proofs.SettlementLaws.{payable-le}
 use Rattle.rules.proofs.SettlementAccountsLaws.{Remains, settleAccounts-held, settleAccounts-used-is-paid, settleAccounts-no-idle-money, settleAccounts-remains}
@@ -53,21 +54,6 @@ zero-either false = refl
 whole : (v : Bool) (n : ℕ) → cond v n 0 ≡ cond v (n - 0) 0
 whole true n = omega arith
 whole false n = refl
-
--- an amount is what is settled and what remains
-only-split : (t : Test) (r : Row) → r .settled ≤ r .amount → only t (λ s. s .amount) r ≡ only t (λ s. s .settled) r + only t remaining r
-unfolding only
-only-split t r h = go (t r)
-  where
-    go : (v : Bool) → cond v (r .amount) 0 ≡ cond v (r .settled) 0 + cond v (remaining r) 0
-    go true = omega arith
-    go false = refl
-
-sum-split : (t : Test) (rows : List Row) → ((k : ℕ) → k < length rows → getD rows k blank .settled ≤ getD rows k blank .amount)
-    → sumBy (only t (λ s. s .amount)) rows ≡ sumBy (only t (λ s. s .settled)) rows + sumBy (only t remaining) rows
-sum-split t rows e =
-    sumBy-ext-at (only t (λ s. s .amount)) (λ r. only t (λ s. s .settled) r + only t remaining r) blank rows (λ k h. only-split t (getD rows k blank) (e k h))
-    ∙ sumBy-add (only t (λ s. s .settled)) (only t remaining) rows
 
 -- a held toll of account c, counted
 abbrev pub heldOf : ℕ → Row → ℕ

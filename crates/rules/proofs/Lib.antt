@@ -3,6 +3,7 @@ pub mod SettlementLaws
 pub mod SettlementStepsLaws
 pub mod SettlementAccountsLaws
 pub mod SoundnessLaws
+pub mod BalanceLaws
 pub mod PostingLaws
 pub mod RefusalLaws
 pub mod Computing
