@@ -28,7 +28,7 @@
 /* The version of this interface: the first number rises where a host must change or its stored
  * books no longer fit, the second where something is added, the third where neither is. */
 #define TOLL_LEDGER_VERSION_MAJOR 2
-#define TOLL_LEDGER_VERSION_MINOR 0
+#define TOLL_LEDGER_VERSION_MINOR 1
 #define TOLL_LEDGER_VERSION_PATCH 0
 
 /* For compilers that can warn: a call's number must not be ignored, and no pointer may be null. */
@@ -195,8 +195,8 @@ enum toll_ledger_event_kind {
     /* a row of a held toll, b verdict. 0: the hold ends, the due day moves by the days held. 1:
      * upheld, a credit of the toll and all its fees settles what is unsettled of them. */
     TOLL_LEDGER_EVENT_DECISION = 6,
-    /* b 1 paid, 0 declined. Paid: adds a card payment of the top-up amount. The third decline in a
-     * row removes the top-up. */
+    /* b 1 paid, 0 declined: the result of a top-up that is due (toll_ledger_topup_due). Paid: adds a
+     * card payment of the top-up amount. The third decline in a row removes the top-up. */
     TOLL_LEDGER_EVENT_TOPUP_RESULT = 7,
     /* The account is pending from today; a tick closes it 15 days on or later, once nothing is
      * owed. */
@@ -317,8 +317,9 @@ int64_t toll_ledger_balance(const int64_t *header, size_t header_words,
 
 /*
  * Whether the account's top-up is due: it is open, its top-up amount is above 0, its last decline
- * is not today and its balance is at most the threshold. Gives 0, else 1 or 3, and writes 1 for
- * yes, 0 for no and where refused, to value.
+ * is not today, and its balance plus the unsettled part of its held tolls and of their fees is at
+ * most the threshold. Gives 0, else 1 or 3, and writes 1 for yes, 0 for no and where refused, to
+ * value.
  */
 TOLL_LEDGER_CALL
 int64_t toll_ledger_topup_due(const int64_t *header, size_t header_words,

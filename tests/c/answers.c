@@ -184,6 +184,25 @@ static void rates_ahead(struct book *b)
 }
 /* examples: end */
 
+/* examples: begin, of top-ups */
+/* A toll in dispute makes no top-up due: the balance includes it, but with the 500 that are held added
+ * it is 101, above the threshold. Once the toll is to be paid after all, the top-up is due. */
+static void held_topup(struct book *b)
+{
+    CHECK(post(b, TOLL_LEDGER_EVENT_OPEN, 7, 100, 2000) == TOLL_LEDGER_POSTED);
+    CHECK(post(b, TOLL_LEDGER_EVENT_TOLL, 7, 41, 1, 2, 60, 2) == TOLL_LEDGER_POSTED);
+    CHECK(post(b, TOLL_LEDGER_EVENT_DISPUTE, 7, 1) == TOLL_LEDGER_POSTED);
+    CHECK(post(b, TOLL_LEDGER_EVENT_PAYMENT, 7, 100, 1) == TOLL_LEDGER_POSTED);
+    CHECK(balance(b, 7) == -400 && topup_due(b, 7) == 1);
+    CHECK(post(b, TOLL_LEDGER_EVENT_PAYMENT, 7, 1, 1) == TOLL_LEDGER_POSTED);
+    CHECK(balance(b, 7) == -399 && topup_due(b, 7) == 0);
+    CHECK(post(b, TOLL_LEDGER_EVENT_TOPUP_RESULT, 7, 0, 1) == TOLL_LEDGER_UNTIMELY);
+    CHECK(post(b, TOLL_LEDGER_EVENT_TOPUP_RESULT, 7, 0, 0) == TOLL_LEDGER_UNTIMELY);
+    CHECK(post(b, TOLL_LEDGER_EVENT_DECISION, 7, 1, 0) == TOLL_LEDGER_POSTED);
+    CHECK(balance(b, 7) == -399 && topup_due(b, 7) == 1);
+}
+/* examples: end */
+
 /* As near to 14 as a book comes: a journal of credits for one settled toll, and a single free row. */
 static void largest_refund(struct book *b)
 {
@@ -318,7 +337,7 @@ int main(void)
         {duplicate, 64, 512, 1}, {barred, 64, 512, 1},    {no_row, 64, 512, 1},    {untimely, 64, 512, 1},
         {last_day, 64, 512, 36525}, {full, 64, 1, 1},     {largest_refund, 7, 8192, 1}, {listing, 64, 512, 1},
         {classes, 64, 512, 1},   {stages_and_holds, 64, 512, 1}, {closing, 64, 512, 1}, {declines, 64, 512, 1},
-        {rates_ahead, 64, 512, 1},
+        {rates_ahead, 64, 512, 1}, {held_topup, 64, 512, 1},
     };
     for (size_t i = 0; i < sizeof examples / sizeof examples[0]; i++) {
         struct book b = open_book(examples[i].accounts, examples[i].rows, examples[i].first_day);

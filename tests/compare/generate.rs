@@ -117,6 +117,9 @@ impl Host {
                 return payment(random, book, n);
             }
         }
+        if let Some(event) = beside_held(random, book) {
+            return event;
+        }
         let die = if book.rows_used() < self.fill { random.range(7, 42) } else { random.below(100) };
         let fit = match die {
             0..=6 => account(random, book, |n| book.state(n) == STATE_UNUSED).map(|n| open(random, n)),
@@ -241,6 +244,55 @@ fn payment(random: &mut Random, book: &Book, n: i64) -> Event {
     let amount = random.pick(&[1, any, any, owed, owed, MOST_AMOUNT]);
     let method = random.pick(&[METHOD_CARD, METHOD_CASH, METHOD_CHECK, METHOD_CHECK]);
     event(EVENT_PAYMENT, n, &[amount, method])
+}
+
+/// Now and then, where an account has held debts and a top-up: a payment that brings it to the threshold or past it while the
+/// top-up is due, a result while held debts alone make the account low.
+fn beside_held(random: &mut Random, book: &Book) -> Option<Event> {
+    if !random.once_in(5) {
+        return None;
+    }
+    let is_due = |n: i64| held_debts(book, n) > 0 && MODEL.topup_due(book, n).1 == 1;
+    let (due, low): (Vec<i64>, Vec<i64>) =
+        (1..=book.count() as i64).filter(|n| is_due(*n) || is_low_through_held(book, *n)).partition(|n| is_due(*n));
+    if !low.is_empty() && random.once_in(2) {
+        return Some(event(EVENT_TOPUP_RESULT, random.pick(&low), &[0, random.below(2)]));
+    }
+    if due.is_empty() {
+        return None;
+    }
+    let n = random.pick(&due);
+    Some(event(EVENT_PAYMENT, n, &[up_to_threshold(random, book, n), METHOD_CARD]))
+}
+
+/// What brings balance and held debts to the threshold or, twice as often, a cent past it.
+fn up_to_threshold(random: &mut Random, book: &Book, n: i64) -> i64 {
+    let threshold = account_words(book, n).map_or(0, |x| x[ACCOUNT_THRESHOLD]);
+    (threshold + random.pick(&[0, 1, 1]) - balance(book, n) - held_debts(book, n)).clamp(1, MOST_AMOUNT)
+}
+
+fn account_words(book: &Book, n: i64) -> Option<&[i64]> {
+    book.all_accounts().nth(usize::try_from(n - 1).ok()?)
+}
+
+/// What is unsettled of an account's held tolls and their fees.
+fn held_debts(book: &Book, n: i64) -> i64 {
+    let rows: Vec<&[i64]> = book.used_rows().collect();
+    let toll_of = |r: &[i64]| if r[ROW_KIND] == KIND_FEE { r[ROW_REFERENCE] as usize - 1 } else { usize::MAX };
+    let held = |r: &[i64]| is_held_toll(r) || rows.get(toll_of(r)).is_some_and(|t| is_held_toll(t));
+    rows.iter().filter(|r| r[ROW_ACCOUNT] == n && held(r)).map(|r| r[ROW_AMOUNT] - r[ROW_SETTLED]).sum()
+}
+
+/// All that makes a top-up due, the balance among it, but held debts are what brings it so low.
+pub fn is_low_through_held(book: &Book, n: i64) -> bool {
+    let fits = |x: &[i64]| {
+        x[ACCOUNT_STATE] == STATE_OPEN
+            && x[ACCOUNT_TOPUP] > 0
+            && x[ACCOUNT_LAST_DECLINE] != book.day()
+            && balance(book, n) <= x[ACCOUNT_THRESHOLD]
+            && balance(book, n) + held_debts(book, n) > x[ACCOUNT_THRESHOLD]
+    };
+    account_words(book, n).is_some_and(fits)
 }
 
 /// An event on a row that passes a test, with its account; none where none does, but now and then any row.

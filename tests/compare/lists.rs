@@ -1,9 +1,9 @@
 //! Lists of calls from an opening, made while they run; what they met; and the shortest failing part of one.
-use crate::generate::{Host, Opening, LAST_STAGE};
+use crate::generate::{is_low_through_held, Host, Opening, LAST_STAGE};
 use crate::pair::{Call, Pair};
 use calls::random::Random;
 use calls::words::*;
-use calls::{Book, Event, Table, EVENT_A, EVENT_B, EVENT_KIND, MODEL};
+use calls::{Book, Event, Table, EVENT_A, EVENT_ACCOUNT, EVENT_B, EVENT_KIND, MODEL};
 use std::time::{Duration, Instant};
 
 pub const KINDS: usize = EVENT_RATE_LIST as usize + 1; // of events, with 0
@@ -27,6 +27,7 @@ pub struct Met {
     pub lists_over: u64,  // rate lists refused as the ninth
     pub lists_early: u64, // and for their first day
     pub tolls: Tolls,
+    pub held_results: [u64; 2], // top-ups declined, paid: results on accounts low only through held debts
 }
 
 /// Tolls accepted, by the rate list of their passage day.
@@ -76,6 +77,9 @@ impl Met {
             (EVENT_TICK, POSTED) => self.note_tick(before, after),
             (EVENT_RETURNED_CHECK, POSTED) => self.reopened += became(before, after, STATE_CLOSED, STATE_PENDING),
             (EVENT_TOLL, POSTED) => self.tolls.note(before, event[EVENT_B]),
+            (EVENT_TOPUP_RESULT, UNTIMELY) if is_low_through_held(before, event[EVENT_ACCOUNT]) => {
+                self.held_results[event[EVENT_B] as usize] += 1;
+            }
             (EVENT_RATE_LIST, LIST) if before.first_days().len() == MOST_LISTS => self.lists_over += 1,
             (EVENT_RATE_LIST, LIST) => self.lists_early += 1,
             _ => {}

@@ -92,6 +92,8 @@ fn enough(met: &lists::Met, damaged: &damage::Met) -> Result<(), String> {
         ("tolls on the day before it", met.tolls.at_eve, 300),
         ("tolls under a rate list older than today's", met.tolls.under_old, 300),
         ("tolls before all rate lists", met.tolls.before_all, 300),
+        ("declined results on accounts low only through held debts", met.held_results[0], 60),
+        ("paid results on accounts low only through held debts", met.held_results[1], 60),
         ("damaged books", damaged.books, 20_000),
         ("damaged books in a hundred that are sound", 100 * damaged.sound / damaged.books, 5),
         ("damaged lengths", damaged.lengths, 2_000),
@@ -130,6 +132,10 @@ fn main() {
     println!(
         "tolls under a later rate list {}, on its first day {}, the day before {}, under an older list than today's {}",
         met.tolls.under_later, met.tolls.at_first_day, met.tolls.at_eve, met.tolls.under_old
+    );
+    println!(
+        "results on accounts low only through held debts: {} declined, {} paid",
+        met.held_results[0], met.held_results[1]
     );
     if let Err(why) = enough(&met, &damaged) {
         println!("{why}");

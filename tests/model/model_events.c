@@ -13,12 +13,28 @@ int64_t balance_of(const struct book *b, int64_t account)
     return balance;
 }
 
-/* "Due when open, amount above 0, last decline not today, balance at most the threshold." */
+/* "The balance plus the unsettled part of held tolls and their fees." */
+static int64_t balance_and_held(const struct book *b, int64_t account)
+{
+    const size_t used = rows_used(b);
+    int64_t sum = 0;
+    for (size_t i = 0; i < used; i++) {
+        const struct row *r = &b->rows[i];
+        if (r->account != account)
+            continue;
+        sum += is_source(r) ? r->amount : -r->amount;
+        if (is_held(b, r))
+            sum += left_of(r);
+    }
+    return sum;
+}
+
+/* "Due when open, amount above 0, last decline not today", and not low through held debts alone. */
 bool is_topup_due(const struct book *b, int64_t account)
 {
     const struct account *x = &b->accounts[account - 1];
     return x->state == TOLL_LEDGER_STATE_OPEN && x->topup > 0 &&
-           x->last_decline != b->header->day && balance_of(b, account) <= x->threshold;
+           x->last_decline != b->header->day && balance_and_held(b, account) <= x->threshold;
 }
 
 /* The account's first unused source from row i on, counted from 0; the rows used where none is. */

@@ -1,2 +1,3 @@
 pub mod AmountLaws
+pub mod MoneyLaws
 pub mod TopupLaws

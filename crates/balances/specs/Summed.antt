@@ -1,6 +1,6 @@
 -- An account's sums over the first rows of a journal, as the code has them, and the two parts of "top-up due".
 use mathlib.Core.Path.{_≡_}
-use Prim.Native.Nat.{ℕ, _+_}
+use Prim.Native.Nat.{ℕ}
 use mathlib.Core.List.{List}
 use mathlib.Core.Bool.{Bool, not, _&&_}
 use lib.IntN.{ℤ}
@@ -20,6 +20,6 @@ pub record Summed (t : List ℤ) (a i : ℕ) (s : Sums) : Type 0 where
 unfoldable pub mayTopup : Account → ℕ → Bool
 mayTopup x today = x .state is StateOpen && ltb 0 (x .topup) && not (x .declined is today)
 
--- "balance at most the threshold", the balance by its two sums
-unfoldable pub isLow : Account → Sums → Bool
-isLow x s = leb (s .sources) (s .debits + x .threshold)
+-- "unused money at most the threshold": what the rest of the test comes to on a sound book (rules/proofs/BalanceLaws, due-money)
+unfoldable pub isLow : Account → ℕ → Bool
+isLow x m = leb m (x .threshold)

@@ -1,4 +1,4 @@
-// The sums of an account's sources and of its debits, and whether its top-up is due.
+// The sums of an account's sources and of its debits, its unused money, and whether its top-up is due.
 use account_sums::part;
 use records::Account;
 use records::codes::STATE_OPEN;
@@ -7,18 +7,23 @@ use records::layout::DAY_PLACE;
 use records::layout::USED_PLACE;
 use row_tests::is_debit;
 use row_tests::is_source;
+use row_tests::remaining_of;
 use table_accounts::account_numbered;
 use table_rows::account_at;
 use table_rows::read_row;
 use tables::words::get;
 ghost use mathlib.Core.Path.{_≡_};
 ghost use mathlib.Core.Bool.{true};
-ghost use Prim.Native.Nat.{_+_, _^_, _<_};
+ghost use Prim.Native.Nat.{_+_, _<_};
+ghost use Rattle.records.specs.Encoding.{rowsOf};
+ghost use Rattle.rules.specs.Settlement.{money};
 ghost use Rattle.rules.specs.Book.{topupDue};
 ghost use Rattle.rules.specs.Tables.{bookOf, soundTables};
 ghost use Rattle.posting.specs.Posts.{Amounts};
 ghost use Rattle.balances.specs.Summed.{Summed, mayTopup, isLow};
 ghost use Rattle.rules.specs.Lent.{lent, atEntry};
+
+// ---- sums
 
 // An account's sums: of its sources, and of its debits, held ones included.
 pub struct Sums {
@@ -58,6 +63,36 @@ pub fn sums_of(journal: &[i64], used: usize, account: u64) -> Sums
     s
 }
 
+// ---- unused money
+
+// The account's unused money over i rows with row i added.
+fn add_unused(journal: &[i64], used: usize, i: usize, account: u64, m: u64) -> u64
+    requires { ⌜ Amounts (now journal) used × (i < used) × (m ≡ money account (rowsOf (now journal) i)) ⌝ }
+    ensures { λ n. ⌜ n ≡ money account (rowsOf (now (journal .entry)) (i + 1)) ⌝ }
+{
+    if account_at(journal, i) != account {
+        return m;
+    }
+    let r = read_row(journal, i);
+    m + part(is_source(r), remaining_of(r))
+}
+
+// The account's unused money over the used rows.
+pub fn unused_money(journal: &[i64], used: usize, account: u64) -> u64
+    requires { ⌜ Amounts (now journal) used ⌝ }
+    ensures { λ m. ⌜ m ≡ money account (rowsOf (now (journal .entry)) used) ⌝ }
+{
+    let mut m = 0;
+    let mut i = 0;
+    while i < used {
+        m = add_unused(journal, used, i, account, m);
+        i += 1;
+    }
+    m
+}
+
+// ---- top-up due
+
 // Open, amount above 0, last decline not today.
 pub fn may_topup(x: Account, today: u64) -> bool
     ensures { λ b. ⌜ b ≡ mayTopup x today ⌝ }
@@ -65,16 +100,15 @@ pub fn may_topup(x: Account, today: u64) -> bool
     (x.state == STATE_OPEN) & (0 < x.topup) & (x.declined != today)
 }
 
-// Balance at most the threshold.
-pub fn is_low(x: Account, s: Sums) -> bool
-    requires { ⌜ s .debits + x .threshold < 2 ^ 64 ⌝ }
-    ensures { λ b. ⌜ b ≡ isLow x s ⌝ }
+// Unused money at most the threshold.
+pub fn is_low(x: Account, money: u64) -> bool
+    ensures { λ b. ⌜ b ≡ isLow x money ⌝ }
 {
-    let limit = s.debits + x.threshold;
-    s.sources <= limit
+    money <= x.threshold
 }
 
-// Whether the account's top-up is due. The sums are taken only where they decide.
+// Whether the account's top-up is due: on a sound book, whether its unused money is at most the threshold. It is summed only where it
+// decides.
 pub fn topup_due(header: &[i64], accounts: &[i64], journal: &[i64], n: u64) -> bool
     requires { ⌜ soundTables (lent header accounts journal) ≡ true ⌝ }
     ensures { λ b. ⌜ b ≡ topupDue (bookOf (atEntry header accounts journal)) n ⌝ }
@@ -84,5 +118,5 @@ pub fn topup_due(header: &[i64], accounts: &[i64], journal: &[i64], n: u64) -> b
         return false;
     }
     let used = get(header, USED_PLACE) as usize;
-    is_low(x, sums_of(journal, used, n))
+    is_low(x, unused_money(journal, used, n))
 }

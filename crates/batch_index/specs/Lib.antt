@@ -1,1 +1,2 @@
+pub mod Money
 pub mod Index

@@ -1,11 +1,12 @@
 // The index that a batch keeps of the journal in two arrays of its own, so that no event searches all rows: the trees of passage numbers
-// and, for each account, from which row on something of its sources and of its debits can be left, and the sums of both.
-use balances::Sums;
+// and, for each account, from which row on something of its sources and of its debits can be left, and its unused money.
 use balances::is_low;
 use balances::may_topup;
 use event_lookups::Lookup;
 use records::Instruction;
 use records::Row;
+use records::codes::EVENT_DECISION;
+use records::codes::EVENT_TICK;
 use records::codes::EVENT_TOLL;
 use records::codes::EVENT_TOPUP_RESULT;
 use records::layout::ACCOUNT_WIDTH;
@@ -24,35 +25,38 @@ use table_rows::read_row;
 use tables::words::get;
 ghost use mathlib.Core.Path.{_≡_};
 ghost use mathlib.Core.Bool.{true};
-ghost use Prim.Native.Nat.{_+_, _≤_, _<_};
+ghost use Prim.Native.Nat.{_+_, _^_, _≤_, _<_};
 ghost use lib.Dec.{ltb};
-ghost use lib.ListN.{length, set};
-ghost use Rattle.records.specs.Encoding.{rowAt};
+ghost use lib.ListN.{length, getD, set, drop};
+ghost use Rattle.records.specs.Encoding.{rowAt, rowsOf};
 ghost use Rattle.lists.specs.Lists.{only};
 ghost use Rattle.rules.specs.Rows.{remaining};
 ghost use Rattle.rules.specs.Soundness.{kindFits};
 ghost use Rattle.rules.specs.Tables.{rowsUsed, soundTables};
 ghost use Rattle.tables.specs.Changes.{RowIn};
 ghost use Rattle.account_sums.specs.Tallies.{Countable};
+ghost use Rattle.sound_passages.specs.Trees.{TreesOf};
 ghost use Rattle.event_lookups.specs.Lookups.{LooksUp};
-ghost use Rattle.batch_index.specs.Index.{ofSide, sideOf, firstAt, slotWord, SlotsHold, Reset, NextOpen, IndexOf, IndexedTo, Indexed, Empty, Indexable, indexSize};
+ghost use Rattle.batch_index.specs.Money.{moneyWith};
+ghost use Rattle.batch_index.specs.Index.{ofSide, sideOf, firstAt, moneyAt, slotWord, SlotsHold, MoneysOf, MoneysUpTo, Reset, NextOpen, SlotsOf, Indexed};
+ghost use Rattle.batch_index.specs.Index.{IndexedBefore, Empty, Indexable, mayPayHeld, indexSize, slotWidth};
 ghost use Rattle.rules.specs.Lent.{lent, atEntry};
-ghost use Rattle.records.specs.Limits.{slotCount};
+ghost use Rattle.records.specs.Limits.{mostRows, slotCount};
 
-// Account numbers 0 to 256 have a slot of four words: the first row of each side, and then the sum of each side.
+// Account numbers 0 to 256 have a slot of three words: the first row of each side, and the unused money.
 const SLOTS: usize = SLOT_COUNT;
 
-const WORDS: usize = 4;
-
-const SUMS: usize = 2;
+const WORDS: usize = 3;
 
 const SOURCES: usize = 0;
 
 const DEBITS: usize = 1;
 
+const MONEY: usize = 2;
+
 pub const SLOT_WORDS: usize = SLOTS * WORDS;
 
-// ---- the slots
+// ---- the words of a slot
 
 fn side_of(r: Row) -> usize
     ensures { λ s. ⌜ s ≡ sideOf r ⌝ }
@@ -63,16 +67,15 @@ fn side_of(r: Row) -> usize
     DEBITS
 }
 
-// Row i's amount goes to its account's sum of its side.
-fn add_amount(journal: &[i64], i: usize, slots: &mut [u64; SLOT_WORDS])
-    requires { ⌜ Countable (now journal) (i + 1) × SlotsHold (now journal) i 0 (now slots) ⌝ }
-    ensures { λ _. ⌜ SlotsHold (now (journal .entry)) (i + 1) 0 (now (slots .exit)) ⌝ }
+// A word of the account's slot, 0 where it has none.
+fn slot_word(slots: &[u64; SLOT_WORDS], account: u64, word: usize) -> u64
+    requires { ⌜ word < slotWidth ⌝ }
+    ensures { λ x. ⌜ x ≡ slotWord (now (slots .entry)) account word ⌝ }
 {
-    let r = read_row(journal, i);
-    let side = side_of(r);
-    let at = r.account as usize * WORDS + SUMS + side;
-    let old = slots[at];
-    slots[at] = old + r.amount;
+    if account < SLOTS as u64 {
+        return slots[account as usize * WORDS + word];
+    }
+    0
 }
 
 fn put_first(slots: &mut [u64; SLOT_WORDS], account: usize, side: usize, row: usize)
@@ -82,40 +85,116 @@ fn put_first(slots: &mut [u64; SLOT_WORDS], account: usize, side: usize, row: us
     slots[account * WORDS + side] = row as u64;
 }
 
-// Every first row becomes the end of the used rows.
-fn reset_firsts(used: usize, slots: &mut [u64; SLOT_WORDS])
+fn put_money(slots: &mut [u64; SLOT_WORDS], account: usize, money: u64)
+    requires { ⌜ account < slotCount ⌝ }
+    ensures { λ _. ⌜ now (slots .exit) ≡ set (now (slots .entry)) (moneyAt account) money ⌝ }
+{
+    slots[account * WORDS + MONEY] = money;
+}
+
+fn money_of(slots: &[u64; SLOT_WORDS], account: usize) -> u64
+    requires { ⌜ account < slotCount ⌝ }
+    ensures { λ m. ⌜ m ≡ getD (now (slots .entry)) (moneyAt account) 0 ⌝ }
+{
+    slots[account * WORDS + MONEY]
+}
+
+// ---- the slots made anew
+
+// Every first row becomes the end of the used rows, and there is no money.
+fn reset_slots(used: usize, slots: &mut [u64; SLOT_WORDS])
     requires { ⌜ length (now slots) ≡ indexSize ⌝ }
-    ensures { λ _. ⌜ Reset used (now (slots .entry)) (now (slots .exit)) ⌝ }
+    ensures { λ _. ⌜ Reset used (now (slots .exit)) ⌝ }
 {
     let mut a = 0;
     while a < SLOTS {
         put_first(slots, a, SOURCES, used);
         put_first(slots, a, DEBITS, used);
+        put_money(slots, a, 0);
         a += 1;
     }
 }
 
-// Row i becomes the first row of its side, where something of it is left.
-fn note_first(journal: &[i64], used: usize, i: usize, slots: &mut [u64; SLOT_WORDS])
-    requires { ⌜ Countable (now journal) used × (i < used) × SlotsHold (now journal) used (i + 1) (now slots) ⌝ }
-    ensures { λ _. ⌜ SlotsHold (now (journal .entry)) used i (now (slots .exit)) ⌝ }
+// Row i, where something of it is left, becomes the first row of its side; what is left of a source is unused money.
+fn note_row(journal: &[i64], used: usize, i: usize, slots: &mut [u64; SLOT_WORDS])
+    requires { ⌜ Countable (now journal) used
+        × (i < used)
+        × SlotsHold (now journal) used (i + 1) (now slots)
+        × MoneysOf (drop (i + 1) (rowsOf (now journal) used)) (now slots) ⌝ }
+    ensures { λ _. ⌜ SlotsHold (now (journal .entry)) used i (now (slots .exit))
+        × MoneysOf (drop i (rowsOf (now (journal .entry)) used)) (now (slots .exit)) ⌝ }
 {
     let r = read_row(journal, i);
-    if remaining_of(r) == 0 {
+    let left = remaining_of(r);
+    if left == 0 {
         return;
     }
-    put_first(slots, r.account as usize, side_of(r), i);
+    let account = r.account as usize;
+    if is_source(r) {
+        put_first(slots, account, SOURCES, i);
+        let old = money_of(slots, account);
+        put_money(slots, account, old + left);
+        return;
+    }
+    put_first(slots, account, DEBITS, i);
 }
 
-// The first row of each side of each account with something left: rows are taken from the last to the first, and the earlier one stays.
-fn find_firsts(journal: &[i64], used: usize, slots: &mut [u64; SLOT_WORDS])
-    requires { ⌜ Countable (now journal) used × SlotsHold (now journal) used used (now slots) ⌝ }
-    ensures { λ _. ⌜ SlotsHold (now (journal .entry)) used 0 (now (slots .exit)) ⌝ }
+// The slots of the used rows, whatever they held: rows are taken from the last to the first, and the earlier one stays first.
+fn index_slots(journal: &[i64], used: usize, slots: &mut [u64; SLOT_WORDS])
+    requires { ⌜ Countable (now journal) used × (length (now slots) ≡ indexSize) ⌝ }
+    ensures { λ _. ⌜ SlotsOf (now (journal .entry)) used (now (slots .exit)) ⌝ }
 {
+    reset_slots(used, slots);
     let mut i = used;
     while 0 < i {
         i -= 1;
-        note_first(journal, used, i, slots);
+        note_row(journal, used, i, slots);
+    }
+}
+
+// ---- the slots brought up to the journal
+
+// An account's money once a row of its is added.
+fn money_with(m: u64, r: Row) -> u64
+    requires { ⌜ m + remaining r < 2 ^ 64 ⌝ }
+    ensures { λ n. ⌜ n ≡ moneyWith (r .account) m r ⌝ }
+{
+    if is_source(r) {
+        return m + remaining_of(r);
+    }
+    if m <= r.amount {
+        return 0;
+    }
+    m - r.amount
+}
+
+// Row i is added to the money of its account.
+fn add_row(journal: &[i64], used: usize, i: usize, slots: &mut [u64; SLOT_WORDS])
+    requires { ⌜ Countable (now journal) used
+        × (i < used)
+        × SlotsHold (now journal) i 0 (now slots)
+        × MoneysUpTo (rowsOf (now journal) used) i (now slots) ⌝ }
+    ensures { λ _. ⌜ SlotsHold (now (journal .entry)) (i + 1) 0 (now (slots .exit))
+        × MoneysUpTo (rowsOf (now (journal .entry)) used) (i + 1) (now (slots .exit)) ⌝ }
+{
+    let r = read_row(journal, i);
+    let account = r.account as usize;
+    let old = money_of(slots, account);
+    put_money(slots, account, money_with(old, r));
+}
+
+// Rows from..used are added to the money of their accounts.
+fn add_rows(journal: &[i64], from: usize, used: usize, slots: &mut [u64; SLOT_WORDS])
+    requires { ⌜ Countable (now journal) used
+        × (from ≤ used)
+        × SlotsHold (now journal) from 0 (now slots)
+        × MoneysUpTo (rowsOf (now journal) used) from (now slots) ⌝ }
+    ensures { λ _. ⌜ SlotsOf (now (journal .entry)) used (now (slots .exit)) ⌝ }
+{
+    let mut i = from;
+    while i < used {
+        add_row(journal, used, i, slots);
+        i += 1;
     }
 }
 
@@ -160,42 +239,45 @@ fn move_first(
     requires { ⌜ Countable (now journal) used
         × (account < slotCount)
         × (side < 2)
-        × SlotsHold (now journal) used 0 (now slots) ⌝ }
-    ensures { λ _. ⌜ SlotsHold (now (journal .entry)) used 0 (now (slots .exit)) ⌝ }
+        × SlotsOf (now journal) used (now slots) ⌝ }
+    ensures { λ _. ⌜ SlotsOf (now (journal .entry)) used (now (slots .exit)) ⌝ }
 {
     let first = slots[account * WORDS + side] as usize;
     let next = next_open(journal, used, account as u64, side, first);
     put_first(slots, account, side, next);
 }
 
-// A word of the account's slot, 0 where it has none.
-fn slot_word(slots: &[u64; SLOT_WORDS], account: u64, word: usize) -> u64
-    requires { ⌜ word < 4 ⌝ }
-    ensures { λ x. ⌜ x ≡ slotWord (now (slots .entry)) account word ⌝ }
+// The rows from..used are added, and the first rows of this account move forward.
+fn update_slots(
+    journal: &[i64],
+    from: usize,
+    used: usize,
+    account: u64,
+    slots: &mut [u64; SLOT_WORDS],
+)
+    requires { ⌜ Countable (now journal) used
+        × (from ≤ used)
+        × SlotsHold (now journal) from 0 (now slots)
+        × MoneysUpTo (rowsOf (now journal) used) from (now slots) ⌝ }
+    ensures { λ _. ⌜ SlotsOf (now (journal .entry)) used (now (slots .exit)) ⌝ }
 {
+    add_rows(journal, from, used, slots);
     if account < SLOTS as u64 {
-        return slots[account as usize * WORDS + word];
+        move_first(journal, used, account as usize, SOURCES, slots);
+        move_first(journal, used, account as usize, DEBITS, slots);
     }
-    0
 }
 
 // ---- the index
 
-// Rows from..used go into the index of the rows before them.
-fn index_rows(
-    journal: &[i64],
-    from: usize,
-    used: usize,
-    cells: &mut [u16; CELLS],
-    slots: &mut [u64; SLOT_WORDS],
-)
-    requires { ⌜ Indexable (now journal) used × (from ≤ used) × IndexOf (now journal) from (now cells) (now slots) ⌝ }
-    ensures { λ _. ⌜ IndexOf (now (journal .entry)) used (now (cells .exit)) (now (slots .exit)) ⌝ }
+// The passage numbers of rows from..used go into the trees of the rows before them.
+fn index_passages(journal: &[i64], from: usize, used: usize, cells: &mut [u16; CELLS])
+    requires { ⌜ Indexable (now journal) used × (from ≤ used) × TreesOf mostRows (now journal) (now cells) from ⌝ }
+    ensures { λ _. ⌜ TreesOf mostRows (now (journal .entry)) (now (cells .exit)) used ⌝ }
 {
     let mut i = from;
     while i < used {
         insert(journal, cells, MOST_ROWS, i);
-        add_amount(journal, i, slots);
         i += 1;
     }
 }
@@ -212,9 +294,8 @@ pub fn start_index(
     ensures { λ _. ⌜ Indexed (atEntry header accounts journal) (now (cells .exit)) (now (slots .exit)) ⌝ }
 {
     let used = get(header, USED_PLACE) as usize;
-    index_rows(journal, 0, used, cells, slots);
-    reset_firsts(used, slots);
-    find_firsts(journal, used, slots);
+    index_passages(journal, 0, used, cells);
+    index_slots(journal, used, slots);
 }
 
 // What the index has for an event, without a pass over the journal.
@@ -249,35 +330,41 @@ pub fn look_up_indexed(
     }
     if e.kind == EVENT_TOPUP_RESULT {
         let x = account_numbered(accounts, accounts.len() / ACCOUNT_WIDTH, e.account);
-        let s = Sums {
-            sources: slot_word(slots, e.account, SUMS + SOURCES),
-            debits: slot_word(slots, e.account, SUMS + DEBITS),
-        };
-        found.due = may_topup(x, get(header, DAY_PLACE)) & is_low(x, s);
+        let unused = slot_word(slots, e.account, MONEY);
+        found.due = may_topup(x, get(header, DAY_PLACE)) & is_low(x, unused);
     }
     found
 }
 
-// The index after an event that found `before` rows and named this account: the rows that it added go in, and the account's first rows
-// move forward.
+// Whether unused money may have paid what was held before the event.
+fn may_pay_held(slots: &[u64; SLOT_WORDS], e: Instruction) -> bool
+    ensures { λ b. ⌜ b ≡ mayPayHeld e (now (slots .entry)) ⌝ }
+{
+    let money = slot_word(slots, e.account, MONEY);
+    (e.kind == EVENT_TICK) | ((e.kind == EVENT_DECISION) & (0 < money))
+}
+
+// The index after an event that found `before` rows: the rows that it added go in. Where held rows may have been paid, which the added
+// rows do not tell, the slots are made anew, in the time of the tick or of the settlement that paid them.
 pub fn update_index(
     header: &[i64],
     accounts: &[i64],
     journal: &[i64],
     before: usize,
-    account: u64,
+    e: Instruction,
     cells: &mut [u16; CELLS],
     slots: &mut [u64; SLOT_WORDS],
 )
     requires { ⌜ (soundTables (lent header accounts journal) ≡ true)
         × (before ≤ rowsUsed (lent header accounts journal))
-        × IndexedTo (lent header accounts journal) before (now cells) (now slots) ⌝ }
+        × IndexedBefore (lent header accounts journal) before e (now cells) (now slots) ⌝ }
     ensures { λ _. ⌜ Indexed (atEntry header accounts journal) (now (cells .exit)) (now (slots .exit)) ⌝ }
 {
     let used = get(header, USED_PLACE) as usize;
-    index_rows(journal, before, used, cells, slots);
-    if account < SLOTS as u64 {
-        move_first(journal, used, account as usize, SOURCES, slots);
-        move_first(journal, used, account as usize, DEBITS, slots);
+    index_passages(journal, before, used, cells);
+    if may_pay_held(slots, e) {
+        index_slots(journal, used, slots);
+        return;
     }
+    update_slots(journal, before, used, e.account, slots);
 }

@@ -79,7 +79,7 @@ fn post_indexed(
     let before = get(header, USED_PLACE) as usize;
     let k = look_up_indexed(header, accounts, journal, cells, slots, e);
     let r = post_admitted(header, accounts, journal, e, m.account, k);
-    update_index(header, accounts, journal, before, e.account, cells, slots);
+    update_index(header, accounts, journal, before, e, cells, slots);
     r
 }
 

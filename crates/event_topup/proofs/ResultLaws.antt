@@ -1,6 +1,6 @@
 -- Event 7: which refusals concern it.
 use mathlib.Core.Path.{_≡_, refl, _∙_}
-use mathlib.Core.Bool.{Bool, true, false, not, _&&_, or-false}
+use mathlib.Core.Bool.{Bool, true, false, not, _&&_, and-false, or-false}
 use Prim.Native.Nat.{_+_, _≤_}
 use native.Mathlib.Omega.{arith}
 use mathlib.Core.List.{[], _∷_, _++_}
@@ -12,7 +12,7 @@ use Rattle.records.specs.Codes.{MethodCard, Yes, EventTopupResult}
 use Rattle.lists.specs.Tests.{_is_, first}
 use Rattle.lists.specs.Lists.{sumBy, count}
 use Rattle.rules.specs.Rows.{Row, KindPayment, newRow, withMark}
-use Rattle.rules.specs.Book.{Instruction, Book, account, topupDue}
+use Rattle.rules.specs.Book.{Instruction, Book, account, lowBalance, topupDue}
 use Rattle.rules.specs.Events.{payTopup, declineTopup, topupResult}
 use Rattle.rules.specs.Refusals.{changeOf, unclassed, misdated, duplicate, barred, noRow, untimely, lastDay, full, ceiling, refusals, answerNumber, sharedCount, sharedRefusals, ownRefusals}
 use Rattle.rules.specs.Tables.{Tables, roomIn, rowsUsed, bookOf, soundTables}
@@ -57,6 +57,13 @@ module _ (b : Book) (e : Instruction) (fit : length (b .rows) ≤ b .room) where
 pub answer-result : (b : Book) (e : Instruction) → length (b .rows) ≤ b .room → e .kind ≡ EventTopupResult → first (sharedRefusals b e) ≡ 0
     → answerNumber b e ≡ first (resultRefusals b e)
 answer-result b e h k a = answerNumber-own b e a ∙ at-kind (λ x. first (ownRefusals b x) ≡ first (resultRefusals b x)) e 7 k (own-7 b e h)
+
+-- "A paid or declined result on an account that is low only through held debts is untimely" (document 02, No. 2): so is any where
+-- balance and held debts together are above the threshold, whatever the balance is
+pub not-low-untimely : (b : Book) (e : Instruction) → length (b .rows) ≤ b .room → e .kind ≡ EventTopupResult
+    → first (sharedRefusals b e) ≡ 0 → lowBalance b (e .account) ≡ false → answerNumber b e ≡ Untimely
+unfolding resultRefusals first topupDue
+not-low-untimely b e h k a l = answer-result b e h k a ∙ rw (l, and-false)
 
 -- the same on sound tables, with what each test came to
 pub result-by : (t : Tables) → soundTables t ≡ true → (e : Instruction) → e .kind ≡ EventTopupResult → Admitted t e → (d r : Bool)

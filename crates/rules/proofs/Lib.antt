@@ -18,3 +18,4 @@ pub mod CallExamples
 pub mod KindLaws
 pub mod Borders
 pub mod RateListExamples
+pub mod TopupExamples

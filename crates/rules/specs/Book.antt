@@ -16,7 +16,7 @@ use Rattle.lists.specs.Lists.{sumBy, only}
 use Rattle.rules.specs.Schedule.{Schedule}
 use Rattle.rules.specs.RateLists.{RateList}
 use Rattle.rules.specs.Rows.{Row, rowNo, sourceOf, debitOf}
-use Rattle.rules.specs.Settlement.{settleAccounts}
+use Rattle.rules.specs.Settlement.{heldDebt, settleAccounts}
 
 pub record Book : Type 0 where
   pub day : ℕ
@@ -88,11 +88,12 @@ balance b a = minus (sources (b .rows) a) (debits (b .rows) a)
 
 -- ---- top-up due
 
--- "balance at most the threshold": sources - debits at most the threshold
+-- "the top-up test compares the threshold with the balance plus the unsettled part of held tolls and their fees" (document 02, No. 2):
+-- sources - debits + that part at most the threshold
 unfoldable pub lowBalance : Book → ℕ → Bool
-lowBalance b a = leb (sources (b .rows) a) (debits (b .rows) a + account b a .threshold)
+lowBalance b a = leb (sources (b .rows) a + heldDebt a (b .rows)) (debits (b .rows) a + account b a .threshold)
 
--- "Due when open, amount above 0, last decline not today, balance at most the threshold"
+-- "Due when open, amount above 0, last decline not today, balance at most the threshold", the balance by the test above
 unfoldable pub topupDue : Book → ℕ → Bool
 topupDue b a = account b a .state is StateOpen && ltb 0 (account b a .topup) && not (account b a .declined is b .day) && lowBalance b a
 

@@ -74,3 +74,7 @@ debitOf a r = r .account is a && debit r
 -- a debit that settlement may pay: one that is not held
 unfoldable pub payable : List Row → ℕ → Test
 payable rows a r = r .account is a && (debit r && not (held rows r))
+
+-- a held toll of account a, or a fee of one: a debit that settlement leaves alone
+unfoldable pub heldDebit : List Row → ℕ → Test
+heldDebit rows a r = r .account is a && held rows r

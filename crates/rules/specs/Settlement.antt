@@ -3,7 +3,7 @@
 use Prim.Native.Nat.{ℕ, zero, suc, _-_, min}
 use mathlib.Core.List.{List, [], _∷_}
 use Rattle.lists.specs.Lists.{sumBy, only}
-use Rattle.rules.specs.Rows.{Row, Test, remaining, settleMore, sourceOf, debitOf, payable}
+use Rattle.rules.specs.Rows.{Row, Test, remaining, settleMore, sourceOf, debitOf, payable, heldDebit}
 
 -- n allocated over the rows that pass the test, in row order: each takes what it can, the rest goes on
 unfoldable pub allocate : Test → ℕ → List Row → List Row
@@ -48,3 +48,7 @@ paid a rows = sumBy (only (debitOf a) (λ r. r .settled)) rows
 -- what is unsettled of its debits, held or not
 unfoldable pub owed : ℕ → List Row → ℕ
 owed a rows = sumBy (only (debitOf a) remaining) rows
+
+-- "the unsettled part of held tolls and their fees" (document 02, No. 2)
+unfoldable pub heldDebt : ℕ → List Row → ℕ
+heldDebt a rows = sumBy (only (heldDebit rows a) remaining) rows

@@ -1,16 +1,12 @@
 -- `is_low` meets its contract.
-use borrow.Author.Needs.{needs}
 use mathlib.Core.Path.{refl}
 use Rattle.balances.specs.Summed.{isLow}
 use Rattle.balances.proofs.is_low.Statement.{statement}
 use Rattle.balances.proofs.is_low.Tie as tie
-
-add-limit : tie.Need-add-limit
-add-limit c = search needs
 
 returns : tie.Need-returns
 unfolding isLow
 returns c = refl
 
 pub is-low-spec : {M : Type 1} → statement M
-is-low-spec = tie.close (tie.spec add-limit returns)
+is-low-spec = tie.close (tie.spec returns)

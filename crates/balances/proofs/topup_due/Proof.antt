@@ -5,7 +5,7 @@ use mathlib.Core.Path.{sym, _∙_}
 use native.Mathlib.Omega.{arith}
 use Rattle.rules.proofs.TableLaws.{header-length}
 use Rattle.posting.proofs.BookLaws.{journal-summable}
-use Rattle.balances.proofs.TopupLaws.{not-due, debits-fit, due-by-balance}
+use Rattle.balances.proofs.TopupLaws.{not-due, due-by-money}
 use Rattle.balances.proofs.topup_due.Statement.{statement}
 use Rattle.balances.proofs.topup_due.Tie as tie
 
@@ -27,13 +27,11 @@ returns c =
 get-requires-2 : tie.Need-get-requires-2
 get-requires-2 c κs = omega (arith, header-length _ (c .before .before .before .before .pre))
 
-sums-of-requires : tie.Need-sums-of-requires
-sums-of-requires c κs = rw (c .get2 .ensures) (journal-summable _ (c .before .before .before .before .before .pre))
+unused-money-requires : tie.Need-unused-money-requires
+unused-money-requires c κs = rw (c .get2 .ensures) (journal-summable _ (c .before .before .before .before .before .pre))
 
 is-low-requires : tie.Need-is-low-requires
-is-low-requires c κs =
-    let a = c .before .before .before .before .before in
-    debits-fit _ (a .before .pre) _ _ (a .account-numbered .ensures) _ _ (c .before .get2 .ensures) (c .sums-of .ensures)
+is-low-requires c κs = search needs
 
 returns-2 : tie.Need-returns-2
 returns-2 c =
@@ -42,8 +40,8 @@ returns-2 c =
     let m = i .before in
     let a = m .before .before in
     c .is-low .ensures
-    ∙ due-by-balance _ (a .before .pre) _ _ (a .account-numbered .ensures) _ _ (d .before .get2 .ensures) (d .sums-of .ensures) _
-    (m .before .get .ensures) (sym (m .may-topup .ensures) ∙ not-false _ (i .if1 .left))
+    ∙ due-by-money _ (a .before .pre) _ _ (a .account-numbered .ensures) _ (m .before .get .ensures)
+    (sym (m .may-topup .ensures) ∙ not-false _ (i .if1 .left)) _ _ (d .before .get2 .ensures) (d .unused-money .ensures)
 
 pub topup-due-spec : {M : Type 1} → statement M
 topup-due-spec =
@@ -54,6 +52,6 @@ topup-due-spec =
     may-topup-requires
     returns
     get-requires-2
-    sums-of-requires
+    unused-money-requires
     is-low-requires
     returns-2)

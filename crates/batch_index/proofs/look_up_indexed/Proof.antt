@@ -1,5 +1,6 @@
--- `look_up_indexed` meets its contract: the trees have a toll's passage number, the slot has the account's first rows and sums.
-use Rattle.batch_index.proofs.IndexLaws.{cell-for-duplicate, looks-up-by, charged-fits, due-by-slot}
+-- `look_up_indexed` meets its contract: the trees have a toll's passage number, the slot has the account's first rows and money.
+use Rattle.batch_index.proofs.IndexLaws.{cell-for-duplicate, looks-up-by, slot-money}
+use Rattle.balances.proofs.TopupLaws.{due-both}
 use Rattle.rules.proofs.TableLaws.{header-length}
 use Rattle.posting.proofs.BookLaws.{used-room, used-small}
 use native.Mathlib.Omega.{arith}
@@ -31,41 +32,29 @@ returns c =
 account-numbered-requires : tie.Need-account-numbered-requires
 account-numbered-requires c κs = search needs
 
-add-slot-word : tie.Need-add-slot-word
-add-slot-word c = search needs
-
 slot-word-requires-3 : tie.Need-slot-word-requires-3
 slot-word-requires-3 c κs = search needs
 
-add-slot-word-2 : tie.Need-add-slot-word-2
-add-slot-word-2 c = search needs
-
-slot-word-requires-4 : tie.Need-slot-word-requires-4
-slot-word-requires-4 c κs = search needs
-
 get-requires-2 : tie.Need-get-requires-2
-get-requires-2 c κs = omega (arith, header-length _ (c .before .before .before .before .before .before .before .before .before .pre .0))
+get-requires-2 c κs = omega (arith, header-length _ (c .before .before .before .before .before .before .before .before .pre .0))
 
 may-topup-requires : tie.Need-may-topup-requires
 may-topup-requires c κs = search needs
 
 is-low-requires : tie.Need-is-low-requires
-is-low-requires c κs =
-    let d = c .before .before in
-    let a = d .before .before in
-    let s = a .before .before .before .before .before .before .before in
-    charged-fits _ (s .pre .0) _ _ (s .pre .1) _ _ (a .account-numbered .ensures) _ (d .slot-word4 .ensures)
+is-low-requires c κs = search needs
 
 returns-2 : tie.Need-returns-2
 returns-2 c =
     let m = c .before in
     let d = m .before .before in
-    let a = d .before .before in
+    let a = d .before in
     let f = a .before .before .before .before .before in
     let s = f .before .before in
     looks-up-by _ _ _ (s .pre .1) _ _ _ _ _ (f .before .slot-word .ensures) (f .slot-word2 .ensures) (λ k. absurd (a .before .before .before .if1 .left k))
     (λ k. rw (m .may-topup .ensures, c .is-low .ensures)
-    (due-by-slot _ (s .pre .0) _ _ (s .pre .1) _ _ (a .account-numbered .ensures) _ (d .slot-word4 .ensures) _ _ (d .before .slot-word3 .ensures) (m .before .get2 .ensures)))
+    (due-both _ (s .pre .0) _ _ (a .account-numbered .ensures) _ (m .before .get2 .ensures) _
+    (slot-money _ (s .pre .0) _ (s .pre .1 .slots-of) _ _ (d .slot-word3 .ensures))))
 
 returns-3 : tie.Need-returns-3
 returns-3 c =
@@ -83,10 +72,7 @@ look-up-indexed-spec =
     cell-for-requires
     returns
     account-numbered-requires
-    add-slot-word
     slot-word-requires-3
-    add-slot-word-2
-    slot-word-requires-4
     get-requires-2
     may-topup-requires
     is-low-requires

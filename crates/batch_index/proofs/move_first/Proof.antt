@@ -17,7 +17,7 @@ element-copy-out-first : tie.Need-element-copy-out-first
 element-copy-out-first c = search needs
 
 next-open-requires : tie.Need-next-open-requires
-next-open-requires c κs = let s = c .before in (s .pre .0, s .pre .2, s .pre .3 .first-in _ _ (s .pre .2) (s .pre .1))
+next-open-requires c κs = let s = c .before in (s .pre .0, s .pre .2, s .pre .3 .hold .first-in _ _ (s .pre .2) (s .pre .1))
 
 put-first-requires : tie.Need-put-first-requires
 put-first-requires c κs = search needs

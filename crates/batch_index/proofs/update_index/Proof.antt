@@ -1,6 +1,8 @@
--- `update_index` meets its contract: the new rows go in, and the account's first rows move.
-use Rattle.batch_index.proofs.IndexLaws.{sound-indexable}
+-- `update_index` meets its contract: the new rows go in, and the slots are made anew or brought up to them.
+use Rattle.batch_index.proofs.IndexLaws.{sound-indexable, index-made}
 use Rattle.rules.proofs.TableLaws.{header-length}
+use borrow.Author.Needs.{needs}
+use mathlib.Core.Path.{sym, _∙_}
 use native.Mathlib.Omega.{arith}
 use Rattle.batch_index.proofs.update_index.Statement.{statement}
 use Rattle.batch_index.proofs.update_index.Tie as tie
@@ -8,39 +10,50 @@ use Rattle.batch_index.proofs.update_index.Tie as tie
 get-requires : tie.Need-get-requires
 get-requires c κs = omega (arith, header-length _ (c .pre .0))
 
-index-rows-requires : tie.Need-index-rows-requires
-index-rows-requires c κs =
-    let g = c .before .before in
+index-passages-requires : tie.Need-index-passages-requires
+index-passages-requires c κs =
+    let g = c .before in
     let s = g .before in
-    (rw (g .get .ensures) (sound-indexable _ (s .pre .0)), omega (arith, g .get .ensures, s .pre .1), s .pre .2)
+    (rw (g .get .ensures) (sound-indexable _ (s .pre .0)), omega (arith, g .get .ensures, s .pre .1), s .pre .2 .trees)
 
-move-first-requires : tie.Need-move-first-requires
-move-first-requires c κs =
-    let x = c .before .before in
-    let g = x .before .before .before in
-    (rw (g .get .ensures) (sound-indexable _ (g .before .pre .0) .rows), c .before .if1 .taken, omega arith, x .index-rows .ensures .slots-hold)
+may-pay-held-requires : tie.Need-may-pay-held-requires
+may-pay-held-requires c κs = search needs
 
-move-first-requires-2 : tie.Need-move-first-requires-2
-move-first-requires-2 c κs =
-    let x = c .before .before .before .before in
-    let g = x .before .before .before in
-    (rw (g .get .ensures) (sound-indexable _ (g .before .pre .0) .rows), c .before .before .before .if1 .taken, omega arith, c .before .move-first .ensures)
+index-slots-requires : tie.Need-index-slots-requires
+index-slots-requires c κs =
+    let g = c .before .before .before .before .before .before in
+    let s = g .before in
+    (rw (g .get .ensures) (sound-indexable _ (s .pre .0) .rows), s .pre .2 .hold .sized)
 
 returns : tie.Need-returns
 returns c =
     let x = c .before .before .before .before .before in
-    rw (← x .before .before .before .get .ensures) (record { trees = x .index-rows .ensures .trees; slots-hold = c .move-first2 .ensures })
+    index-made _ _ _ _ (x .before .before .get .ensures) (x .index-passages .ensures) (c .index-slots .ensures)
+
+update-slots-requires : tie.Need-update-slots-requires
+update-slots-requires c κs =
+    let m = c .before .before in
+    let g = m .before .before .before .before in
+    let s = g .before in (
+      rw (g .get .ensures) (sound-indexable _ (s .pre .0) .rows),
+      omega (arith, g .get .ensures, s .pre .1),
+      s .pre .2 .hold,
+      rw (g .get .ensures) (s .pre .2 .moneys (sym (m .may-pay-held .ensures) ∙ c .before .if1 .left)),
+    )
 
 returns-2 : tie.Need-returns-2
-returns-2 c = let x = c .before in rw (← x .before .before .before .get .ensures) (x .index-rows .ensures)
+returns-2 c =
+    let x = c .before .before .before .before .before in
+    index-made _ _ _ _ (x .before .before .get .ensures) (x .index-passages .ensures) (c .update-slots .ensures)
 
 pub update-index-spec : {M : Type 1} → statement M
 update-index-spec =
     tie.close
     (tie.spec
     get-requires
-    index-rows-requires
-    move-first-requires
-    move-first-requires-2
+    index-passages-requires
+    may-pay-held-requires
+    index-slots-requires
     returns
+    update-slots-requires
     returns-2)
