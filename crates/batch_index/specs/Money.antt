@@ -5,7 +5,7 @@ use mathlib.Core.List.{List, [], _∷_}
 use Rattle.lists.specs.Tests.{_is_}
 use Rattle.rules.specs.Rows.{Row, source, remaining}
 
--- the unused money m of account a once row r is added: what is left of a source of its joins it, a debit of its takes the amount from it
+-- the unused money m of account a once row r is added: what is left of one of its sources joins it, one of its debits takes its amount
 unfoldable pub moneyWith : ℕ → ℕ → Row → ℕ
 moneyWith a m r = cond (r .account is a) (cond (source r) (m + remaining r) (m - r .amount)) m
 

@@ -154,7 +154,7 @@ fn index_slots(journal: &[i64], used: usize, slots: &mut [u64; SLOT_WORDS])
 
 // ---- the slots brought up to the journal
 
-// An account's money once a row of its is added.
+// An account's money once one of its rows is added.
 fn money_with(m: u64, r: Row) -> u64
     requires { ⌜ m + remaining r < 2 ^ 64 ⌝ }
     ensures { λ n. ⌜ n ≡ moneyWith (r .account) m r ⌝ }
