@@ -15,18 +15,35 @@ ghost use Rattle.rules.specs.Tables.{listsIn};
 ghost use Rattle.table_lists.specs.HeaderLists.{ListsStand};
 ghost use Rattle.event_rates.specs.Places.{RatesAt};
 
-// The class by GEN-CLA, its cases in order; 0 where none applies.
+const CLASS_1: u64 = 1;
+
+const CLASS_2: u64 = 2;
+
+const CLASS_3: u64 = 3;
+
+// The class by GEN-CLA, as the printed page has it: its cases in their order, a test each; 0 where none holds.
 pub fn class_of(axles: u64, height: u64) -> u64
     ensures { λ r. ⌜ r ≡ class axles height ⌝ }
 {
+    // up to 2 axles and at most 90 inches
     if (axles <= 2) & (height <= LOW_HEIGHT) {
-        return 1;
+        return CLASS_1;
     }
-    if ((axles == 2) & (LOW_HEIGHT < height)) | (axles == 3) | (axles == 4) {
-        return 2;
+    // 2 axles above 90
+    if (axles == 2) & (LOW_HEIGHT < height) {
+        return CLASS_2;
     }
+    // 3 axles
+    if axles == 3 {
+        return CLASS_2;
+    }
+    // 4 axles
+    if axles == 4 {
+        return CLASS_2;
+    }
+    // 5 or more
     if 5 <= axles {
-        return 3;
+        return CLASS_3;
     }
     0
 }

@@ -6,8 +6,10 @@ use mathlib.Core.List.{List, [], _∷_, _++_, map}
 use lib.ListN.{length, take, replicate, set}
 use lib.IntN.{ℤ, pos}
 use Rattle.lists.specs.Tests.{first}
+use Rattle.lists.specs.Lists.{count}
 use Rattle.records.specs.Updates.{unused, withState, withRequest, withReturned, withTopup, withDeclines}
 use Rattle.rules.specs.Schedule.{Rates, Schedule, class, ratesFit, scheduleFits}
+use Rattle.rules.specs.ClassCases.{classCases}
 use Rattle.rules.specs.Rows.{Row, withSettled, withMark, withDue, withDispute, withHoldStart, withReference, newRow}
 use Rattle.rules.specs.Book.{Account, Instruction, Book, account, row}
 use Rattle.rules.specs.Events.{tollRate}
@@ -162,6 +164,8 @@ cases =
     ∷ (batchOf 4_096 ∷ batchOf 4_097 ∷ [] gives 0 ∷ 2 ∷ [])
     -- class and rate
     ∷ (class 1 90 ∷ class 1 91 ∷ class 3 0 ∷ class 3 999 ∷ class 4 999 ∷ class 5 0 ∷ class 99 999 ∷ [] gives 1 ∷ 0 ∷ 2 ∷ 2 ∷ 2 ∷ 3 ∷ 3 ∷ [])
+    ∷ (map (λ axles. count (λ c. c .1) (classCases axles 90)) (1 ∷ 2 ∷ 3 ∷ 4 ∷ 5 ∷ 6 ∷ 99 ∷ []) gives replicate 7 1)
+    ∷ (map (λ axles. count (λ c. c .1) (classCases axles 91)) (1 ∷ 2 ∷ 3 ∷ 4 ∷ 5 ∷ 6 ∷ 99 ∷ []) gives 0 ∷ replicate 6 1)
     ∷ (map (tollRate (small 1 .lists))
     (event 2 1 1 1 2 0 1 ∷ event 2 1 1 1 2 0 2 ∷ event 2 1 1 1 3 0 1 ∷ event 2 1 1 1 3 0 2 ∷ event 2 1 1 1 5 0 1 ∷ event 2 1 1 1 5 0 2 ∷ [])
     gives 250 ∷ 500 ∷ 600 ∷ 900 ∷ 1200 ∷ 1600 ∷ [])

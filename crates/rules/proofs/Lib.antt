@@ -9,6 +9,7 @@ pub mod RefusalLaws
 pub mod Computing
 pub mod Examples
 pub mod RateListLaws
+pub mod ClassLaws
 pub mod StorableLaws
 pub mod HeaderLaws
 pub mod TableLaws

@@ -1,4 +1,5 @@
 pub mod Schedule
+pub mod ClassCases
 pub mod RateLists
 pub mod Rows
 pub mod Settlement
