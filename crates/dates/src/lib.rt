@@ -6,7 +6,7 @@ ghost use Rattle.dates.specs.Gregorian.{month_start, date_of, InMonth, Near};
 
 use table::MONTH_STARTS;
 
-#[derive(Drop)]
+#[derive(Clone, Copy)]
 pub struct Date {
     pub year: u64,
     pub month: u64,

@@ -12,7 +12,7 @@ use crate::codes::{STATE_CLOSED, STATE_OPEN, STATE_PENDING};
 use crate::limits::MOST_DECLINES;
 
 // One row of the journal.
-#[derive(Drop)]
+#[derive(Clone, Copy)]
 pub struct Row {
     pub kind: u64,
     pub account: u64,
@@ -27,7 +27,7 @@ pub struct Row {
 }
 
 // One account: state, close request day, returned checks, top-up threshold, top-up amount, declines, day of last decline.
-#[derive(Drop)]
+#[derive(Clone, Copy)]
 pub struct Account {
     pub state: u64,
     pub request: u64,
@@ -40,7 +40,7 @@ pub struct Account {
 
 // An event as a host hands it over: nine signed words of any value.
 #[repr(C)]
-#[derive(Drop)]
+#[derive(Clone, Copy)]
 pub struct Event {
     pub kind: i64,
     pub account: i64,
@@ -54,7 +54,7 @@ pub struct Event {
 }
 
 // The same nine words as natural numbers; a negative word is past every limit.
-#[derive(Drop)]
+#[derive(Clone, Copy)]
 pub struct Instruction {
     pub kind: u64,
     pub account: u64,
@@ -68,7 +68,7 @@ pub struct Instruction {
 }
 
 // The answer to an event.
-#[derive(Drop)]
+#[derive(Clone, Copy)]
 pub struct Answer {
     pub number: u64,
     pub first: u64,

@@ -3,18 +3,8 @@ use borrow.Author.Rules.{rules}
 use Rattle.dates.specs.Gregorian.{leap, month_days, days_of_month}
 use Rattle.dates.proofs.MonthPass.{every_from, turns}
 use Rattle.dates.proofs.EstimateLaws.{estimate-near}
-use Rattle.dates.proofs.estimate.Statement.{statement}
-use Rattle.dates.proofs.estimate.Tie as tie
+use Rattle.dates.proofs.estimate.Goals as goal
 
-add-result : tie.Need-overflow-add-result
-add-result c = search rules
-
-mul-result : tie.Need-overflow-mul-result
-mul-result c = search rules
-
-returns : tie.Need-returns
+pub returns : goal.returns
 unfolding every_from turns days_of_month month_days leap
 returns c = estimate-near _ _ _ tt c.args.day (search rules) (search rules)
-
-pub estimate-spec : {M : Type 1} → statement M
-estimate-spec = tie.close (tie.spec add-result mul-result returns)
