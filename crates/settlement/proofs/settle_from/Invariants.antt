@@ -1,0 +1,24 @@
+use Prim.Native.Nat.{◌-◌, min}
+use native.Mathlib.Omega.{arith}
+use mathlib.Core.Path.{◌≡◌, sym}
+use mathlib.Core.List.{List}
+use lib.IntN.{ℤ}
+use Rattle.records.specs.Encoding.{row_at, rows_of}
+use Rattle.lists.specs.Lists.{only}
+use Rattle.rules.specs.Rows.{remaining, source_of, payable}
+use Rattle.settlement.proofs.WalkLaws.{Walking, walking_start, walking-debit, walking-source, walking-pay, source-left, no-source-left, no-debit-left, Turn, source_fits, debit-fits}
+use Rattle.settlement.proofs.settle_from.Given as goal
+
+abbrev pub invariant-loop-x : goal.invariant-loop-x
+invariant-loop-x l =
+    ((old : List ℤ) → Walking l.account l.used old l.initial.journal l.i l.initial.j → Walking l.account l.used old l.journal l.i l.j)
+    × (l.x ≡ only (source_of l.account) remaining (row_at l.journal l.i))
+
+abbrev pub decreases-loop-x : goal.decreases-loop-x
+decreases-loop-x l = l.x
+
+abbrev pub invariant-sources : goal.invariant-sources
+invariant-sources l = Walking l.account l.used l.initial.journal l.journal l.i l.j
+
+abbrev pub decreases-sources : goal.decreases-sources
+decreases-sources l = l.used - l.i

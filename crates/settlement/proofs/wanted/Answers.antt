@@ -1,0 +1,27 @@
+-- `settlement::wanted` meets its contract.
+use borrow.Author.Rules.{rules}
+use mathlib.Core.Bool.{true, false}
+use mathlib.Core.Path.{sym, ◌∙◌}
+use Rattle.settlement.proofs.RowTestLaws.{no-debit-of-others, no-debit, debit-wants}
+use Rattle.settlement.proofs.wanted.Goals as goal
+
+pub returns-then-account_at-account : goal.returns-then-account_at-account
+returns-then-account_at-account c = no-debit-of-others _ _ _ c.account_at.ensures _ c.if-account_at-account.true
+
+pub returns-then-is_held : goal.returns-then-is_held
+returns-then-is_held c =
+    let t = c in
+    debit-wants _ _ _ t.account_at.ensures t.if-account_at-account.false _ t.read_row-r.ensures _ true true
+    (sym c.is_debit.ensures ∙ c.if-is_debit.true) (sym c.is_held.ensures ∙ c.if-is_held.true)
+
+pub returns-then-is_debit : goal.returns-then-is_debit
+returns-then-is_debit c =
+    let t = c in
+    c.remaining_of.ensures
+    ∙ debit-wants _ _ _ t.account_at.ensures t.if-account_at-account.false _ t.read_row-r.ensures _ true false
+    (sym c.is_debit.ensures ∙ c.if-is_debit.true) (sym c.is_held.ensures ∙ c.if-is_held.false)
+
+pub returns : goal.returns
+returns c =
+    let t = c in
+    no-debit _ _ _ t.account_at.ensures t.if-account_at-account.false _ t.read_row-r.ensures _ (sym c.is_debit.ensures ∙ c.if-is_debit.false)
