@@ -1,0 +1,21 @@
+-- `payment_passes` meets its contract: the first test that fails decides; a payment refers to no row.
+use Rattle.sound_journal.proofs.JournalLaws.{payment-names-none}
+use Rattle.sound_header.specs.Clauses.{row_passes}
+use Rattle.lists.specs.Tests.{all_of}
+use borrow.Author.Tests.{not-true, not-false}
+use mathlib.Core.Bool.{and-true}
+use mathlib.Core.Path.{sym, ◌∙◌}
+use borrow.Author.Rules.{rules}
+use Rattle.sound_journal.proofs.payment_passes.Goals as goal
+
+pub returns-then-not-other_alone : goal.returns-then-not-other_alone
+unfolding row_passes all_of
+returns-then-not-other_alone c =
+    let e = sym (c.other_alone.ensures c.args.f.stage) ∙ c.if-not-other_alone.true in
+    λ rows n. rw e
+
+pub returns : goal.returns
+unfolding row_passes all_of
+returns c =
+    let e = sym (c.other_alone.ensures c.args.f.stage) ∙ c.if-not-other_alone.false in
+    λ rows n. rw (e, payment-names-none rows n c.args.r c.requires.0, and-true) c.account_used.ensures

@@ -1,0 +1,13 @@
+use borrow.Author.Rules.{rules}
+use Rattle.sound_passages.specs.Trees.{IsToll}
+use Rattle.sound_passages.proofs.TreeLaws.{Way, root-fits, root-low, way-start, way-row, way_next, way-taken, way-free}
+use mathlib.Core.Path.{◌≡◌, sym, ◌∙◌}
+use native.Mathlib.Omega.{arith}
+use Prim.Native.Nat.{◌+◌, ◌*◌, ◌-◌, ◌<◌}
+use Rattle.sound_passages.proofs.passages.cell_for.Given as goal
+
+abbrev pub invariant-loop-s : goal.invariant-loop-s
+invariant-loop-s l = Way l.space l.journal l.cells l.n l.x l.y l.c l.s
+
+abbrev pub decreases-loop-s : goal.decreases-loop-s
+decreases-loop-s l = 4 * l.space - l.c
