@@ -1,0 +1,50 @@
+-- `sums::add_remainder` meets its contract: a row is a source or a debit, and each sum takes its share.
+use borrow.Author.Rules.{rules}
+use mathlib.Core.Bool.{cond}
+use mathlib.Core.Path.{◌≡◌, ◌∙◌}
+use Rattle.records.specs.Encoding.{row_at}
+use Rattle.rules.specs.Rows.{remaining, source, debit}
+use Rattle.account_sums.specs.Tallies.{money_of, owed_of}
+use Rattle.account_sums.proofs.SumsLaws.{share-money, share-owed, remaining-small, account-plain, amount-plain, settled_plain, slot-asked, slot_added}
+use Rattle.tick_base.proofs.StageLaws.{not-source}
+use Rattle.tick_base.proofs.sums.add_remainder.Goals as goal
+
+pub small_account-a-requires : goal.small_account-a-requires
+small_account-a-requires s = account-plain s.args.journal.now s.args.used s.requires.0 s.args.i s.requires.1
+
+pub small_amount-requires : goal.small_amount-requires
+small_amount-requires c = amount-plain c.args.journal.now c.args.used c.requires.0 c.args.i c.requires.1
+
+pub small_settled-requires : goal.small_settled-requires
+small_settled-requires c = settled_plain c.args.journal.now c.args.used c.requires.0 c.args.i c.requires.1
+
+pub overflow_sub-left : goal.overflow_sub-left
+overflow_sub-left c =
+    rw (c.small_settled.ensures, c.small_amount.ensures) (c.requires.0.settled c.args.i c.requires.1)
+
+pub add-requires : goal.add-requires
+add-requires c =
+    let w : c.part.result ≡ cond (source (row_at c.args.journal.now c.args.i)) (remaining (row_at c.args.journal.now c.args.i)) 0 =
+    c.part.ensures ∙ rw (c.kind_at-kind.ensures, c.small_settled.ensures, c.small_amount.ensures) in
+    slot-asked money_of source remaining share-money c.args.journal.now c.args.money.now c.args.i c.requires.2.moneys c.args.used c.requires.0 c.requires.1
+    c.small_account-a.result c.small_account-a.ensures c.part.result w (remaining-small c.args.journal.now c.args.used c.requires.0)
+
+pub add-requires-2 : goal.add-requires-2
+add-requires-2 c =
+    let w : c.part-2.result ≡ cond (debit (row_at c.args.journal.now c.args.i)) (remaining (row_at c.args.journal.now c.args.i)) 0 =
+    c.part-2.ensures ∙ rw (c.kind_at-kind.ensures, c.small_settled.ensures, c.small_amount.ensures, not-source (row_at c.args.journal.now c.args.i) (c.requires.0.kind c.args.i c.requires.1)) in
+    slot-asked owed_of debit remaining share-owed c.args.journal.now c.args.owed.now c.args.i c.requires.2.owings c.args.used c.requires.0 c.requires.1
+    c.small_account-a.result c.small_account-a.ensures c.part-2.result w (remaining-small c.args.journal.now c.args.used c.requires.0)
+
+pub returns : goal.returns
+returns c =
+    let m : c.part.result ≡ cond (source (row_at c.args.journal.now c.args.i)) (remaining (row_at c.args.journal.now c.args.i)) 0 =
+    c.part.ensures ∙ rw (c.kind_at-kind.ensures, c.small_settled.ensures, c.small_amount.ensures) in
+    let o : c.part-2.result ≡ cond (debit (row_at c.args.journal.now c.args.i)) (remaining (row_at c.args.journal.now c.args.i)) 0 =
+    c.part-2.ensures ∙ rw (c.kind_at-kind.ensures, c.small_settled.ensures, c.small_amount.ensures, not-source (row_at c.args.journal.now c.args.i) (c.requires.0.kind c.args.i c.requires.1)) in
+    record {
+      moneys = slot_added money_of source remaining share-money c.args.journal.now c.args.money.now c.args.i c.requires.2.moneys c.args.used c.requires.0 c.requires.1
+          c.small_account-a.result c.small_account-a.ensures c.part.result m _ c.add.ensures;
+      owings = slot_added owed_of debit remaining share-owed c.args.journal.now c.args.owed.now c.args.i c.requires.2.owings c.args.used c.requires.0 c.requires.1
+          c.small_account-a.result c.small_account-a.ensures c.part-2.result o _ c.add-2.ensures;
+    }
