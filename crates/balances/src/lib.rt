@@ -20,7 +20,7 @@ use tables::words::get;
 // ---- sums
 
 // An account's sums: of its sources, and of its debits, held ones included.
-#[derive(Drop)]
+#[derive(Clone, Copy)]
 pub struct Sums {
     pub sources: u64,
     pub debits: u64,

@@ -16,7 +16,7 @@ use table_accounts::account_numbered;
 use tables::words::{get, minus, natural};
 
 // What a question about an account is answered: the number, and the value, 0 where the number isn't.
-#[derive(Drop)]
+#[derive(Clone, Copy)]
 pub struct Reply {
     pub number: u64,
     pub value: i64,

@@ -19,7 +19,7 @@ use tables::words::get;
 
 // Of a toll, whether its passage number stands in the journal; of a top-up result, whether it is due; and the rows, counted from 0, from
 // which on a source and a debit of the account are looked for.
-#[derive(Drop)]
+#[derive(Clone, Copy)]
 pub struct Lookup {
     pub duplicate: bool,
     pub due: bool,

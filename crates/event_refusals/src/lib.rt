@@ -21,7 +21,7 @@ use table_accounts::account_numbered;
 use table_lists::{last_day, lists_used};
 
 // What the shared refusals come to: the number, 0 where none applies, and the account that the event names, read once.
-#[derive(Drop)]
+#[derive(Clone, Copy)]
 pub struct Admission {
     pub number: u64,
     pub account: Account,

@@ -19,7 +19,7 @@ use tick_plan::{Plan, plan_tick};
 use tick_raise::raise_tolls;
 
 // Why an admitted event 9 is refused, 0 where it is not, and the plan of a tick that is not.
-#[derive(Drop)]
+#[derive(Clone, Copy)]
 struct Judged {
     number: u64,
     plan: Plan,

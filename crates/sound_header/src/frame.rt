@@ -1,6 +1,6 @@
 // What the lengths and the header say of the tables, as the tests on rows and accounts need it, and how many rows the check has arrays for.
 
-#[derive(Drop)]
+#[derive(Clone, Copy)]
 pub struct Frame {
     pub count: usize, // accounts
     pub used: usize, // rows

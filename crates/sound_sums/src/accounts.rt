@@ -15,7 +15,7 @@ use sound_accounts::account_alone;
 use sound_header::tests::implies;
 
 // What an account's rows come to.
-#[derive(Drop)]
+#[derive(Clone, Copy)]
 pub struct Sums {
     pub returned: u64,
     pub drawn: u64,

@@ -17,7 +17,7 @@ use rows::count_rows;
 use tables::words::get;
 
 // How many rows the tick adds, whether a hold ends, and whether an account closes.
-#[derive(Drop)]
+#[derive(Clone, Copy)]
 pub struct Plan {
     pub added: usize,
     pub ending: bool,

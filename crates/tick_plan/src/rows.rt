@@ -12,7 +12,7 @@ use account_sums::SLOTS;
 use tick_base::sums::add_remainder;
 
 // How many fee rows the tick adds, and whether a hold ends.
-#[derive(Drop)]
+#[derive(Clone, Copy)]
 pub struct RowCounts {
     pub fees: usize,
     pub ending: bool,
