@@ -105,8 +105,8 @@ pub fn is_low(x: Account, money: u64) -> bool
 // Whether the account's top-up is due: on a sound book, whether its unused money is at most the threshold. It is summed only where it
 // decides.
 pub fn topup_due(header: &[i64], accounts: &[i64], journal: &[i64], n: u64) -> bool
-    requires { sound_tables (lent header accounts journal) ≡ true }
-    ensures { result ≡ topup_due (book_of (at_entry header accounts journal)) n }
+    requires { sound_tables (lent header.now accounts.now journal.now) ≡ true }
+    ensures { result ≡ topup_due (book_of (at_entry header.now accounts.now journal.now)) n }
 {
     let x = account_numbered(accounts, accounts.len() / ACCOUNT_WIDTH, n);
     if !may_topup(x, get(header, DAY_PLACE)) {

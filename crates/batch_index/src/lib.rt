@@ -275,8 +275,8 @@ pub fn start_index(
     cells: &mut [u16; CELLS],
     slots: &mut [u64; SLOT_WORDS],
 )
-    requires { (sound_tables (lent header accounts journal) ≡ true) × Empty cells.old slots.old }
-    ensures { Indexed (at_entry header accounts journal) cells.new slots.new }
+    requires { (sound_tables (lent header.now accounts.now journal.now) ≡ true) × Empty cells.old slots.old }
+    ensures { Indexed (at_entry header.now accounts.now journal.now) cells.new slots.new }
 {
     let used = get(header, USED_PLACE) as usize;
     index_passages(journal, 0, used, cells);
@@ -292,9 +292,9 @@ pub fn look_up_indexed(
     slots: &[u64; SLOT_WORDS],
     e: Instruction,
 ) -> Lookup
-    requires { (sound_tables (lent header accounts journal) ≡ true)
-        × Indexed (lent header accounts journal) cells.now slots.now }
-    ensures { LooksUp (at_entry header accounts journal) e result }
+    requires { (sound_tables (lent header.now accounts.now journal.now) ≡ true)
+        × Indexed (lent header.now accounts.now journal.now) cells.now slots.now }
+    ensures { LooksUp (at_entry header.now accounts.now journal.now) e result }
 {
     let mut found = Lookup {
         duplicate: false,
@@ -339,10 +339,10 @@ pub fn update_index(
     cells: &mut [u16; CELLS],
     slots: &mut [u64; SLOT_WORDS],
 )
-    requires { (sound_tables (lent header accounts journal) ≡ true)
-        × (before ≤ rows_used (lent header accounts journal))
-        × IndexedBefore (lent header accounts journal) before e cells.old slots.old }
-    ensures { Indexed (at_entry header accounts journal) cells.new slots.new }
+    requires { (sound_tables (lent header.now accounts.now journal.now) ≡ true)
+        × (before ≤ rows_used (lent header.now accounts.now journal.now))
+        × IndexedBefore (lent header.now accounts.now journal.now) before e cells.old slots.old }
+    ensures { Indexed (at_entry header.now accounts.now journal.now) cells.new slots.new }
 {
     let used = get(header, USED_PLACE) as usize;
     index_passages(journal, before, used, cells);

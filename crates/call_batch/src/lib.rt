@@ -30,7 +30,7 @@ pub fn begin_batch(
     slots: &mut [u64; SLOT_WORDS],
 ) -> u64
     requires { Empty cells.old slots.old }
-    ensures { Begins (at_entry header accounts journal)
+    ensures { Begins (at_entry header.now accounts.now journal.now)
         count
         answers.now
         cells.new
@@ -54,15 +54,15 @@ fn post_indexed(
     cells: &mut [u16; CELLS],
     slots: &mut [u64; SLOT_WORDS],
 ) -> Answer
-    requires { (sound_tables (lent header accounts journal) ≡ true)
-        × Indexed (lent header accounts journal) cells.old slots.old }
+    requires { (sound_tables (lent header.old accounts.old journal.old) ≡ true)
+        × Indexed (lent header.old accounts.old journal.old) cells.old slots.old }
     ensures { Posts
-        (at_entry header accounts journal)
-        (at_exit header accounts journal)
+        (at_entry header.old accounts.old journal.old)
+        (at_exit header.new accounts.new journal.new)
         e
         result
         × Indexed
-        (at_exit header accounts journal)
+        (at_exit header.new accounts.new journal.new)
         cells.new
         slots.new }
 {
@@ -88,16 +88,16 @@ pub fn post_record(
     cells: &mut [u16; CELLS],
     slots: &mut [u64; SLOT_WORDS],
 )
-    requires { (sound_tables (lent header accounts journal) ≡ true)
+    requires { (sound_tables (lent header.old accounts.old journal.old) ≡ true)
         × AnswerIn answers.old i
-        × Indexed (lent header accounts journal) cells.old slots.old }
-    ensures { RecordPosted (at_entry header accounts journal)
-        (at_exit header accounts journal)
+        × Indexed (lent header.old accounts.old journal.old) cells.old slots.old }
+    ensures { RecordPosted (at_entry header.old accounts.old journal.old)
+        (at_exit header.new accounts.new journal.new)
         answers.old
         answers.new
         i
         x
-        × Indexed (at_exit header accounts journal) cells.new slots.new }
+        × Indexed (at_exit header.new accounts.new journal.new) cells.new slots.new }
 {
     let r = post_indexed(header, accounts, journal, event_of(x), cells, slots);
     write_answer(answers, i, r);

@@ -19,8 +19,8 @@ fn answer_to(
     event: &[i64],
     answer: &[i64],
 ) -> Answer
-    ensures { AnswersTo (at_entry header accounts journal)
-        (at_exit header accounts journal)
+    ensures { AnswersTo (at_entry header.old accounts.old journal.old)
+        (at_exit header.new accounts.new journal.new)
         event.now
         answer.now
         result }
@@ -41,11 +41,11 @@ pub fn event_call(
     event: &[i64],
     answer: &mut [i64],
 ) -> u64
-    ensures { Gives (event_call (at_entry header accounts journal)
+    ensures { Gives (event_call (at_entry header.old accounts.old journal.old)
         event.now
         answer.old)
         (pos result)
-        (at_exit header accounts journal)
+        (at_exit header.new accounts.new journal.new)
         answer.new }
 {
     let x = answer_to(header, accounts, journal, event, answer);

@@ -82,10 +82,10 @@ pub fn open_book(
     journal: &mut [i64],
     schedule: &[i64],
 ) -> u64
-    ensures { Gives (open_call (at_entry header accounts journal)
+    ensures { Gives (open_call (at_entry header.old accounts.old journal.old)
         schedule.now)
         (pos result)
-        (at_exit header accounts journal)
+        (at_exit header.new accounts.new journal.new)
         [] }
 {
     if !lengths_fit(header, accounts, journal) {

@@ -24,7 +24,7 @@ pub struct Reply {
 
 // Why a question about account n is refused, 0 where it is not.
 fn question_refusal(header: &[i64], accounts: &[i64], journal: &[i64], n: u64) -> u64
-    ensures { result ≡ first (question_refusals (at_entry header accounts journal)
+    ensures { result ≡ first (question_refusals (at_entry header.now accounts.now journal.now)
         n) }
 {
     if !sound(header, accounts, journal) {
@@ -39,7 +39,7 @@ fn question_refusal(header: &[i64], accounts: &[i64], journal: &[i64], n: u64) -
 
 // The account's balance: its sources less its debits, held ones included.
 pub fn balance(header: &[i64], accounts: &[i64], journal: &[i64], account: i64) -> Reply
-    ensures { Replies (balance_call (at_entry header accounts journal) account)
+    ensures { Replies (balance_call (at_entry header.now accounts.now journal.now) account)
         (pos result.number)
         result.value }
 {
@@ -58,7 +58,7 @@ pub fn balance(header: &[i64], accounts: &[i64], journal: &[i64], account: i64) 
 
 // Whether the account's top-up is due: 1 yes, 0 no.
 pub fn topup_due(header: &[i64], accounts: &[i64], journal: &[i64], account: i64) -> Reply
-    ensures { Replies (topup_due_call (at_entry header accounts journal) account)
+    ensures { Replies (topup_due_call (at_entry header.now accounts.now journal.now) account)
         (pos result.number)
         result.value }
 {
@@ -81,8 +81,8 @@ pub fn topup_due(header: &[i64], accounts: &[i64], journal: &[i64], account: i64
 
 // Whether the book is sound and row n, counted from 1, is used.
 fn row_used(header: &[i64], accounts: &[i64], journal: &[i64], n: u64) -> bool
-    ensures { result ≡ sound_tables (at_entry header accounts journal)
-        && n from 1 to rows_used (at_entry header accounts journal) }
+    ensures { result ≡ sound_tables (at_entry header.now accounts.now journal.now)
+        && n from 1 to rows_used (at_entry header.now accounts.now journal.now) }
 {
     if !sound(header, accounts, journal) {
         return false;
@@ -92,7 +92,7 @@ fn row_used(header: &[i64], accounts: &[i64], journal: &[i64], n: u64) -> bool
 
 // The ten words of a used row: the very part of the lent journal; an empty part where the book is unsound or the row isn't used.
 pub fn row<'a>(header: &[i64], accounts: &[i64], journal: &'a [i64], number: i64) -> &'a [i64]
-    ensures { RowPart (at_entry header accounts journal)
+    ensures { RowPart (at_entry header.now accounts.now journal.now)
         number
         journal.entry.ref_ptr
         result.now

@@ -18,7 +18,7 @@ pub fn batch_refusal(
     answers: &[i64],
 ) -> u64
     ensures { (es : List Event) → length es ≡ count → result
-        ≡ first (batch_refusals (at_entry header accounts journal) es answers.now) }
+        ≡ first (batch_refusals (at_entry header.now accounts.now journal.now) es answers.now) }
 {
     if !sound(header, accounts, journal) {
         return UNSOUND;

@@ -16,7 +16,7 @@ pub fn event_refusal(
     event: &[i64],
     answer: &[i64],
 ) -> u64
-    ensures { result ≡ first (event_refusals (at_entry header accounts journal) event.now answer.now) }
+    ensures { result ≡ first (event_refusals (at_entry header.now accounts.now journal.now) event.now answer.now) }
 {
     if !sound(header, accounts, journal) {
         return UNSOUND;

@@ -16,10 +16,10 @@ use tables::words::get;
 
 // Event 1: the account is opened. Admitted, it is not refused.
 pub fn open_account(header: &[i64], accounts: &mut [i64], journal: &[i64], e: Instruction) -> Answer
-    requires { (sound_tables (lent header accounts journal) ≡ true)
+    requires { (sound_tables (lent header.now accounts.old journal.now) ≡ true)
         × (e.kind ≡ event_open)
-        × Admitted (lent header accounts journal) e }
-    ensures { Posts (at_entry header accounts journal) (at_exit header accounts journal) e result }
+        × Admitted (lent header.now accounts.old journal.now) e }
+    ensures { Posts (at_entry header.now accounts.old journal.now) (at_exit header.now accounts.new journal.now) e result }
 {
     write_account(accounts, (e.account - 1) as usize, Account::open(e.a, e.b));
     posted(get(header, USED_PLACE), 0, 0, 0)
@@ -33,11 +33,11 @@ pub fn request_close(
     e: Instruction,
     x: Account,
 ) -> Answer
-    requires { (sound_tables (lent header accounts journal) ≡ true)
+    requires { (sound_tables (lent header.now accounts.old journal.now) ≡ true)
         × (e.kind ≡ event_close_request)
-        × Admitted (lent header accounts journal) e
-        × Names (lent header accounts journal) e x }
-    ensures { Posts (at_entry header accounts journal) (at_exit header accounts journal) e result }
+        × Admitted (lent header.now accounts.old journal.now) e
+        × Names (lent header.now accounts.old journal.now) e x }
+    ensures { Posts (at_entry header.now accounts.old journal.now) (at_exit header.now accounts.new journal.now) e result }
 {
     if x.state == STATE_PENDING {
         return refused(UNTIMELY);

@@ -30,10 +30,10 @@ const YES: u64 = 1;
 
 // Why an admitted event 6 is refused, 0 where it is not.
 fn decision_refusal(header: &[i64], accounts: &[i64], journal: &[i64], e: Instruction) -> u64
-    requires { (sound_tables (lent header accounts journal) ≡ true)
+    requires { (sound_tables (lent header.now accounts.now journal.now) ≡ true)
         × (e.kind ≡ event_decision)
-        × Admitted (lent header accounts journal) e }
-    ensures { result ≡ answer_number (book_of (at_entry header accounts journal)) e }
+        × Admitted (lent header.now accounts.now journal.now) e }
+    ensures { result ≡ answer_number (book_of (at_entry header.now accounts.now journal.now)) e }
 {
     let used = get(header, USED_PLACE) as usize;
     let r = row_numbered(journal, used, e.a);
@@ -103,11 +103,11 @@ pub fn decide(
     e: Instruction,
     k: Lookup,
 ) -> Answer
-    requires { (sound_tables (lent header accounts journal) ≡ true)
+    requires { (sound_tables (lent header.old accounts.now journal.old) ≡ true)
         × (e.kind ≡ event_decision)
-        × LooksUp (lent header accounts journal) e k
-        × Admitted (lent header accounts journal) e }
-    ensures { Posts (at_entry header accounts journal) (at_exit header accounts journal) e result }
+        × LooksUp (lent header.old accounts.now journal.old) e k
+        × Admitted (lent header.old accounts.now journal.old) e }
+    ensures { Posts (at_entry header.old accounts.now journal.old) (at_exit header.new accounts.now journal.new) e result }
 {
     let n = decision_refusal(header, accounts, journal, e);
     if n != 0 {

@@ -21,10 +21,10 @@ use tables::words::get;
 
 // Why an admitted event 5 is refused, 0 where it is not.
 fn dispute_refusal(header: &[i64], accounts: &[i64], journal: &[i64], e: Instruction) -> u64
-    requires { (sound_tables (lent header accounts journal) ≡ true)
+    requires { (sound_tables (lent header.now accounts.now journal.now) ≡ true)
         × (e.kind ≡ event_dispute)
-        × Admitted (lent header accounts journal) e }
-    ensures { result ≡ answer_number (book_of (at_entry header accounts journal)) e }
+        × Admitted (lent header.now accounts.now journal.now) e }
+    ensures { result ≡ answer_number (book_of (at_entry header.now accounts.now journal.now)) e }
 {
     let r = row_numbered(journal, get(header, USED_PLACE) as usize, e.a);
     if !((r.kind == KIND_TOLL) & (r.account == e.account)) {
@@ -54,11 +54,11 @@ pub fn hold_toll(
     e: Instruction,
     k: Lookup,
 ) -> Answer
-    requires { (sound_tables (lent header accounts journal) ≡ true)
+    requires { (sound_tables (lent header.now accounts.now journal.old) ≡ true)
         × (e.kind ≡ event_dispute)
-        × LooksUp (lent header accounts journal) e k
-        × Admitted (lent header accounts journal) e }
-    ensures { Posts (at_entry header accounts journal) (at_exit header accounts journal) e result }
+        × LooksUp (lent header.now accounts.now journal.old) e k
+        × Admitted (lent header.now accounts.now journal.old) e }
+    ensures { Posts (at_entry header.now accounts.now journal.old) (at_exit header.now accounts.now journal.new) e result }
 {
     let n = dispute_refusal(header, accounts, journal, e);
     if n != 0 {

@@ -40,10 +40,10 @@ fn put_last_words(header: &mut [i64], p: usize, e: Instruction)
 
 // Event 10: words a to g become the first unused list. Admitted, it is not refused.
 pub fn add_list(header: &mut [i64], accounts: &[i64], journal: &[i64], e: Instruction) -> Answer
-    requires { (sound_tables (lent header accounts journal) ≡ true)
+    requires { (sound_tables (lent header.old accounts.now journal.now) ≡ true)
         × (e.kind ≡ event_rate_list)
-        × Admitted (lent header accounts journal) e }
-    ensures { Posts (at_entry header accounts journal) (at_exit header accounts journal) e result }
+        × Admitted (lent header.old accounts.now journal.now) e }
+    ensures { Posts (at_entry header.old accounts.now journal.now) (at_exit header.new accounts.now journal.now) e result }
 {
     let used = get(header, USED_PLACE);
     let p = HEADER_LISTS + lists_used(header) * LIST_WIDTH;

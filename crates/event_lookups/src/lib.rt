@@ -46,8 +46,8 @@ fn passage_found(journal: &[i64], used: usize, passage: u64) -> bool
 
 // For one event: the journal is searched where it is a toll or a top-up result, and nothing is known of the account's rows.
 pub fn look_up(header: &[i64], accounts: &[i64], journal: &[i64], e: Instruction) -> Lookup
-    requires { sound_tables (lent header accounts journal) ≡ true }
-    ensures { LooksUp (at_entry header accounts journal) e result }
+    requires { sound_tables (lent header.now accounts.now journal.now) ≡ true }
+    ensures { LooksUp (at_entry header.now accounts.now journal.now) e result }
 {
     let mut found = Lookup {
         duplicate: false,

@@ -27,11 +27,11 @@ fn payment_refusal(
     e: Instruction,
     x: Account,
 ) -> u64
-    requires { (sound_tables (lent header accounts journal) ≡ true)
+    requires { (sound_tables (lent header.now accounts.now journal.now) ≡ true)
         × (e.kind ≡ event_payment)
-        × Admitted (lent header accounts journal) e
-        × Names (lent header accounts journal) e x }
-    ensures { result ≡ answer_number (book_of (at_entry header accounts journal)) e }
+        × Admitted (lent header.now accounts.now journal.now) e
+        × Names (lent header.now accounts.now journal.now) e x }
+    ensures { result ≡ answer_number (book_of (at_entry header.now accounts.now journal.now)) e }
 {
     if (e.b == METHOD_CHECK) & (BARRING_RETURNS <= x.returned) {
         return BARRED;
@@ -51,12 +51,12 @@ pub fn post_payment(
     x: Account,
     k: Lookup,
 ) -> Answer
-    requires { (sound_tables (lent header accounts journal) ≡ true)
+    requires { (sound_tables (lent header.old accounts.now journal.old) ≡ true)
         × (e.kind ≡ event_payment)
-        × LooksUp (lent header accounts journal) e k
-        × Admitted (lent header accounts journal) e
-        × Names (lent header accounts journal) e x }
-    ensures { Posts (at_entry header accounts journal) (at_exit header accounts journal) e result }
+        × LooksUp (lent header.old accounts.now journal.old) e k
+        × Admitted (lent header.old accounts.now journal.old) e
+        × Names (lent header.old accounts.now journal.old) e x }
+    ensures { Posts (at_entry header.old accounts.now journal.old) (at_exit header.new accounts.now journal.new) e result }
 {
     let n = payment_refusal(header, accounts, journal, e, x);
     if n != 0 {

@@ -95,8 +95,8 @@ fn shared_refusal(late: bool, count: u64, e: Instruction, x: Account) -> u64
 
 // The account that the event names, and the shared refusal that applies to it.
 pub fn admit(header: &[i64], accounts: &[i64], journal: &[i64], e: Instruction) -> Admission
-    requires { sound_tables (lent header accounts journal) ≡ true }
-    ensures { Admits (at_entry header accounts journal) e result }
+    requires { sound_tables (lent header.now accounts.now journal.now) ≡ true }
+    ensures { Admits (at_entry header.now accounts.now journal.now) e result }
 {
     let late = list_refused(header, e);
     let count = accounts.len() / ACCOUNT_WIDTH;

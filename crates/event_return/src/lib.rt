@@ -27,10 +27,10 @@ use tables::words::get;
 
 // Why an admitted event 4 is refused, 0 where it is not.
 fn return_refusal(header: &[i64], accounts: &[i64], journal: &[i64], e: Instruction) -> u64
-    requires { (sound_tables (lent header accounts journal) ≡ true)
+    requires { (sound_tables (lent header.now accounts.now journal.now) ≡ true)
         × (e.kind ≡ event_returned_check)
-        × Admitted (lent header accounts journal) e }
-    ensures { result ≡ answer_number (book_of (at_entry header accounts journal)) e }
+        × Admitted (lent header.now accounts.now journal.now) e }
+    ensures { result ≡ answer_number (book_of (at_entry header.now accounts.now journal.now)) e }
 {
     let used = get(header, USED_PLACE) as usize;
     let r = row_numbered(journal, used, e.a);
@@ -86,12 +86,12 @@ pub fn return_check(
     x: Account,
     k: Lookup,
 ) -> Answer
-    requires { (sound_tables (lent header accounts journal) ≡ true)
+    requires { (sound_tables (lent header.old accounts.old journal.old) ≡ true)
         × (e.kind ≡ event_returned_check)
-        × LooksUp (lent header accounts journal) e k
-        × Admitted (lent header accounts journal) e
-        × Names (lent header accounts journal) e x }
-    ensures { Posts (at_entry header accounts journal) (at_exit header accounts journal) e result }
+        × LooksUp (lent header.old accounts.old journal.old) e k
+        × Admitted (lent header.old accounts.old journal.old) e
+        × Names (lent header.old accounts.old journal.old) e x }
+    ensures { Posts (at_entry header.old accounts.old journal.old) (at_exit header.new accounts.new journal.new) e result }
 {
     let n = return_refusal(header, accounts, journal, e);
     if n != 0 {

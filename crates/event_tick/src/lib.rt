@@ -39,10 +39,10 @@ fn unplanned(number: u64) -> Judged
 
 // The tests in checking order. 14 never is the reason: 8,192 sources of at most 1,300,000 each do not pass the ceiling.
 fn judge_tick(header: &[i64], accounts: &[i64], journal: &[i64], e: Instruction) -> Judged
-    requires { (sound_tables (lent header accounts journal) ≡ true)
+    requires { (sound_tables (lent header.now accounts.now journal.now) ≡ true)
         × (e.kind ≡ event_tick)
-        × Admitted (lent header accounts journal) e }
-    ensures { Judges (book_of (at_entry header accounts journal)) e result }
+        × Admitted (lent header.now accounts.now journal.now) e }
+    ensures { Judges (book_of (at_entry header.now accounts.now journal.now)) e result }
 {
     if get(header, DAY_PLACE) == FINAL_DAY {
         return unplanned(LAST_DAY);
@@ -63,8 +63,8 @@ fn carry_out(
     e: Instruction,
     plan: Plan,
 ) -> Answer
-    requires { Accepts (lent header accounts journal) e plan }
-    ensures { Posts (at_entry header accounts journal) (at_exit header accounts journal) e result }
+    requires { Accepts (lent header.old accounts.old journal.old) e plan }
+    ensures { Posts (at_entry header.old accounts.old journal.old) (at_exit header.new accounts.new journal.new) e result }
 {
     let used = get(header, USED_PLACE);
     free_and_settle(header, accounts, journal, plan.ending);
@@ -76,10 +76,10 @@ fn carry_out(
 
 // Event 9, the day tick.
 pub fn tick(header: &mut [i64], accounts: &mut [i64], journal: &mut [i64], e: Instruction) -> Answer
-    requires { (sound_tables (lent header accounts journal) ≡ true)
+    requires { (sound_tables (lent header.old accounts.old journal.old) ≡ true)
         × (e.kind ≡ event_tick)
-        × Admitted (lent header accounts journal) e }
-    ensures { Posts (at_entry header accounts journal) (at_exit header accounts journal) e result }
+        × Admitted (lent header.old accounts.old journal.old) e }
+    ensures { Posts (at_entry header.old accounts.old journal.old) (at_exit header.new accounts.new journal.new) e result }
 {
     let j = judge_tick(header, accounts, journal, e);
     if j.number != 0 {

@@ -22,11 +22,11 @@ use tables::words::get;
 
 // Why an admitted event 2 is refused, 0 where it is not.
 fn toll_refusal(header: &[i64], accounts: &[i64], journal: &[i64], e: Instruction, k: Lookup) -> u64
-    requires { (sound_tables (lent header accounts journal) ≡ true)
+    requires { (sound_tables (lent header.now accounts.now journal.now) ≡ true)
         × (e.kind ≡ event_toll)
-        × LooksUp (lent header accounts journal) e k
-        × Admitted (lent header accounts journal) e }
-    ensures { result ≡ answer_number (book_of (at_entry header accounts journal)) e }
+        × LooksUp (lent header.now accounts.now journal.now) e k
+        × Admitted (lent header.now accounts.now journal.now) e }
+    ensures { result ≡ answer_number (book_of (at_entry header.now accounts.now journal.now)) e }
 {
     let today = get(header, DAY_PLACE);
     let used = get(header, USED_PLACE) as usize;
@@ -53,11 +53,11 @@ pub fn post_toll(
     e: Instruction,
     k: Lookup,
 ) -> Answer
-    requires { (sound_tables (lent header accounts journal) ≡ true)
+    requires { (sound_tables (lent header.old accounts.now journal.old) ≡ true)
         × (e.kind ≡ event_toll)
-        × LooksUp (lent header accounts journal) e k
-        × Admitted (lent header accounts journal) e }
-    ensures { Posts (at_entry header accounts journal) (at_exit header accounts journal) e result }
+        × LooksUp (lent header.old accounts.now journal.old) e k
+        × Admitted (lent header.old accounts.now journal.old) e }
+    ensures { Posts (at_entry header.old accounts.now journal.old) (at_exit header.new accounts.now journal.new) e result }
 {
     let n = toll_refusal(header, accounts, journal, e, k);
     if n != 0 {

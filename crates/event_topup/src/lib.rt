@@ -30,11 +30,11 @@ fn result_refusal(
     e: Instruction,
     k: Lookup,
 ) -> u64
-    requires { (sound_tables (lent header accounts journal) ≡ true)
+    requires { (sound_tables (lent header.now accounts.now journal.now) ≡ true)
         × (e.kind ≡ event_topup_result)
-        × LooksUp (lent header accounts journal) e k
-        × Admitted (lent header accounts journal) e }
-    ensures { result ≡ answer_number (book_of (at_entry header accounts journal)) e }
+        × LooksUp (lent header.now accounts.now journal.now) e k
+        × Admitted (lent header.now accounts.now journal.now) e }
+    ensures { result ≡ answer_number (book_of (at_entry header.now accounts.now journal.now)) e }
 {
     if !k.due {
         return UNTIMELY;
@@ -54,10 +54,10 @@ fn pay_topup(
     x: Account,
     k: Lookup,
 ) -> Answer
-    requires { PaidResult (lent header accounts journal) e
-        × LooksUp (lent header accounts journal) e k
-        × Names (lent header accounts journal) e x }
-    ensures { Posts (at_entry header accounts journal) (at_exit header accounts journal) e result }
+    requires { PaidResult (lent header.old accounts.old journal.old) e
+        × LooksUp (lent header.old accounts.old journal.old) e k
+        × Names (lent header.old accounts.old journal.old) e x }
+    ensures { Posts (at_entry header.old accounts.old journal.old) (at_exit header.new accounts.new journal.new) e result }
 {
     let used = get(header, USED_PLACE);
     let paid = x.pay_topup();
@@ -91,12 +91,12 @@ pub fn topup_result(
     x: Account,
     k: Lookup,
 ) -> Answer
-    requires { (sound_tables (lent header accounts journal) ≡ true)
+    requires { (sound_tables (lent header.old accounts.old journal.old) ≡ true)
         × (e.kind ≡ event_topup_result)
-        × LooksUp (lent header accounts journal) e k
-        × Admitted (lent header accounts journal) e
-        × Names (lent header accounts journal) e x }
-    ensures { Posts (at_entry header accounts journal) (at_exit header accounts journal) e result }
+        × LooksUp (lent header.old accounts.old journal.old) e k
+        × Admitted (lent header.old accounts.old journal.old) e
+        × Names (lent header.old accounts.old journal.old) e x }
+    ensures { Posts (at_entry header.old accounts.old journal.old) (at_exit header.new accounts.new journal.new) e result }
 {
     let n = result_refusal(header, accounts, journal, e, k);
     if n != 0 {

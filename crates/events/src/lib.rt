@@ -35,11 +35,11 @@ pub fn post_admitted(
     x: Account,
     k: Lookup,
 ) -> Answer
-    requires { (sound_tables (lent header accounts journal) ≡ true)
-        × LooksUp (lent header accounts journal) e k
-        × Admitted (lent header accounts journal) e
-        × Names (lent header accounts journal) e x }
-    ensures { Posts (at_entry header accounts journal) (at_exit header accounts journal) e result }
+    requires { (sound_tables (lent header.old accounts.old journal.old) ≡ true)
+        × LooksUp (lent header.old accounts.old journal.old) e k
+        × Admitted (lent header.old accounts.old journal.old) e
+        × Names (lent header.old accounts.old journal.old) e x }
+    ensures { Posts (at_entry header.old accounts.old journal.old) (at_exit header.new accounts.new journal.new) e result }
 {
     let kind = e.kind;
     match kind {
@@ -64,8 +64,8 @@ pub fn post_event(
     journal: &mut [i64],
     e: Instruction,
 ) -> Answer
-    requires { sound_tables (lent header accounts journal) ≡ true }
-    ensures { Posts (at_entry header accounts journal) (at_exit header accounts journal) e result }
+    requires { sound_tables (lent header.old accounts.old journal.old) ≡ true }
+    ensures { Posts (at_entry header.old accounts.old journal.old) (at_exit header.new accounts.new journal.new) e result }
 {
     let m = admit(header, accounts, journal, e);
     if m.number != 0 {

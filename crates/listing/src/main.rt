@@ -136,11 +136,11 @@ fn after_read(
     more: usize,
     out: &mut [u8],
 ) -> Place
-    requires { Ready lines (lent header accounts journal) × (lines < most_lines)
+    requires { Ready lines (lent header.old accounts.old journal.old) × (lines < most_lines)
         × (index_of 10 (take waiting input.now) ≡ waiting) × (waiting + more ≤ length input.now) × (most_end_bytes ≤ length out.old) }
     ensures { AfterRead
-        (at_entry header accounts journal)
-        (at_exit header accounts journal)
+        (at_entry header.old accounts.old journal.old)
+        (at_exit header.new accounts.new journal.new)
         input.now out.old out.new lines waiting more result }
 {
     if more == 0 {
@@ -210,10 +210,10 @@ fn run(
     input: &mut [u8],
     out: &mut [u8],
 ) -> u64
-    requires { Sized (lent header accounts journal)
+    requires { Sized (lent header.old accounts.old journal.old)
         × (length input.old ≡ buffer_bytes) × (length out.old ≡ buffer_bytes) }
     ensures { Ran
-        (at_exit header accounts journal)
+        (at_exit header.new accounts.new journal.new)
         input.new out.new result }
 {
     let mut p = start();

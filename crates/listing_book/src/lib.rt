@@ -146,11 +146,11 @@ pub fn write_book(
     out: &mut [u8],
     at: usize,
 ) -> usize
-    requires journal_value { sound_tables (lent header accounts journal) ≡ true }
+    requires journal_value { sound_tables (lent header.now accounts.now journal.now) ≡ true }
     requires most_account_bytes_in_bounds { at + book_names_bytes
-        + rows_used (lent header accounts journal) * most_row_bytes
-        + accounts_in (lent header accounts journal) * most_account_bytes ≤ length out.old }
-    ensures { Puts out.old out.new at result (book_text (book_of (at_entry header accounts journal))) }
+        + rows_used (lent header.now accounts.now journal.now) * most_row_bytes
+        + accounts_in (lent header.now accounts.now journal.now) * most_account_bytes ≤ length out.old }
+    ensures { Puts out.old out.new at result (book_text (book_of (at_entry header.now accounts.now journal.now))) }
 {
     let used = get(header, USED_PLACE) as usize;
     let rows = write_text(out, at, b"row,account,kind,date,amount,settled\n");

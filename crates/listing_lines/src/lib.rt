@@ -40,8 +40,8 @@ fn first_line(
     out: &mut [u8],
     at: usize,
 ) -> Line
-    requires { (at + most_answer_bytes ≤ length out.old) × Ready 0 (lent header accounts journal) }
-    ensures { Taken 0 (at_entry header accounts journal) (at_entry header accounts journal) line.now
+    requires { (at + most_answer_bytes ≤ length out.old) × Ready 0 (lent header.now accounts.now journal.now) }
+    ensures { Taken 0 (at_entry header.now accounts.now journal.now) (at_entry header.now accounts.now journal.now) line.now
         out.old out.new at result }
 {
     if !same_bytes(line, b"day,len,f2,f3,f4,r1t,r1p,r2t,r2p,r3t,r3p") {
@@ -59,8 +59,8 @@ fn second_line(
     out: &mut [u8],
     at: usize,
 ) -> Line
-    requires { (at + most_answer_bytes ≤ length out.old) × Ready 1 (lent header accounts journal) }
-    ensures { Taken 1 (at_entry header accounts journal) (at_exit header accounts journal) line.now
+    requires { (at + most_answer_bytes ≤ length out.old) × Ready 1 (lent header.old accounts.old journal.old) }
+    ensures { Taken 1 (at_entry header.old accounts.old journal.old) (at_exit header.new accounts.new journal.new) line.now
         out.old out.new at result }
 {
     let mut values = [0i64; OPENING_WIDTH];
@@ -82,8 +82,8 @@ fn third_line(
     out: &mut [u8],
     at: usize,
 ) -> Line
-    requires { (at + most_answer_bytes ≤ length out.old) × Ready 2 (lent header accounts journal) }
-    ensures { Taken 2 (at_entry header accounts journal) (at_entry header accounts journal) line.now
+    requires { (at + most_answer_bytes ≤ length out.old) × Ready 2 (lent header.now accounts.now journal.now) }
+    ensures { Taken 2 (at_entry header.now accounts.now journal.now) (at_entry header.now accounts.now journal.now) line.now
         out.old out.new at result }
 {
     if !same_bytes(line, b"kind,account,a,b,c,d,e,f,g") {
@@ -107,8 +107,8 @@ fn event_line(
     at: usize,
 ) -> Line
     requires { (at + most_answer_bytes ≤ length out.old) × (3 ≤ n) × (n < most_lines)
-        × Ready n (lent header accounts journal) }
-    ensures { Taken n (at_entry header accounts journal) (at_exit header accounts journal) line.now
+        × Ready n (lent header.old accounts.old journal.old) }
+    ensures { Taken n (at_entry header.old accounts.old journal.old) (at_exit header.new accounts.new journal.new) line.now
         out.old out.new at result }
 {
     let mut values = [0i64; EVENT_WIDTH];
@@ -135,8 +135,8 @@ pub fn take_line(
     at: usize,
 ) -> Line
     requires { (at + most_answer_bytes ≤ length out.old) × (n < most_lines)
-        × Ready n (lent header accounts journal) }
-    ensures { Taken n (at_entry header accounts journal) (at_exit header accounts journal) line.now
+        × Ready n (lent header.old accounts.old journal.old) }
+    ensures { Taken n (at_entry header.old accounts.old journal.old) (at_exit header.new accounts.new journal.new) line.now
         out.old out.new at result }
 {
     match n {

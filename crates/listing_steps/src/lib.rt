@@ -44,11 +44,11 @@ fn unended_line(
     p: Place,
     out: &mut [u8],
 ) -> Place
-    requires { Stands (lent header accounts journal) input.now out.old p
+    requires { Stands (lent header.now accounts.now journal.now) input.now out.old p
         × (p.to ≡ p.from + index_of 10 (slice p.from p.to input.now)) }
     ensures { Stepped
-        (at_entry header accounts journal)
-        (at_entry header accounts journal)
+        (at_entry header.now accounts.now journal.now)
+        (at_entry header.now accounts.now journal.now)
         input.now out.old out.new p result }
 {
     if p.to - p.from <= MOST_LINE_BYTES {
@@ -81,10 +81,10 @@ pub fn take_next(
     p: Place,
     out: &mut [u8],
 ) -> Place
-    requires { Stands (lent header accounts journal) input.now out.old p }
+    requires { Stands (lent header.old accounts.old journal.old) input.now out.old p }
     ensures { Stepped
-        (at_entry header accounts journal)
-        (at_exit header accounts journal)
+        (at_entry header.old accounts.old journal.old)
+        (at_exit header.new accounts.new journal.new)
         input.now out.old out.new p result }
 {
     let from = p.from;
@@ -121,9 +121,9 @@ fn write_end(
     out: &mut [u8],
     at: usize,
 ) -> usize
-    requires { Ready lines (lent header accounts journal) × (at + most_book_bytes ≤ length out.old) }
+    requires { Ready lines (lent header.now accounts.now journal.now) × (at + most_book_bytes ≤ length out.old) }
     ensures { Puts out.old out.new at result
-        (listed lines (book_of (at_entry header accounts journal)) []) }
+        (listed lines (book_of (at_entry header.now accounts.now journal.now)) []) }
 {
     if lines < FIRST_LINES {
         return write_bad_line(out, at, lines + 1);
@@ -141,10 +141,10 @@ pub fn write_rest(
     lines: u64,
     out: &mut [u8],
 ) -> usize
-    requires { Ready lines (lent header accounts journal)
+    requires { Ready lines (lent header.old accounts.old journal.old)
         × (index_of 10 rest.now ≡ length rest.now) × (most_end_bytes ≤ length out.old) × (lines < most_lines) }
     ensures { Puts out.old out.new 0 result
-        (listed lines (book_of (at_entry header accounts journal)) (lines_of rest.now)) }
+        (listed lines (book_of (at_entry header.old accounts.old journal.old)) (lines_of rest.now)) }
 {
     if rest.len() == 0 {
         return write_end(header, accounts, journal, lines, out, 0);

@@ -33,7 +33,7 @@ pub fn sizes_fit(count: usize, room: usize) -> bool
 
 // "The lengths are exactly those above": no word over, and neither too few nor too many records.
 pub fn lengths_fit(header: &[i64], accounts: &[i64], journal: &[i64]) -> bool
-    ensures { result ≡ lengths_fit (at_entry header accounts journal) }
+    ensures { result ≡ lengths_fit (at_entry header.now accounts.now journal.now) }
 {
     let whole = (header.len() == HEADER_WIDTH)
         & (accounts.len() % ACCOUNT_WIDTH == 0)

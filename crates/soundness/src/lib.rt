@@ -87,7 +87,7 @@ fn book_passes(accounts: &[i64], journal: &[i64], f: Frame) -> bool
 // Whether the tables are sound. It takes 92 KiB of the stack, 64 for passage numbers, 16 for fees and 12 for sums; of at most FEW_ROWS rows
 // only 22 are cleared.
 pub fn sound(header: &[i64], accounts: &[i64], journal: &[i64]) -> bool
-    ensures { result ≡ sound_tables (at_entry header accounts journal) }
+    ensures { result ≡ sound_tables (at_entry header.now accounts.now journal.now) }
 {
     if !lengths_fit(header, accounts, journal) {
         return false;

@@ -119,9 +119,9 @@ fn close_each(
 
 // What remains is summed first: an account is judged on the book before any closes. On most days none closes, and nothing changes.
 pub fn close_accounts(header: &mut [i64], accounts: &mut [i64], journal: &mut [i64], closing: bool)
-    requires { ReadyToClose (lent header accounts journal) closing }
-    ensures { Written (at_entry header accounts journal) (at_exit header accounts journal)
-        (close_accounts (book_of (at_entry header accounts journal))) }
+    requires { ReadyToClose (lent header.old accounts.old journal.old) closing }
+    ensures { Written (at_entry header.old accounts.old journal.old) (at_exit header.new accounts.new journal.new)
+        (close_accounts (book_of (at_entry header.old accounts.old journal.old))) }
 {
     if !closing {
         return;

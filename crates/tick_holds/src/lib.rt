@@ -95,8 +95,8 @@ fn settle_freed(journal: &mut [i64], used: usize, count: usize, ends: &[u64; SLO
 
 // The holds that end at the tick to the next day, and the settlement that they allow. On most days none ends, and nothing changes.
 pub fn free_and_settle(header: &[i64], accounts: &[i64], journal: &mut [i64], ending: bool)
-    requires { Ends (lent header accounts journal) ending }
-    ensures { UnraisedRows (at_entry header accounts journal) journal.new }
+    requires { Ends (lent header.now accounts.now journal.old) ending }
+    ensures { UnraisedRows (at_entry header.now accounts.now journal.old) journal.new }
 {
     if !ending {
         return;

@@ -26,8 +26,8 @@ pub struct Plan {
 
 // The sums are 6 KiB of the stack.
 pub fn plan_tick(header: &[i64], accounts: &[i64], journal: &[i64]) -> Plan
-    requires { sound_tables (lent header accounts journal) ≡ true }
-    ensures { Planned (book_of (at_entry header accounts journal)) result }
+    requires { sound_tables (lent header.now accounts.now journal.now) ≡ true }
+    ensures { Planned (book_of (at_entry header.now accounts.now journal.now)) result }
 {
     let used = get(header, USED_PLACE) as usize;
     let today = get(header, DAY_PLACE) + 1;

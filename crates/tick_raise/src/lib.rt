@@ -69,12 +69,12 @@ fn raise_row(header: &mut [i64], journal: &mut [i64], i: usize, today: u64) -> u
 
 // The tolls due today are raised, in row order. The result is how many.
 pub fn raise_tolls(header: &mut [i64], accounts: &[i64], journal: &mut [i64]) -> u64
-    requires { Midway (word header.old day_place - 1) (lent header accounts journal)
-        × (length (raise_tolls (book_of (lent header accounts journal))).rows ≤ length journal.old / row_width) }
+    requires { Midway (word header.old day_place - 1) (lent header.old accounts.now journal.old)
+        × (length (raise_tolls (book_of (lent header.old accounts.now journal.old))).rows ≤ length journal.old / row_width) }
     ensures { (result
-        ≡ count (rises (word header.old day_place)) (book_of (at_entry header accounts journal)).rows)
-        × Written (at_entry header accounts journal) (at_exit header accounts journal)
-        (raise_tolls (book_of (at_entry header accounts journal))) }
+        ≡ count (rises (word header.old day_place)) (book_of (at_entry header.old accounts.now journal.old)).rows)
+        × Written (at_entry header.old accounts.now journal.old) (at_exit header.new accounts.now journal.new)
+        (raise_tolls (book_of (at_entry header.old accounts.now journal.old))) }
 {
     let today = get(header, DAY_PLACE);
     let used = get(header, USED_PLACE) as usize;

@@ -20,10 +20,10 @@ pub extern "C" fn toll_ledger_open(
     journal: &mut [i64],
     schedule: &[i64],
 ) -> i64
-    ensures { Gives (open_call (at_entry header accounts journal)
+    ensures { Gives (open_call (at_entry header.old accounts.old journal.old)
         schedule.now)
         result
-        (at_exit header accounts journal)
+        (at_exit header.new accounts.new journal.new)
         [] }
 {
     open_book(header, accounts, journal, schedule) as i64
@@ -38,11 +38,11 @@ pub extern "C" fn toll_ledger_event(
     event: &[i64],
     answer: &mut [i64],
 ) -> i64
-    ensures { Gives (event_call (at_entry header accounts journal)
+    ensures { Gives (event_call (at_entry header.old accounts.old journal.old)
         event.now
         answer.old)
         result
-        (at_exit header accounts journal)
+        (at_exit header.new accounts.new journal.new)
         answer.new }
 {
     event_call(header, accounts, journal, event, answer) as i64
@@ -57,7 +57,7 @@ pub extern "C" fn toll_ledger_balance(
     account: i64,
     value: &mut i64,
 ) -> i64
-    ensures { Replies (balance_call (at_entry header accounts journal) account)
+    ensures { Replies (balance_call (at_entry header.now accounts.now journal.now) account)
         result
         value.new }
 {
@@ -76,7 +76,7 @@ pub extern "C" fn toll_ledger_topup_due(
     account: i64,
     value: &mut i64,
 ) -> i64
-    ensures { Replies (topup_due_call (at_entry header accounts journal) account)
+    ensures { Replies (topup_due_call (at_entry header.now accounts.now journal.now) account)
         result
         value.new }
 {
@@ -95,11 +95,11 @@ pub extern "C" fn toll_ledger_batch(
     events: &[Event],
     answers: &mut [i64],
 ) -> i64
-    ensures { Gives (batch_call (at_entry header accounts journal)
+    ensures { Gives (batch_call (at_entry header.old accounts.old journal.old)
         events.now
         answers.old)
         result
-        (at_exit header accounts journal)
+        (at_exit header.new accounts.new journal.new)
         answers.new }
 {
     let mut cells = [0u16; CELLS];
