@@ -40,12 +40,12 @@ batch-refused t es w n q z =
     record { number = rw r (ap pos q); tables = rw r; answers = rw r }
 
 -- not refused: sound tables, and words for every answer
-pub record answer_taken (t : Tables) (es : List Event) (w : List ℤ) : Type 0 where
+pub record Taken (t : Tables) (es : List Event) (w : List ℤ) : Type 0 where
   pub refusal : first (batch_refusals t es w) ≡ 0
   pub sound : sound_tables t ≡ true
   pub room : length es * answer_width ≤ length w
 
-pub taken : (t : Tables) (es : List Event) (w : List ℤ) → 0 ≡ first (batch_refusals t es w) → answer_taken t es w
+pub taken : (t : Tables) (es : List Event) (w : List ℤ) → 0 ≡ first (batch_refusals t es w) → Taken t es w
 unfolding batch_refusals
 taken t es w q =
     let many : Bool = ltb most_events (length es) in
@@ -82,7 +82,7 @@ pub record After (t : Tables) (es : List Event) (w : List ℤ) (i : ℕ) (u : Ta
   pub tables : u ≡ tables_of (book_after (book_of t) (first_of es i))
   pub answers : v ≡ written (answers_to (book_of t) (first_of es i)) w
 
-module _ (t : Tables) (es : List Event) (w : List ℤ) (r : answer_taken t es w) where
+module _ (t : Tables) (es : List Event) (w : List ℤ) (r : Taken t es w) where
   abbrev b : Book
   b = book_of t
 

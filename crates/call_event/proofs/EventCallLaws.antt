@@ -40,12 +40,12 @@ number-le t e w =
     rw (← event-refusals-by t e w (sound_tables t) (not (length e is event_width) || ltb (length w) answer_width) refl refl) (refusals-le (sound_tables t) (not (length e is event_width) || ltb (length w) answer_width))
 
 -- a call that is not refused has sound tables, nine words and room for an answer
-pub record answer_taken (t : Tables) (e w : List ℤ) : Type 0 where
+pub record Taken (t : Tables) (e w : List ℤ) : Type 0 where
   pub sound : sound_tables t ≡ true
   pub event : length e ≡ event_width
   pub room : answer_width ≤ length w
 
-pub taken : (t : Tables) (e w : List ℤ) → 0 ≡ first (event_refusals t e w) → answer_taken t e w
+pub taken : (t : Tables) (e w : List ℤ) → 0 ≡ first (event_refusals t e w) → Taken t e w
 unfolding event_refusals
 taken t e w q =
     let other : Bool = not (length e is event_width) in
@@ -80,7 +80,7 @@ posted-answers t u e w x q p =
       storable = answer-storable t k.sound (instruction_from e) x p.answer;
     }
   where
-    event_call-tables : (t : Tables) (e w : List ℤ) → answer_taken t e w → (event_call t e w).tables ≡ tables_of (post (book_of t) (instruction_from e)).book
+    event_call-tables : (t : Tables) (e w : List ℤ) → Taken t e w → (event_call t e w).tables ≡ tables_of (post (book_of t) (instruction_from e)).book
     event_call-tables t e w k =
         sym (tables_of-book_of (event_call t e w).tables (event_call-keeps-sound t e w k.sound))
         ∙ ap tables_of (book_of-event_call t e w k.sound k.event k.room)

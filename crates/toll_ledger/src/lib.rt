@@ -1,5 +1,5 @@
-// The calls that C hosts link: each thin over the call of the same name, its contract that call's own, with no `requires`. Every table is
-// a pointer and its length in words; include/toll_ledger.h declares them.
+// The calls of the ledger: each thin over the call of the same name, its contract that call's own, with no `requires`. The crate
+// toll_ledger_c exports them to C.
 ghost use Rattle.std.specs.Prelude.{[]};
 ghost use Rattle.rules.specs.Calls.{Gives, Replies, open_call, event_call, batch_call, balance_call, topup_due_call};
 ghost use Rattle.rules.specs.Lent.{at_entry, at_exit};
@@ -13,8 +13,7 @@ use records::Event;
 use sound_passages::passages::CELLS;
 
 // Opens a book: eleven words, the first day, the schedule and the first rate list.
-#[unsafe(no_mangle)]
-pub extern "C" fn toll_ledger_open(
+pub fn toll_ledger_open(
     header: &mut [i64],
     accounts: &mut [i64],
     journal: &mut [i64],
@@ -30,8 +29,7 @@ pub extern "C" fn toll_ledger_open(
 }
 
 // Posts one event of nine words; the answer's five words are written wherever there is room for them.
-#[unsafe(no_mangle)]
-pub extern "C" fn toll_ledger_event(
+pub fn toll_ledger_event(
     header: &mut [i64],
     accounts: &mut [i64],
     journal: &mut [i64],
@@ -49,8 +47,7 @@ pub extern "C" fn toll_ledger_event(
 }
 
 // The account's balance, 0 where the question is refused.
-#[unsafe(no_mangle)]
-pub extern "C" fn toll_ledger_balance(
+pub fn toll_ledger_balance(
     header: &[i64],
     accounts: &[i64],
     journal: &[i64],
@@ -68,8 +65,7 @@ pub extern "C" fn toll_ledger_balance(
 }
 
 // 1 where the account's top-up is due, 0 where it is not or the question is refused.
-#[unsafe(no_mangle)]
-pub extern "C" fn toll_ledger_topup_due(
+pub fn toll_ledger_topup_due(
     header: &[i64],
     accounts: &[i64],
     journal: &[i64],
@@ -87,8 +83,7 @@ pub extern "C" fn toll_ledger_topup_due(
 }
 
 // Posts the events in order, going on after a refusal, and gives 0; a batch that is refused writes nothing.
-#[unsafe(no_mangle)]
-pub extern "C" fn toll_ledger_batch(
+pub fn toll_ledger_batch(
     header: &mut [i64],
     accounts: &mut [i64],
     journal: &mut [i64],

@@ -1,0 +1,95 @@
+// The exports of the static library that C hosts link: each calls toll_ledger's function of the same name, and has its clauses. Every table
+// is a pointer and its length in words; include/toll_ledger.h declares them.
+#![tactic(auto)]
+ghost use Rattle.std.specs.Prelude.{[]};
+ghost use Rattle.rules.specs.Calls.{Gives, Replies, open_call, event_call, batch_call, balance_call, topup_due_call};
+ghost use Rattle.rules.specs.Lent.{at_entry, at_exit};
+
+use records::Event;
+
+// Opens a book: eleven words, the first day, the schedule and the first rate list.
+#[unsafe(no_mangle)]
+pub extern "C" fn toll_ledger_open(
+    header: &mut [i64],
+    accounts: &mut [i64],
+    journal: &mut [i64],
+    schedule: &[i64],
+) -> i64
+    ensures { Gives (open_call (at_entry header.old accounts.old journal.old)
+        schedule.now)
+        result
+        (at_exit header.new accounts.new journal.new)
+        [] }
+{
+    toll_ledger::toll_ledger_open(header, accounts, journal, schedule)
+}
+
+// Posts one event of nine words; the answer's five words are written wherever there is room for them.
+#[unsafe(no_mangle)]
+pub extern "C" fn toll_ledger_event(
+    header: &mut [i64],
+    accounts: &mut [i64],
+    journal: &mut [i64],
+    event: &[i64],
+    answer: &mut [i64],
+) -> i64
+    ensures { Gives (event_call (at_entry header.old accounts.old journal.old)
+        event.now
+        answer.old)
+        result
+        (at_exit header.new accounts.new journal.new)
+        answer.new }
+{
+    toll_ledger::toll_ledger_event(header, accounts, journal, event, answer)
+}
+
+// The account's balance, 0 where the question is refused.
+#[unsafe(no_mangle)]
+pub extern "C" fn toll_ledger_balance(
+    header: &[i64],
+    accounts: &[i64],
+    journal: &[i64],
+    account: i64,
+    value: &mut i64,
+) -> i64
+    ensures { Replies (balance_call (at_entry header.now accounts.now journal.now) account)
+        result
+        value.new }
+{
+    toll_ledger::toll_ledger_balance(header, accounts, journal, account, value)
+}
+
+// 1 where the account's top-up is due, 0 where it is not or the question is refused.
+#[unsafe(no_mangle)]
+pub extern "C" fn toll_ledger_topup_due(
+    header: &[i64],
+    accounts: &[i64],
+    journal: &[i64],
+    account: i64,
+    value: &mut i64,
+) -> i64
+    ensures { Replies (topup_due_call (at_entry header.now accounts.now journal.now) account)
+        result
+        value.new }
+{
+    toll_ledger::toll_ledger_topup_due(header, accounts, journal, account, value)
+}
+
+// Posts the events in order, going on after a refusal, and gives 0; a batch that is refused writes nothing.
+#[unsafe(no_mangle)]
+pub extern "C" fn toll_ledger_batch(
+    header: &mut [i64],
+    accounts: &mut [i64],
+    journal: &mut [i64],
+    events: &[Event],
+    answers: &mut [i64],
+) -> i64
+    ensures { Gives (batch_call (at_entry header.old accounts.old journal.old)
+        events.now
+        answers.old)
+        result
+        (at_exit header.new accounts.new journal.new)
+        answers.new }
+{
+    toll_ledger::toll_ledger_batch(header, accounts, journal, events, answers)
+}
