@@ -1,0 +1,52 @@
+-- `request_close` meets its contract: refused, the tables stay; accepted, they hold the book with the account pending.
+use borrow.Author.Rules.{rules}
+use borrow.Author.Tests.{eq-eqb, ne_eqb}
+use native.Mathlib.Omega.{arith}
+use mathlib.Core.Path.{refl}
+use mathlib.Core.Bool.{true, false}
+use Rattle.lists.specs.Tests.{first}
+use Rattle.rules.proofs.TableLaws.{header-length}
+use Rattle.posting.proofs.BookLaws.{day-read, used-small}
+use Rattle.posting_laws.proofs.AddedLaws.{posts-refused}
+use Rattle.posting_laws.proofs.AccountEventLaws.{named-inside, named_in}
+use Rattle.event_accounts.proofs.RequestLaws.{request-by, request-storable, request-posts}
+use Rattle.event_accounts.proofs.request_close.Goals as goal
+
+pub returns-then-x-eq-STATE_PENDING : goal.returns-then-x-eq-STATE_PENDING
+unfolding first
+returns-then-x-eq-STATE_PENDING c =
+    rw c.refused.ensures
+    (posts-refused _ c.requires.0 _ 11 (request-by _ c.requires.0 _ c.requires.1 c.requires.2 true (rw (← c.requires.3) (eq-eqb _ _ c.if-x-eq-STATE_PENDING.true))) refl)
+
+pub overflow_sub-e : goal.overflow_sub-e
+unfolding first
+overflow_sub-e c =
+    (named-inside _ c.requires.0 _ (rw c.requires.1) (request-by _ c.requires.0 _ c.requires.1 c.requires.2 false (rw (← c.requires.3) (ne_eqb _ _ c.if-x-eq-STATE_PENDING.false)))).0
+
+pub get-requires : goal.get-requires
+get-requires c = omega (arith, header-length _ c.requires.0)
+
+pub write_account-requires : goal.write_account-requires
+unfolding first
+write_account-requires c =
+    let s = c.requires.0 in
+    let q = request-by _ s _ c.requires.1 c.requires.2 false (rw (← c.requires.3) (ne_eqb _ _ c.if-x-eq-STATE_PENDING.false)) in (
+      named_in _ s _ (rw c.requires.1) q,
+      rw (c.request_close.ensures, c.get.ensures, c.requires.3, day-read _ s) (request-storable _ s c.args.e),
+    )
+
+pub get-requires-2 : goal.get-requires-2
+get-requires-2 c = omega (arith, header-length _ c.requires.0)
+
+pub posted-requires : goal.posted-requires
+posted-requires c =
+    let u = c.get-2.ensures in
+    omega (arith, used-small _ c.requires.0)
+
+pub returns : goal.returns
+unfolding first
+returns c =
+    let s = c.requires.0 in
+    let q = request-by _ s _ c.requires.1 c.requires.2 false (rw (← c.requires.3) (ne_eqb _ _ c.if-x-eq-STATE_PENDING.false)) in
+    rw c.posted.ensures
+    (request-posts _ s _ c.requires.1 q _ (rw (c.request_close.ensures, c.get.ensures, c.requires.3, day-read _ s) at c.write_account.ensures))

@@ -1,0 +1,19 @@
+-- `admit` meets its contract: on sound tables the count and the account read are the book's.
+use borrow.Author.Rules.{rules}
+use mathlib.Core.Path.{refl, ◌∙◌}
+use Rattle.rules.specs.Tables.{book_of}
+use Rattle.rules.proofs.TableLaws.{header-length}
+use Rattle.posting.proofs.BookLaws.{account-read, count-read}
+use Rattle.event_refusals.proofs.admit.Goals as goal
+
+pub list_refused-late-requires : goal.list_refused-late-requires
+list_refused-late-requires c = header-length _ c.requires
+
+pub returns : goal.returns
+unfolding book_of
+returns c =
+    let x = c.account_numbered-x.ensures ∙ account-read _ c.requires c.args.e.account in
+    record {
+      number = c.shared_refusal.ensures _ (c.list_refused-late.ensures _ refl) (record { size = count-read _ c.requires; account = x });
+      account = x;
+    }
