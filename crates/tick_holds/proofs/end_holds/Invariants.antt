@@ -1,0 +1,14 @@
+use native.Mathlib.Omega.{arith}
+use mathlib.Core.Path.{◌≡◌}
+use Prim.Native.Nat.{◌-◌, ◌≤◌}
+use Rattle.records.specs.Encoding.{row_at}
+use Rattle.tables.specs.Changes.{RowsMapped}
+use Rattle.tables.proofs.ChangeLaws.{mapped-none, mapped-more}
+use Rattle.rules.specs.Tick.{end_hold}
+use Rattle.tick_holds.proofs.end_holds.Given as goal
+
+abbrev pub invariant-loop-i : goal.invariant-loop-i
+invariant-loop-i l = (l.i ≤ l.used) × RowsMapped (end_hold l.today) l.initial.journal l.journal l.i
+
+abbrev pub decreases-loop-i : goal.decreases-loop-i
+decreases-loop-i l = l.used - l.i

@@ -1,0 +1,43 @@
+-- `free_and_settle` meets its contract: the rows are those of the book after holds have ended and settlement.
+use native.Mathlib.Omega.{arith}
+use borrow.Author.Tests.{not-true}
+use Rattle.rules.proofs.TableLaws.{header-length}
+use Rattle.posting.proofs.BookLaws.{day-small, count_small, journal-settles}
+use Rattle.account_sums.proofs.TallyLaws.{tallied-none}
+use Rattle.tick_base.proofs.MidwayLaws.{sound-midway, midway-countable}
+use Rattle.tick_holds.specs.Holds.{ends_of}
+use Rattle.tick_holds.proofs.HoldLaws.{sound-ending, mapped-journal, unraised-written, unraised-same}
+use borrow.Author.Rules.{rules}
+use Rattle.records.specs.Limits.{slot_count}
+use Rattle.tick_holds.proofs.free_and_settle.Goals as goal
+
+pub returns-then-not-ending : goal.returns-then-not-ending
+returns-then-not-ending c = unraised-same _ _ c.requires (not-true _ c.if-not-ending.true-raw)
+
+pub get-used-requires : goal.get-used-requires
+get-used-requires c = omega (arith, header-length _ c.requires.sound)
+
+pub get-today-requires : goal.get-today-requires
+get-today-requires c = omega (arith, header-length _ c.requires.sound)
+
+pub overflow_add-today : goal.overflow_add-today
+overflow_add-today c = omega (arith, c.get-today.ensures, day-small _ c.requires.sound)
+
+pub count_ends-requires : goal.count_ends-requires
+count_ends-requires c = (rw c.get-used.ensures (midway-countable _ _ (sound-midway _ c.requires.sound)), tallied-none (ends_of _) slot_count _)
+
+pub end_holds-requires : goal.end_holds-requires
+end_holds-requires c = rw (c.get-used.ensures, c.get-today.ensures) (sound-ending _ c.requires.sound)
+
+pub settle_freed-requires : goal.settle_freed-requires
+settle_freed-requires c =
+    let s = c.requires.sound in
+    let u = c.get-used.ensures in
+    (rw u (mapped-journal _ _ _ _ (journal-settles _ s) (rw u at c.end_holds.ensures)), count_small _ s)
+
+pub returns : goal.returns
+returns c =
+    let s = c.requires.sound in
+    let u = c.get-used.ensures in
+    let d = c.get-today.ensures in
+    unraised-written _ s _ _ _ (rw (u, d) at c.count_ends.ensures) (rw (u, d) at c.end_holds.ensures) (rw u at c.settle_freed.ensures) (count_small _ s)

@@ -1,0 +1,12 @@
+use native.Mathlib.Omega.{arith}
+use mathlib.Core.Path.{◌≡◌}
+use Prim.Native.Nat.{◌-◌, ◌≤◌}
+use Rattle.tick_holds.specs.Holds.{SettledThose}
+use Rattle.tick_holds.proofs.HoldLaws.{settled-journal, settled-none, settled-more}
+use Rattle.tick_holds.proofs.settle_freed.Given as goal
+
+abbrev pub invariant-loop-i : goal.invariant-loop-i
+invariant-loop-i l = (l.i ≤ l.count) × SettledThose l.ends l.i l.initial.journal l.journal l.used
+
+abbrev pub decreases-loop-i : goal.decreases-loop-i
+decreases-loop-i l = l.count - l.i

@@ -1,0 +1,16 @@
+use Prim.Native.Nat.{◌+◌, ◌-◌, ◌≤◌}
+use native.Mathlib.Omega.{arith}
+use mathlib.Core.Path.{◌≡◌}
+use Rattle.records.specs.Layout.{used_place}
+use Rattle.records.specs.Encoding.{word}
+use Rattle.records.specs.Limits.{most_rows}
+use Rattle.posting.specs.Posts.{tables_at}
+use Rattle.tick_base.proofs.MidwayLaws.{midway-header}
+use Rattle.tick_raise.proofs.RaisingLaws.{Turns, turns-none, turn-raisable, turns_more, turns-few, turns-counted, turns-written}
+use Rattle.tick_raise.proofs.raise_tolls.Given as goal
+
+abbrev pub invariant-loop-i : goal.invariant-loop-i
+invariant-loop-i l = Turns (tables_at l.initial.header l.accounts l.initial.journal) l.today l.header l.journal l.n l.i
+
+abbrev pub decreases-loop-i : goal.decreases-loop-i
+decreases-loop-i l = l.used - l.i
