@@ -1,5 +1,7 @@
 // The ledger's records as values: a journal row, an account with its own operations, an event, an answer; and the words in which each is
 // stored. Document 01 is the scope document of the toll account ledger, document 02 its change requests.
+#![tactic(auto)]
+
 pub mod codes; // codes.rt: the numbers of kinds, states, methods, disputes, modes and events
 pub mod numbers; // numbers.rt: the numbers of the answers
 pub mod limits; // limits.rt: the limits of document 01

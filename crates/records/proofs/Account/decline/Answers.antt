@@ -1,5 +1,4 @@
 -- `Account::decline` meets its contract: each way through the test is the definition's.
-use borrow.Author.Rules.{rules}
 use borrow.Author.Tests.{le-leb, lt-leb}
 use Rattle.records.specs.AccountOperations.{declined_on}
 use Rattle.records.proofs.Account.decline.Goals as goal

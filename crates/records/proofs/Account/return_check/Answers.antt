@@ -1,5 +1,4 @@
 -- `Account::return_check` meets its contract: each way through the test is the definition's.
-use borrow.Author.Rules.{rules}
 use borrow.Author.Tests.{eq-eqb, ne_eqb}
 use Rattle.records.specs.AccountOperations.{check_returned}
 use Rattle.records.proofs.Account.return_check.Goals as goal
