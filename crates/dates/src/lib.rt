@@ -1,4 +1,6 @@
 // The Gregorian date of a day number: day 1 is 2000-01-01, day 36,525 is 2099-12-31. It uses its table of month starts and no other crate.
+#![tactic(auto)]
+
 mod table;
 
 ghost use Rattle.std.specs.Prelude.{◌≡◌, ◌≤◌, ◌<◌};
