@@ -1,26 +1,25 @@
 -- The header's words: its rate lists written and read back, read and written again.
 use mathlib.Core.Path.{◌≡◌, refl, sym, ap, ◌∙◌}
 use mathlib.Core.Bool.{Bool, true, false, cond}
-use Prim.Native.Nat.{ℕ, zero, suc, ◌+◌, ◌*◌, ◌-◌, ◌^◌, ◌≤◌, ◌<◌}
+use Prim.Native.Nat.{ℕ, zero, suc, ◌+◌, ◌*◌, ◌-◌, ◌≤◌, ◌<◌}
 use native.Mathlib.Omega.{arith}
 use mathlib.Core.List.{List, [], ◌∷◌, ◌++◌, append_assoc}
-use lib.ListN.{length, get_or, take, drop, replicate, length-append, length-replicate, length-drop, get_or-eq_default, get_or-replicate, take-append-drop, replicate-append-replicate}
+use lib.ListN.{length, get_or, drop, replicate, length-append, length-replicate, length-drop, get_or-eq_default, get_or-replicate, take-append-drop, replicate-append-replicate}
 use lib.Seq.{get_or-append-add, get_or-drop, ext_get_or, drop-drop, take_at, drop_at, drop-append-add, sets, sets-eq}
 use lib.IntN.{ℤ, pos}
 use lib.Dec.{ltb}
-use borrow.Author.Tests.{lt-ltb, le-ltb}
+use borrow.Author.Tests.{lt-ltb}
 use native.Mathlib.Decide.{dec_lt}
 use native.Mathlib.Nat.{add_assoc}
 use Rattle.lists.specs.Lists.{sum_by, count, tabulate}
 use Rattle.lists.proofs.ListLaws.{length-tabulate, tabulate-at, tabulate-same, tabulate-get_d}
 use Rattle.lists.proofs.SumLaws.{sum_by-snoc}
-use Rattle.records.specs.Layout.{header_lists, later_lists, list_width, rates_width, schedule_width}
+use Rattle.records.specs.Layout.{header_lists, later_lists, list_width}
 use Rattle.records.specs.Encoding.{nat_of, word, write_all}
 use Rattle.records.proofs.EncodingLaws.{Codec, length-write_all, read-write_all-at, write_all-read, write_all-snoc, plain}
-use Rattle.rules.specs.Schedule.{Rates}
 use Rattle.rules.specs.RateLists.{RateList, no_list}
 use Rattle.rules.specs.Tables.{rates_from, list_from, later_list_at, lists_used, rates_words, list_words, later_lists_words}
-use Rattle.rules.proofs.StorableLaws.{StorableRates, StorableList}
+use Rattle.rules.proofs.StorableLaws.{StorableList}
 
 -- ---- a list's words
 

@@ -1,7 +1,7 @@
 -- Rate lists at their limits (document 02, No. 1), computed from the definitions: event 10, answer 15, the rate of a passage day, a sound book's
 -- lists.
 use mathlib.Core.Path.{◌≡◌, refl}
-use Prim.Native.Nat.{ℕ, ◌+◌, ◌*◌}
+use Prim.Native.Nat.{ℕ, ◌+◌}
 use mathlib.Core.List.{List, [], ◌∷◌, ◌++◌, map}
 use lib.ListN.{length, replicate, set}
 use lib.IntN.{ℤ, pos, negsuc}
@@ -9,9 +9,9 @@ use Rattle.rules.specs.RateLists.{RateList}
 use Rattle.rules.specs.Book.{Instruction, Book, row}
 use Rattle.rules.specs.Posting.{book_after}
 use Rattle.rules.specs.Tables.{Tables, book_of, sound_tables}
-use Rattle.rules.specs.Calls.{Event, event_call, batch_call}
+use Rattle.rules.specs.Calls.{Event, batch_call}
 use Rattle.rules.proofs.Computing.{computing}
-use Rattle.rules.proofs.Examples.{Case, ◌gives◌, event, ticks, rates, small, numbers}
+use Rattle.rules.proofs.Examples.{Case, ◌gives◌, event, ticks, small, numbers}
 use Rattle.rules.proofs.CallExamples.{opened}
 use Rattle.rules.proofs.Borders.{◌are◌}
 

@@ -1,5 +1,5 @@
 -- Laws of the rate lists: which list is in force on a day, what a sound book's lists are, and one list more.
-use mathlib.Core.Path.{◌≡◌, refl, sym, ap, ◌∙◌}
+use mathlib.Core.Path.{◌≡◌, refl, ◌∙◌}
 use mathlib.Core.Bool.{Bool, true, false, cond, ◌&&◌}
 use Prim.Native.Nat.{ℕ, zero, suc, ◌+◌, ◌-◌, ◌≤◌, ◌<◌}
 use native.Mathlib.Omega.{arith}
@@ -7,9 +7,9 @@ use mathlib.Core.List.{List, [], ◌∷◌, ◌++◌}
 use lib.ListN.{length, get_or, length-append, get_or-append}
 use lib.Seq.{get_or-append_seam}
 use lib.Dec.{leb, ltb}
-use borrow.Author.Tests.{leb-true, le-leb, lt-leb, ltb-true, lt-ltb, leb-false}
+use borrow.Author.Tests.{leb-true, le-leb, ltb-true, lt-ltb, leb-false}
 use Rattle.lists.specs.Tests.{◌from◌to◌}
-use Rattle.lists.specs.Lists.{every, every_from}
+use Rattle.lists.specs.Lists.{every}
 use Rattle.lists.proofs.TestLaws.{and_left, and_right, and_both, cond_either}
 use Rattle.lists.proofs.ListLaws.{every-at, every-all}
 use Rattle.records.specs.Limits.{final_day, most_lists}
