@@ -1,0 +1,92 @@
+-- `sound` meets its contract: the first test that fails decides, and behind the lengths and the header the rest is book_passes.
+use Rattle.soundness.proofs.SoundParts.{unfit-lengths, unfit-used, unfit-later, unfit-day, unfit-schedule, unfit-lists, Fit, fit-sound, fit-bounds}
+use Rattle.sound_header.specs.Clauses.{tables_at, rest_zero}
+use Rattle.sound_header.proofs.LengthLaws.{Lengths, lengths-known}
+use Rattle.rules.specs.Tables.{book_of, used_fits, later_rows_zero, rows_used, room_in}
+use Rattle.rules.specs.Opening.{day_fits}
+use borrow.Author.Tests.{not-true, not-false, lt-leb}
+use mathlib.Core.Path.{refl, sym, ap, ◌∙◌}
+use native.Mathlib.Omega.{arith}
+use borrow.Author.Rules.{rules}
+use Rattle.soundness.proofs.sound.Goals as goal
+use Rattle.soundness.proofs.sound.Goals.{After-get, Else-not-lengths_fit}
+
+-- what the passed tests have shown
+lengths : (e : Else-not-lengths_fit) → Lengths e.args.header.now e.args.accounts.now e.args.journal.now
+lengths e = lengths-known _ _ _ (sym e.lengths_fit.ensures ∙ not-false _ e.if-not-lengths_fit.false-raw)
+
+fit : (g : After-get)
+    → Fit g.args.header.now
+    g.args.accounts.now
+    g.args.journal.now
+    g.get-used.result
+    g.get-today.result
+    g.get.result
+fit g =
+    record {
+      lengths = sym g.lengths_fit.ensures ∙ not-false _ g.if-not-lengths_fit.false-raw;
+      read_day = g.get-today.ensures;
+      read_used = g.get-used.ensures;
+      read_stage = g.get.ensures;
+      day = sym g.day_fits.ensures ∙ not-false _ g.if-not-day_fits.false-raw;
+      schedule = sym g.schedule_fits.ensures ∙ not-false _ g.if-not-schedule_fits.false-raw;
+      lists = sym g.lists_stand.ensures ∙ not-false _ g.if-not-lists_stand.false-raw;
+      fits = g.if-used-room.false;
+      later = sym g.later_rows_zero.ensures ∙ not-false _ g.if-not-later_rows_zero.false-raw;
+    }
+
+pub returns-then-not-lengths_fit : goal.returns-then-not-lengths_fit
+returns-then-not-lengths_fit c = sym (unfit-lengths _ (sym c.lengths_fit.ensures ∙ not-true _ c.if-not-lengths_fit.true-raw))
+
+pub get-today-requires : goal.get-today-requires
+get-today-requires c = omega (arith, (lengths c).words)
+
+pub returns-then-not-day_fits : goal.returns-then-not-day_fits
+unfolding book_of
+returns-then-not-day_fits c =
+    sym (unfit-day (tables_at c.args.header.now c.args.accounts.now c.args.journal.now) (ap day_fits (sym c.get-today.ensures) ∙ sym c.day_fits.ensures ∙ not-true _ c.if-not-day_fits.true-raw))
+
+pub schedule_fits-requires : goal.schedule_fits-requires
+schedule_fits-requires c = omega (arith, (lengths (goal.at.schedule_fits-requires c).Else-not-lengths_fit).words)
+
+pub returns-then-not-schedule_fits : goal.returns-then-not-schedule_fits
+unfolding book_of
+returns-then-not-schedule_fits c =
+    sym (unfit-schedule (tables_at c.args.header.now c.args.accounts.now c.args.journal.now) (sym c.schedule_fits.ensures ∙ not-true _ c.if-not-schedule_fits.true-raw))
+
+pub lists_stand-requires : goal.lists_stand-requires
+lists_stand-requires c = (lengths (goal.at.lists_stand-requires c).Else-not-lengths_fit).words
+
+pub returns-then-not-lists_stand : goal.returns-then-not-lists_stand
+returns-then-not-lists_stand c =
+    sym (unfit-lists (tables_at c.args.header.now c.args.accounts.now c.args.journal.now) (sym c.lists_stand.ensures ∙ not-true _ c.if-not-lists_stand.true-raw))
+
+pub get-used-requires : goal.get-used-requires
+get-used-requires c = omega (arith, (lengths (goal.at.get-used-requires c).Else-not-lengths_fit).words)
+
+pub returns-then-used-room : goal.returns-then-used-room
+unfolding used_fits
+returns-then-used-room c =
+    let t = tables_at c.args.header.now c.args.accounts.now c.args.journal.now in
+    sym (unfit-used t (lt-leb (rows_used t) (room_in t) (omega (arith, c.get-used.ensures))))
+
+pub later_rows_zero-requires : goal.later_rows_zero-requires
+later_rows_zero-requires c =
+    let l = lengths (goal.at.later_rows_zero-requires c).Else-not-lengths_fit in
+    (sym l.whole_rows, c.if-used-room.false)
+
+pub returns-then-not-later_rows_zero : goal.returns-then-not-later_rows_zero
+unfolding later_rows_zero
+returns-then-not-later_rows_zero c =
+    sym (unfit-later (tables_at c.args.header.now c.args.accounts.now c.args.journal.now) (unfold rest_zero in (rw c.get-used.ensures at (sym c.later_rows_zero.ensures ∙ not-true _ c.if-not-later_rows_zero.true-raw))))
+
+pub get-requires : goal.get-requires
+get-requires c = omega (arith, (lengths (goal.at.get-requires c).Else-not-lengths_fit).words)
+
+pub book_passes-requires : goal.book_passes-requires
+book_passes-requires c =
+    (fit-bounds c.args.header.now c.args.accounts.now c.args.journal.now _ _ _ (fit c), refl)
+
+pub returns : goal.returns
+returns c =
+    c.book_passes.ensures ∙ fit-sound c.args.header.now c.args.accounts.now c.args.journal.now _ _ _ (fit (goal.at.returns c).After-get)
