@@ -1,0 +1,23 @@
+-- `money_with` meets its contract: the row is of the account itself.
+use borrow.Author.Rules.{rules}
+use borrow.Author.Tests.{eq-eqb, not-true}
+use mathlib.Core.Path.{refl, sym, ◌∙◌}
+use native.Mathlib.Omega.{arith}
+use Rattle.batch_index.specs.Money.{money_with}
+use Rattle.batch_index.proofs.money_with.Goals as goal
+
+pub returns-then-is_source : goal.returns-then-is_source
+unfolding money_with
+returns-then-is_source c =
+    rw (eq-eqb c.args.r.account _ refl, c.remaining_of.ensures, sym c.is_source.ensures ∙ c.if-is_source.true)
+
+pub returns-then-m-r : goal.returns-then-m-r
+unfolding money_with
+returns-then-m-r c =
+    rw (eq-eqb c.args.r.account _ refl, sym c.is_source.ensures ∙ c.if-is_source.false)
+    (omega (arith, c.if-m-r.true))
+
+pub returns : goal.returns
+unfolding money_with
+returns c =
+    rw (eq-eqb c.args.r.account _ refl, sym c.is_source.ensures ∙ c.if-is_source.false)
