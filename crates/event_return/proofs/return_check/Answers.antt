@@ -1,0 +1,96 @@
+-- `return_check` meets its contract: refused, the tables stay; accepted, they hold the book with the check returned and settled.
+use borrow.Author.Rules.{rules}
+use borrow.Author.Tests.{ne_eqb}
+use native.Mathlib.Omega.{arith}
+use mathlib.Core.Path.{sym, ◌∙◌}
+use Rattle.rules.proofs.TableLaws.{header-length}
+use Rattle.posting.proofs.BookLaws.{used-small}
+use Rattle.posting_laws.proofs.AddedLaws.{posts-refused}
+use Rattle.event_return.proofs.ReturnLaws.{charge-le, return-counts, return-marks, marked-read, amount-read, reversal-read, reversal-storable, reversal-room, fee-read, fee-storable, fee-room, return-settles, return-begins, header-size, return-size, return-posts}
+use Rattle.event_return.proofs.return_check.Goals as goal
+
+pub returns-then-n-ne0 : goal.returns-then-n-ne0
+returns-then-n-ne0 c =
+    rw c.refused.ensures
+    (posts-refused _ c.requires.0 _ _ c.return_refusal-n.ensures (ne_eqb _ _ c.if-n-ne0.true))
+
+pub get-used-requires : goal.get-used-requires
+get-used-requires c = omega (arith, header-length _ c.requires.0)
+
+pub count_return-requires : goal.count_return-requires
+count_return-requires c =
+    let s = c.requires.0 in
+    let k = c.requires.1 in
+    let q = sym c.if-n-ne0.false ∙ c.return_refusal-n.ensures in
+    rw c.requires.4 (return-counts _ s _ k q)
+
+pub mark_returned-amount-requires : goal.mark_returned-amount-requires
+mark_returned-amount-requires c =
+    let s = c.requires.0 in
+    let k = c.requires.1 in
+    let q = sym c.if-n-ne0.false ∙ c.return_refusal-n.ensures in
+    return-marks _ s _ k q _ c.get-used.ensures
+
+pub add_naming-requires : goal.add_naming-requires
+add_naming-requires c =
+    let s = c.requires.0 in
+    let k = c.requires.1 in
+    let q = sym c.if-n-ne0.false ∙ c.return_refusal-n.ensures in
+    let u = c.get-used.ensures in
+    let d = c.mark_returned-amount.ensures in
+    let m = marked-read _ s _ k q _ _ _ u d in
+    (reversal-room _ s _ k q _ m, rw (reversal-read _ s _ k q _ (amount-read _ s _ k q _ _ _ u d)) (reversal-storable _ s _ k q))
+
+pub overflow_add-e : goal.overflow_add-e
+overflow_add-e c =
+    let s = c.requires.0 in
+    let k = c.requires.1 in
+    let q = sym c.if-n-ne0.false ∙ c.return_refusal-n.ensures in
+    omega (arith, charge-le _ s _ k q)
+
+pub add_naming-requires-2 : goal.add_naming-requires-2
+add_naming-requires-2 c =
+    let s = c.requires.0 in
+    let k = c.requires.1 in
+    let q = sym c.if-n-ne0.false ∙ c.return_refusal-n.ensures in
+    let u = c.get-used.ensures in
+    let d = c.mark_returned-amount.ensures in
+    let m = marked-read _ s _ k q _ _ _ u d in
+    let w = rw (reversal-read _ s _ k q _ (amount-read _ s _ k q _ _ _ u d)) at c.add_naming.ensures in
+    (fee-room _ s _ k q _ m _ _ w, rw (fee-read _ s _ k q _ m _ _ w) (fee-storable _ s _ k q))
+
+pub overflow_add-used : goal.overflow_add-used
+overflow_add-used c =
+    let u = c.get-used.ensures in
+    omega (arith, used-small _ c.requires.0)
+
+pub settle_from-requires : goal.settle_from-requires
+settle_from-requires c =
+    let s = c.requires.0 in
+    let k = c.requires.1 in
+    let q = sym c.if-n-ne0.false ∙ c.return_refusal-n.ensures in
+    let u = c.get-used.ensures in
+    let d = c.mark_returned-amount.ensures in
+    let m = marked-read _ s _ k q _ _ _ u d in
+    let w = rw (reversal-read _ s _ k q _ (amount-read _ s _ k q _ _ _ u d)) at c.add_naming.ensures in
+    let v = rw (fee-read _ s _ k q _ m _ _ w) at c.add_naming-2.ensures in
+    rw u (return-settles _ s _ k q _ m _ _ w _ _ v, return-begins _ s _ k q _ m _ _ w _ _ v _ c.requires.2)
+
+pub posted-requires : goal.posted-requires
+posted-requires c =
+    let u = c.get-used.ensures in
+    omega (arith, used-small _ c.requires.0)
+
+pub returns : goal.returns
+returns c =
+    let s = c.requires.0 in
+    let k = c.requires.1 in
+    let q = sym c.if-n-ne0.false ∙ c.return_refusal-n.ensures in
+    let u = c.get-used.ensures in
+    let d = c.mark_returned-amount.ensures in
+    let m = marked-read _ s _ k q _ _ _ u d in
+    let w = rw (reversal-read _ s _ k q _ (amount-read _ s _ k q _ _ _ u d)) at c.add_naming.ensures in
+    let v = rw (fee-read _ s _ k q _ m _ _ w) at c.add_naming-2.ensures in
+    let a = rw c.requires.4 at c.count_return.ensures in
+    let z = rw u at c.settle_from.ensures in
+    rw (c.posted.ensures, u) (return-posts _ s _ k q _ m _ _ w _ _ v _ _ a z)
