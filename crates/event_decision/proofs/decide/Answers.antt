@@ -1,0 +1,67 @@
+-- `decide` meets its contract: refused, the tables stay; accepted, they hold the book as the verdict makes it, settled.
+use borrow.Author.Rules.{rules}
+use borrow.Author.Tests.{eq-eqb, ne_eqb}
+use native.Mathlib.Omega.{arith}
+use mathlib.Core.Path.{◌∙◌}
+use Rattle.rules.proofs.TableLaws.{header-length}
+use Rattle.posting.proofs.BookLaws.{used-small}
+use Rattle.posting_laws.proofs.AddedLaws.{posts-refused}
+use Rattle.event_decision.proofs.DecisionLaws.{upheld-header, upheld-journal, releasable, rejected-settles, rejected-begins, rejected-posts, upholdable, upheld-settles, upheld-begins, upheld-posts}
+use Rattle.event_decision.proofs.decide.Goals as goal
+
+pub returns-then-n-ne0 : goal.returns-then-n-ne0
+returns-then-n-ne0 c =
+    rw c.refused.ensures
+    (posts-refused _ c.requires.0 _ _ c.decision_refusal-n.ensures (ne_eqb _ _ c.if-n-ne0.true))
+
+pub get-used-requires : goal.get-used-requires
+get-used-requires c = omega (arith, header-length _ c.requires.0)
+
+pub uphold-requires : goal.uphold-requires
+uphold-requires c =
+    let p = c.requires in
+    upholdable _ p.0 _ p.1 (rw c.if-n-ne0.false at c.decision_refusal-n.ensures) (eq-eqb _ _ c.if-e-eq-YES.true)
+
+pub overflow_add-used : goal.overflow_add-used
+overflow_add-used c =
+    let u = c.get-used.ensures in
+    omega (arith, used-small _ c.requires.0)
+
+pub settle_from-requires : goal.settle_from-requires
+settle_from-requires c =
+    let p = c.requires in
+    rw c.get-used.ensures (upheld-settles _ p.0 _ p.1 (rw c.if-n-ne0.false at c.decision_refusal-n.ensures) (eq-eqb _ _ c.if-e-eq-YES.true) _ _ c.uphold.ensures, upheld-begins _ p.0 _ p.1 (rw c.if-n-ne0.false at c.decision_refusal-n.ensures) (eq-eqb _ _ c.if-e-eq-YES.true) _ _ c.uphold.ensures _ p.2)
+
+pub posted-requires : goal.posted-requires
+posted-requires c =
+    let u = c.get-used.ensures in
+    omega (arith, used-small _ c.requires.0)
+
+pub returns-then-e-eq-YES : goal.returns-then-e-eq-YES
+returns-then-e-eq-YES c =
+    let p = c.requires in
+    let d = rw c.get-used.ensures at c.settle_from.ensures in
+    rw (c.posted.ensures, c.get-used.ensures)
+    (upheld-posts _ p.0 _ p.1 (rw c.if-n-ne0.false at c.decision_refusal-n.ensures) (eq-eqb _ _ c.if-e-eq-YES.true) _ _ c.uphold.ensures _ d)
+
+pub reject-requires : goal.reject-requires
+reject-requires c =
+    let p = c.requires in
+    releasable _ p.0 _ p.1 (rw c.if-n-ne0.false at c.decision_refusal-n.ensures)
+
+pub settle_from-requires-2 : goal.settle_from-requires-2
+settle_from-requires-2 c =
+    let p = c.requires in
+    rw c.get-used.ensures (rejected-settles _ p.0 _ p.1 (rw c.if-n-ne0.false at c.decision_refusal-n.ensures) (ne_eqb _ _ c.if-e-eq-YES.false) _ c.reject.ensures, rejected-begins _ p.0 _ p.1 (rw c.if-n-ne0.false at c.decision_refusal-n.ensures) (ne_eqb _ _ c.if-e-eq-YES.false) _ c.reject.ensures _ p.2)
+
+pub posted-requires-2 : goal.posted-requires-2
+posted-requires-2 c =
+    let u = c.get-used.ensures in
+    omega (arith, used-small _ c.requires.0)
+
+pub returns : goal.returns
+returns c =
+    let p = c.requires in
+    let d = rw c.get-used.ensures at c.settle_from-2.ensures in
+    rw c.posted-2.ensures
+    (rejected-posts _ p.0 _ p.1 (rw c.if-n-ne0.false at c.decision_refusal-n.ensures) (ne_eqb _ _ c.if-e-eq-YES.false) _ c.reject.ensures _ d)

@@ -1,0 +1,12 @@
+-- `fees::part_of` meets its contract.
+use borrow.Author.Rules.{rules}
+use Rattle.event_decision.specs.Decision.{part}
+use Rattle.event_decision.proofs.fees.part_of.Goals as goal
+
+pub returns-then-whole : goal.returns-then-whole
+unfolding part
+returns-then-whole c = rw c.if-whole.true
+
+pub returns : goal.returns
+unfolding part
+returns c = rw c.if-whole.false c.remaining_of.ensures

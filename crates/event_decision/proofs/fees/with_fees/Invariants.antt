@@ -1,0 +1,12 @@
+use Prim.Native.Nat.{◌-◌, ◌≤◌}
+use native.Mathlib.Omega.{arith}
+use mathlib.Core.Path.{◌≡◌}
+use Rattle.event_decision.specs.Decision.{toll_and_fees}
+use Rattle.event_decision.proofs.FeeLaws.{sum_to, sum-start, sum_fits, sum_more}
+use Rattle.event_decision.proofs.fees.with_fees.Given as goal
+
+abbrev pub invariant-loop-i : goal.invariant-loop-i
+invariant-loop-i l = (l.i ≤ l.used) × (l.sum ≡ sum_to l.journal l.used l.whole l.n l.i)
+
+abbrev pub decreases-loop-i : goal.decreases-loop-i
+decreases-loop-i l = l.used - l.i
