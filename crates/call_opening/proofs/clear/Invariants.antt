@@ -1,0 +1,13 @@
+use Rattle.call_opening.proofs.OpenedLaws.{cleared, cleared-none, cleared_more, cleared-all}
+use borrow.Author.Rules.{rules}
+use native.Mathlib.Omega.{arith}
+use mathlib.Core.Path.{◌≡◌, refl, ◌∙◌}
+use Prim.Native.Nat.{◌+◌, ◌-◌, ◌≤◌}
+use lib.ListN.{length, length-set}
+use Rattle.call_opening.proofs.clear.Given as goal
+
+abbrev pub invariant-loop-i : goal.invariant-loop-i
+invariant-loop-i l = (l.from ≤ l.i) × (l.i ≤ l.from + (length l.initial.t - l.from)) × (length l.t ≡ length l.initial.t) × (l.t ≡ cleared l.initial.t l.from l.i)
+
+abbrev pub decreases-loop-i : goal.decreases-loop-i
+decreases-loop-i l = length l.initial.t - l.i

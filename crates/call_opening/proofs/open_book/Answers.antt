@@ -1,0 +1,34 @@
+-- `open_book` meets its contract: each way through the tests is a case of the call's, and the tables written are the opened book's.
+use Rattle.call_opening.proofs.OpenedLaws.{lengths-refused, words-refused, opened}
+use Rattle.sound_header.specs.Clauses.{tables_at}
+use Rattle.rules.specs.Tables.{lengths_fit}
+use mathlib.Core.Bool.{true}
+use Rattle.sound_header.proofs.LengthLaws.{lengths-known}
+use borrow.Author.Tests.{not-true, not-false}
+use mathlib.Core.Path.{◌≡◌, sym, ◌∙◌}
+use borrow.Author.Rules.{rules}
+use Rattle.call_opening.proofs.open_book.Goals as goal
+use Rattle.call_opening.proofs.open_book.Goals.{Else-not-lengths_fit}
+
+-- the lengths, once tested
+fit : (e : Else-not-lengths_fit) → lengths_fit (tables_at e.args.header.now e.args.accounts.now e.args.journal.now) ≡ true
+fit e = sym e.lengths_fit.ensures ∙ not-false _ e.if-not-lengths_fit.false-raw
+
+pub returns-then-not-lengths_fit : goal.returns-then-not-lengths_fit
+returns-then-not-lengths_fit c = lengths-refused _ _ _ _ (sym c.lengths_fit.ensures ∙ not-true _ c.if-not-lengths_fit.true-raw)
+
+pub returns-then-not-opening_fits : goal.returns-then-not-opening_fits
+returns-then-not-opening_fits c =
+    let e = (goal.at.returns-then-not-opening_fits c).Else-not-lengths_fit in
+    words-refused _ _ _ _ (fit e) (sym c.opening_fits.ensures ∙ not-true _ c.if-not-opening_fits.true-raw)
+
+pub write_header-requires : goal.write_header-requires
+write_header-requires c =
+    let e = (goal.at.write_header-requires c).Else-not-lengths_fit in
+    ((lengths-known _ _ _ (fit e)).words, sym c.opening_fits.ensures ∙ not-false _ c.if-not-opening_fits.false-raw)
+
+pub returns : goal.returns
+returns c =
+    let e = (goal.at.returns c).Else-not-lengths_fit in
+    rw (c.write_header.ensures (tables_at c.args.header.now c.args.accounts.now c.args.journal.now), c.clear.ensures, c.clear-2.ensures)
+    (opened _ _ _ _ (fit e) (sym c.opening_fits.ensures ∙ not-false _ c.if-not-opening_fits.false-raw))
