@@ -1,0 +1,50 @@
+-- `row` meets its contract: a used row's words lie in the journal.
+use Rattle.call_questions.proofs.QuestionLaws.{no_row, row-part, Inside, row_inside}
+use borrow.Author.Tests.{not-true, not-false}
+use native.Mathlib.Omega.{arith}
+use mathlib.Core.Path.{◌≡◌, refl, sym, ap, ◌∙◌}
+use mathlib.Core.Bool.{true, ◌&&◌}
+use Rattle.lists.specs.Tests.{◌from◌to◌}
+use Rattle.rules.specs.Tables.{Tables, rows_used, sound_tables}
+use Rattle.posting.specs.Posts.{tables_at}
+use mir.Facts.{to_z-of_z}
+use Rattle.records.specs.Encoding.{nat_of}
+use borrow.Author.Rules.{rules}
+use Rattle.call_questions.proofs.row.Goals as goal
+use Rattle.call_questions.proofs.row.Goals.{After-natural-n, Else-not-row_used, Start}
+
+-- the row's number
+numbered : (c : After-natural-n) → c.natural-n.result ≡ nat_of c.args.number
+numbered c = c.natural-n.ensures ∙ ap nat_of (to_z-of_z c.ranges.number)
+
+-- the lent tables
+abbrev lent : Start → Tables
+lent s = tables_at s.args.header.now s.args.accounts.now s.args.journal.now
+
+-- a row that is used
+there : (e : Else-not-row_used) → sound_tables (lent e.before.before.before) && e.natural-n.result from 1 to rows_used (lent e.before.before.before) ≡ true
+there e = sym e.row_used.ensures ∙ not-false _ e.if-not-row_used.false-raw
+
+inside : (e : Else-not-row_used) → Inside (lent e.before.before.before) e.natural-n.result
+inside e = row_inside (lent e.before.before.before) e.natural-n.result (there e)
+
+pub returns-then-not-row_used : goal.returns-then-not-row_used
+returns-then-not-row_used c = no_row _ _ _ (numbered (goal.at.returns-then-not-row_used c).After-natural-n) (sym c.row_used.ensures ∙ not-true _ c.if-not-row_used.true-raw) _
+
+pub overflow_sub-start : goal.overflow_sub-start
+overflow_sub-start c = omega (arith, (inside c).first)
+
+pub overflow_mul-start : goal.overflow_mul-start
+overflow_mul-start c = omega (arith, (inside c).few)
+
+pub overflow_add-end : goal.overflow_add-end
+overflow_add-end c = omega (arith, (inside c).few)
+
+pub offset_bounds-journal-start : goal.offset_bounds-journal-start
+offset_bounds-journal-start c = omega (arith, (inside c).few)
+
+pub slice_bounds-result-end-2 : goal.slice_bounds-result-end-2
+slice_bounds-result-end-2 c = omega (arith, (inside c).room)
+
+pub returns : goal.returns
+returns c = row-part _ _ _ (numbered (goal.at.returns c).After-natural-n) _ (there (goal.at.returns c).Else-not-row_used) refl _
