@@ -8,7 +8,7 @@ use borrow.Author.Tests.{leb-false}
 use lib.Dec.{leb}
 use lib.ListN.{length, take, drop, length-append, length-take, length-drop, take-append-drop}
 use lib.Seq.{slice, take_at, take-take, length-take-le, length-slice}
-use Rattle.bytes.specs.Bytes.{index_of}
+use Rattle.decimal.specs.Bytes.{index_of}
 use Rattle.lists.proofs.TestLaws.{or_right}
 use Rattle.rules.specs.Tables.{Tables}
 use Rattle.listing_rules.specs.Listing.{most_lines}

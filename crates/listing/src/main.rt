@@ -2,7 +2,7 @@
 // accounts of a book of 64 accounts and 512 rows. What its turns print together is proved to be the listing of what they read (RunLaws);
 // `print` and `read_more` alone touch the system.
 ghost use Rattle.std.specs.Prelude.{◌≡◌, true, false, ◌+◌, ◌≤◌, ◌<◌, length, take};
-ghost use Rattle.bytes.specs.Bytes.{index_of};
+ghost use Rattle.decimal.specs.Bytes.{index_of};
 ghost use Rattle.listing_rules.specs.Listing.{most_lines};
 ghost use Rattle.listing_rules.specs.Sizes.{most_end_bytes};
 ghost use Rattle.listing_lines.specs.Lines.{Sized, Ready};

@@ -2,7 +2,7 @@
 // ends, and the bytes moved to the start of the buffer.
 ghost use Rattle.std.specs.Prelude.{◌≡◌, ◌+◌, ◌-◌, ◌≤◌, length, take};
 ghost use Rattle.std.proofs.Math.Seq.{slice};
-ghost use Rattle.bytes.specs.Bytes.{index_of};
+ghost use Rattle.decimal.specs.Bytes.{index_of};
 
 // The place of the first line feed, `to` where there is none.
 pub fn line_end(input: &[u8], from: usize, to: usize) -> usize

@@ -2,7 +2,7 @@
 // printed.
 ghost use Rattle.std.specs.Prelude.{◌≡◌, [], ◌+◌, ◌≤◌, ◌<◌, length};
 ghost use Rattle.std.proofs.Math.Seq.{slice};
-ghost use Rattle.bytes.specs.Bytes.{index_of};
+ghost use Rattle.decimal.specs.Bytes.{index_of};
 ghost use Rattle.rules.specs.Tables.{book_of};
 ghost use Rattle.listing_rules.specs.Texts.{lines_of};
 ghost use Rattle.listing_rules.specs.Listing.{most_lines, listed};

@@ -11,9 +11,8 @@ use mir.Val.{Fits, SFits, to_z, of_z}
 use mir.Syntax.{w64}
 use Rattle.decimal.specs.Decimal.{size_of}
 use Rattle.decimal.proofs.SignLaws.{less_one, size_below, size_above}
-use Rattle.decimal.proofs.size_of.Statement.{statement}
-use Rattle.decimal.proofs.size_of.Tie as tie
 use Rattle.lists.proofs.SignLaws.{cast_fits}
+use Rattle.decimal.proofs.size_of.Goals as goal
 
 -- minus one less a number below 0, read from its bits
 module _ (z : ℤ) (f : SFits w64 z) (h : lt_z (to_z w64 (of_z w64 z)) (pos 0) ≡ true) where
@@ -36,24 +35,20 @@ module _ (z : ℤ) (f : SFits w64 z) (h : lt_z (to_z w64 (of_z w64 z)) (pos 0) �
   size = subst (λ (y : ℤ). (nat_abs y + 1 ≡ size_of z) × (nat_abs y + 1 ≤ 2 ^ 63)) (sym back)
       (omega (arith, size_below z f below), omega (arith, size_below z f below))
 
-sub-result : tie.Need-overflow-sub-result
-sub-result c = fits c.before.args.v c.before.ranges.v c.if1.true
+pub overflow_sub-result : goal.overflow_sub-result
+overflow_sub-result c = fits c.args.v c.ranges.v c.if-v-lt0.true
 
-cast-result : tie.Need-overflow-cast-result
-cast-result c = cast c.before.args.v c.before.ranges.v c.if1.true
+pub overflow_cast-result : goal.overflow_cast-result
+overflow_cast-result c = cast c.args.v c.ranges.v c.if-v-lt0.true
 
-add-result : tie.Need-overflow-add-result
-add-result c = record { fits = omega (arith, (size c.before.args.v c.before.ranges.v c.if1.true).1) }
+pub overflow_add-result : goal.overflow_add-result
+overflow_add-result c = record { fits = omega (arith, (size c.args.v c.ranges.v c.if-v-lt0.true).1) }
 
-cast-result-2 : tie.Need-overflow-cast-result-2
-cast-result-2 c = rw (to_z-of_z c.before.ranges.v) (cast_fits _ c.before.ranges.v (rw (to_z-of_z c.before.ranges.v) at c.if1.false))
+pub overflow_cast-result-else-v-lt0 : goal.overflow_cast-result-else-v-lt0
+overflow_cast-result-else-v-lt0 c = rw (to_z-of_z c.ranges.v) (cast_fits _ c.ranges.v (rw (to_z-of_z c.ranges.v) at c.if-v-lt0.false))
 
-returns : tie.Need-returns
-returns c = size c.before.args.v c.before.ranges.v c.if1.true
+pub returns-then-v-lt0 : goal.returns-then-v-lt0
+returns-then-v-lt0 c = size c.args.v c.ranges.v c.if-v-lt0.true
 
-returns-2 : tie.Need-returns-2
-returns-2 c = rw (to_z-of_z c.before.ranges.v) (size_above _ c.before.ranges.v (rw (to_z-of_z c.before.ranges.v) at c.if1.false))
-
-pub size-of-spec : {M : Type 1} → statement M
-size-of-spec =
-    tie.close (tie.spec sub-result cast-result add-result cast-result-2 returns returns-2)
+pub returns-else-v-lt0 : goal.returns-else-v-lt0
+returns-else-v-lt0 c = rw (to_z-of_z c.ranges.v) (size_above _ c.ranges.v (rw (to_z-of_z c.ranges.v) at c.if-v-lt0.false))
