@@ -1,6 +1,8 @@
 // The listing program: reads an opening and events from standard input, and prints the events' answers, then the rows and the used
 // accounts of a book of 64 accounts and 512 rows. What its turns print together is proved to be the listing of what they read (RunLaws);
 // `print` and `read_more` alone touch the system.
+#![tactic(auto)]
+
 ghost use Rattle.std.specs.Prelude.{◌≡◌, true, false, ◌+◌, ◌≤◌, ◌<◌, length, take};
 ghost use Rattle.decimal.specs.Bytes.{index_of};
 ghost use Rattle.listing_rules.specs.Listing.{most_lines};
