@@ -1,5 +1,5 @@
-// The texts of the listing: numbers and dates as bytes in a lent buffer, and the numbers of a line read back. Document 01 is the scope
-// document of the toll account ledger.
+// The texts of the listing: numbers and dates as bytes in a lent buffer, the numbers of a line read back, and the search for a byte.
+// Document 01 is the scope document of the toll account ledger.
 #![tactic(auto)]
 
 ghost use Rattle.std.specs.Prelude.{◌≡◌, [], ◌∷◌, ◌++◌, ◌+◌, ◌≤◌, ◌<◌, ◌^◌, length, take, drop, true};
