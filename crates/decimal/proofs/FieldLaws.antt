@@ -11,7 +11,7 @@ use borrow.Author.Tests.{eqb-true, ne_eqb}
 use lib.IntN.{ℤ}
 use lib.ListN.{length, take, drop, set, length-set}
 use lib.Seq.{slice, length-slice, take-take, drop-drop, take-suc-set, drop-set-lt, take-nil, append_snoc}
-use Rattle.bytes.specs.Bytes.{index_of, slice as part}
+use Rattle.decimal.specs.Bytes.{index_of}
 use Rattle.decimal.specs.Decimal.{number_of, in_first, fields_of, all_numbers, numbers_in}
 use Rattle.decimal.proofs.PartLaws.{parts_cut, parts_last}
 
@@ -123,11 +123,7 @@ pub fields-over : (whole rest : List (List ℕ)) (old values : List ℤ) (n : �
 fields-over whole rest old values n r h =
     rw (ne_eqb (length whole) n (λ q. omega (arith, r.counted))) refl
 
--- ---- what the kit's search for a byte finds: its part of a list is the slice
-
-pub found : (byte : ℕ) (bs : List ℕ) (from to stop : ℕ) → stop ≡ from + index_of byte (part from to bs) → stop ≡ from + index_of byte (slice from to bs)
-unfolding part
-found byte bs from to stop e = e
+-- ---- a field that states no number
 
 -- the field up to there, the last one or not, states no number
 pub bad-at : (line : List ℕ) (end from stop : ℕ) (whole : List (List ℕ)) (old values : List ℤ) (i n : ℕ)

@@ -2,6 +2,7 @@
 pub mod DateTextLaws
 pub mod Examples
 pub mod PartLaws
+pub mod FindLaws
 pub mod FieldLaws
 pub mod ReadingLaws
 pub mod RoundTrip

@@ -7,7 +7,7 @@ use native.Mathlib.Nat.{not-suc-le-zero}
 use native.Mathlib.Omega.{arith}
 use lib.Dec.{eqb}
 use lib.ListN.{length, take, drop}
-use Rattle.bytes.specs.Bytes.{index_of, index_after}
+use Rattle.decimal.specs.Bytes.{index_of, index_after}
 use Rattle.decimal.specs.Decimal.{in_first}
 
 module _ (c : ℕ) (parts : List ℕ → List (List ℕ)) (step : (b : ℕ) (bs : List ℕ) → parts (b ∷ bs) ≡ cond (eqb b c) ([] ∷ parts bs) (in_first b (parts bs))) where

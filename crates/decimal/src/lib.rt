@@ -1,11 +1,14 @@
-// The texts of the listing: numbers and dates as bytes in a lent buffer, and the numbers of a line read back. Document 01 is the scope
-// document of the toll account ledger.
+// The texts of the listing: numbers and dates as bytes in a lent buffer, the numbers of a line read back, and the search for a byte.
+// Document 01 is the scope document of the toll account ledger.
+#![tactic(auto)]
+
 ghost use Rattle.std.specs.Prelude.{◌≡◌, [], ◌∷◌, ◌++◌, ◌+◌, ◌≤◌, ◌<◌, ◌^◌, length, take, drop, true};
 ghost use Rattle.std.proofs.Math.Seq.{slice};
+ghost use Rattle.decimal.specs.Bytes.{index_of};
 ghost use Rattle.decimal.specs.Decimal.{digits_of, text_of, two_digits, date_text, written, size_of, negated, digit_value, magnitude, plain, minus, number_of, is_numbers, numbers_of};
 
 // What a field states: a number, or (ok is false, value 0) none.
-#[derive(Drop)]
+#[derive(Clone, Copy)]
 pub struct Number {
     pub ok: bool,
     pub value: i64,
@@ -38,7 +41,7 @@ pub fn write_digits(buffer: &mut [u8], at: usize, n: u64) -> usize
 {
     let mut text = [0u8; 20];
     let k = io::decimal(n, &mut text);
-    bytes::copy(&text[..k], &mut buffer[at..]);
+    buffer[at..at + k].copy_from_slice(&text[..k]);
     at + k
 }
 
@@ -191,6 +194,22 @@ pub fn read_number(line: &[u8], from: usize, to: usize) -> Number
     read_plain(line, from, to)
 }
 
+// The place of the first byte b from one place up to another, the latter where there is none.
+pub fn find(bytes: &[u8], from: usize, to: usize, b: u8) -> usize
+    requires { (from ≤ to) × (to ≤ length bytes.now) }
+    ensures value { result ≡ from + index_of b (slice from to bytes.now) }
+    ensures within { result ≤ to }
+{
+    let mut i = from;
+    while i < to {
+        if bytes[i] == b {
+            return i;
+        }
+        i += 1;
+    }
+    to
+}
+
 // Whether the first `end` bytes of a line are exactly `count` numbers with commas between them. Where they are, these are the first `count`
 // values afterwards; the later values stay in any case.
 pub fn read_fields(line: &[u8], end: usize, values: &mut [i64], count: usize) -> bool
@@ -202,7 +221,7 @@ pub fn read_fields(line: &[u8], end: usize, values: &mut [i64], count: usize) ->
     let mut from = 0;
     let mut i = 0;
     while i < count {
-        let stop = bytes::scan::find(line, from, end, b',');
+        let stop = find(line, from, end, b',');
         let n = read_number(line, from, stop);
         if !n.ok {
             return false;

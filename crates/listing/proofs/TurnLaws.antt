@@ -8,7 +8,10 @@ use borrow.Author.Tests.{leb-false}
 use lib.Dec.{leb}
 use lib.ListN.{length, take, drop, length-append, length-take, length-drop, take-append-drop}
 use lib.Seq.{slice, take_at, take-take, length-take-le, length-slice}
-use Rattle.bytes.specs.Bytes.{index_of}
+use Rattle.std.specs.Prelude.{Result, Ok, Err}
+use Rattle.std.specs.Result.{result_unwrap_or}
+use Rattle.std.specs.Io.{ReadsAtMost}
+use Rattle.decimal.specs.Bytes.{index_of}
 use Rattle.lists.proofs.TestLaws.{or_right}
 use Rattle.rules.specs.Tables.{Tables}
 use Rattle.listing_rules.specs.Listing.{most_lines}
@@ -87,6 +90,11 @@ filled-read old part n more h l m =
       fits = omega arith;
       front = take_at (take n old) (part ++ rest) n z;
     }
+
+-- a read gives at most as many bytes as the part holds, none where it fails
+pub count-read : {E : Type 0} (r : Result ℕ E) (part : List ℕ) → ReadsAtMost r part → result_unwrap_or r 0 ≤ length part
+count-read (Ok n) part h = h.0
+count-read (Err e) part h = omega arith
 
 -- bytes came, unless it is over
 some-came : (more : ℕ) (q : Place) → (more ≡ 0 → q.over ≡ true) → q.over ≡ false → 0 < more

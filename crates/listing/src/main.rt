@@ -1,8 +1,10 @@
 // The listing program: reads an opening and events from standard input, and prints the events' answers, then the rows and the used
 // accounts of a book of 64 accounts and 512 rows. What its turns print together is proved to be the listing of what they read (RunLaws);
 // `print` and `read_more` alone touch the system.
+#![tactic(auto)]
+
 ghost use Rattle.std.specs.Prelude.{◌≡◌, true, false, ◌+◌, ◌≤◌, ◌<◌, length, take};
-ghost use Rattle.bytes.specs.Bytes.{index_of};
+ghost use Rattle.decimal.specs.Bytes.{index_of};
 ghost use Rattle.listing_rules.specs.Listing.{most_lines};
 ghost use Rattle.listing_rules.specs.Sizes.{most_end_bytes};
 ghost use Rattle.listing_lines.specs.Lines.{Sized, Ready};
@@ -11,10 +13,10 @@ ghost use Rattle.listing.specs.Turns.{due, printed};
 ghost use Rattle.listing.specs.Runs.{Ran};
 ghost use Rattle.rules.specs.Lent.{lent, at_entry, at_exit};
 
-use libc::{STDIN_FILENO, STDOUT_FILENO};
 use listing_input::move_to_front;
 use listing_steps::{Place, take_next, write_rest};
 use records::layout::{ACCOUNT_WIDTH, HEADER_WIDTH, ROW_WIDTH};
+use std::io::{Read, Write};
 
 // The bytes of either buffer.
 const BUFFER_BYTES: usize = 65536;
@@ -40,10 +42,10 @@ const UNENDED: u64 = 2;
 // ---- printing
 
 // Prints the first bytes of the buffer, and whether that could be done.
-fn print(out: &[u8], end: usize) -> bool
+fn print(rt: &HostRuntime, out: &[u8], end: usize) -> bool
     requires { end ≤ length out.now }
 {
-    io::write_all(STDOUT_FILENO, &out[..end])
+    rt.stdout().write_all(&out[..end]).is_ok()
 }
 
 // Whether what is written is to be printed: before it waits, at the end, and where little room is left.
@@ -60,11 +62,11 @@ fn must_print(p: Place) -> bool
 }
 
 // Prints what is written where it is due, and whether that could be done.
-fn print_due(p: Place, out: &[u8]) -> bool
+fn print_due(rt: &HostRuntime, p: Place, out: &[u8]) -> bool
     requires { p.at ≤ length out.now }
 {
     if must_print(p) {
-        return print(out, p.at);
+        return print(rt, out, p.at);
     }
     true
 }
@@ -116,13 +118,12 @@ fn place(lines: u64, to: usize) -> Place
     }
 }
 
-// Reads more of the input after the bytes that wait, and returns how many came, none at the input's end.
-fn read_more(input: &mut [u8], waiting: usize) -> usize
+// Reads more of the input after the bytes that wait, and returns how many came, none at the input's end or where the read fails.
+fn read_more(rt: &HostRuntime, input: &mut [u8], waiting: usize) -> usize
     requires { waiting < length input.old }
     ensures { Filled input.old input.new waiting result }
 {
-    let got = libc::read(STDIN_FILENO, &mut input[waiting..]);
-    io::count(got, &input[waiting..])
+    rt.stdin().read(&mut input[waiting..]).unwrap_or(0)
 }
 
 // So many bytes came after those that wait: the listing goes on over both, or the input has ended and those that wait are its last line.
@@ -159,6 +160,7 @@ fn after_read(
 
 // No whole line is left: reads on after the bytes that wait.
 fn read_on(
+    rt: &HostRuntime,
     header: &mut [i64],
     accounts: &mut [i64],
     journal: &mut [i64],
@@ -173,7 +175,7 @@ fn read_on(
         (state_at header.new accounts.new journal.new input.new out.new result) }
 {
     let waiting = move_to_front(input, p.from, p.to);
-    let more = read_more(input, waiting);
+    let more = read_more(rt, input, waiting);
     after_read(
         header, accounts, journal, input, p.lines, waiting, more, out,
     )
@@ -183,6 +185,7 @@ fn read_on(
 
 // One line, or more input where it waits for it.
 fn turn(
+    rt: &HostRuntime,
     header: &mut [i64],
     accounts: &mut [i64],
     journal: &mut [i64],
@@ -196,7 +199,7 @@ fn turn(
         (state_at header.new accounts.new journal.new input.new out.new result) }
 {
     if p.waits {
-        return read_on(header, accounts, journal, input, p, out);
+        return read_on(rt, header, accounts, journal, input, p, out);
     }
     take_next(header, accounts, journal, input, p, out)
 }
@@ -204,6 +207,7 @@ fn turn(
 // Lists standard input, and returns why it ends. An input of fewer bytes than a third of MOST_TURNS does not use the turns up
 // (RunLaws.ran-long).
 fn run(
+    rt: &HostRuntime,
     header: &mut [i64],
     accounts: &mut [i64],
     journal: &mut [i64],
@@ -219,8 +223,8 @@ fn run(
     let mut p = start();
     let mut turns = MOST_TURNS;
     while turns > 0 {
-        let q = turn(header, accounts, journal, input, p, out);
-        if !print_due(q, out) {
+        let q = turn(rt, header, accounts, journal, input, p, out);
+        if !print_due(rt, q, out) {
             return UNPRINTED;
         }
         if q.over {
@@ -232,13 +236,14 @@ fn run(
     UNENDED
 }
 
-fn main() {
+fn main(rt: HostRuntime) {
     let mut header = [0i64; HEADER_WIDTH];
     let mut accounts = [0i64; LISTED_ACCOUNTS * ACCOUNT_WIDTH];
     let mut journal = [0i64; LISTED_ROWS * ROW_WIDTH];
     let mut input = [0u8; BUFFER_BYTES];
     let mut out = [0u8; BUFFER_BYTES];
     run(
+        &rt,
         &mut header,
         &mut accounts,
         &mut journal,

@@ -1,5 +1,7 @@
 // The closing part of the listing, written to a lent buffer: a line for each used row and one for each used account, each part with its
 // names before it.
+#![tactic(auto)]
+
 ghost use Rattle.std.specs.Prelude.{◌≡◌, true, ◌+◌, ◌*◌, ◌≤◌, length};
 ghost use Rattle.lists.specs.Lists.{gather};
 ghost use Rattle.records.specs.Layout.{account_width};
@@ -146,8 +148,8 @@ pub fn write_book(
     out: &mut [u8],
     at: usize,
 ) -> usize
-    requires journal_value { sound_tables (lent header.now accounts.now journal.now) ≡ true }
-    requires most_account_bytes_in_bounds { at + book_names_bytes
+    requires sound { sound_tables (lent header.now accounts.now journal.now) ≡ true }
+    requires room { at + book_names_bytes
         + rows_used (lent header.now accounts.now journal.now) * most_row_bytes
         + accounts_in (lent header.now accounts.now journal.now) * most_account_bytes ≤ length out.old }
     ensures { Puts out.old out.new at result (book_text (book_of (at_entry header.now accounts.now journal.now))) }

@@ -8,7 +8,7 @@ use native.Mathlib.Omega.{arith}
 use native.Mathlib.Numerals.{add-one}
 use lib.ListN.{length, take, length-append}
 use lib.Seq.{slice, length-slice, take-take, drop-drop}
-use Rattle.bytes.specs.Bytes.{index_of}
+use Rattle.decimal.specs.Bytes.{index_of}
 use Rattle.decimal.proofs.FieldLaws.{take-of-drop}
 use Rattle.rules.specs.Book.{Book}
 use Rattle.listing_rules.specs.Texts.{lines_of, bad_line}

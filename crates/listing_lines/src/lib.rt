@@ -1,4 +1,6 @@
 // One line of the listing's input, taken: judged, carried out on the book's tables, and its answer written to a lent buffer.
+#![tactic(auto)]
+
 ghost use Rattle.std.specs.Prelude.{◌+◌, ◌≤◌, ◌<◌, length};
 ghost use Rattle.listing_rules.specs.Listing.{most_lines};
 ghost use Rattle.listing_rules.specs.Sizes.{most_answer_bytes};
@@ -13,7 +15,7 @@ use listing_text::{same_bytes, write_answer, write_bad_line, write_text};
 use records::layout::{EVENT_WIDTH, OPENING_WIDTH};
 
 // Whether a line is good, and where what is printed for it ends.
-#[derive(Drop)]
+#[derive(Clone, Copy)]
 pub struct Line {
     pub good: bool,
     pub at: usize,

@@ -7,7 +7,7 @@ use native.Mathlib.Nat.{not-suc-le-zero}
 use native.Mathlib.Omega.{arith}
 use lib.Dec.{eqb}
 use lib.ListN.{length, take, drop}
-use Rattle.bytes.specs.Bytes.{index_of, index_after}
+use Rattle.decimal.specs.Bytes.{index_of, index_after}
 use Rattle.decimal.specs.Decimal.{in_first}
 use Rattle.decimal.proofs.PartLaws.{parts_cut, parts_last}
 use Rattle.listing_rules.specs.Texts.{lines_of}

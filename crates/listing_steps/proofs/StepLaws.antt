@@ -7,7 +7,7 @@ use mathlib.Core.List.{List, [], ◌∷◌, ◌++◌, append-nil}
 use borrow.Author.Tests.{lt-ltb, le-ltb}
 use lib.ListN.{length, take, drop}
 use lib.Seq.{slice}
-use Rattle.bytes.specs.Bytes.{index_of}
+use Rattle.decimal.specs.Bytes.{index_of}
 use Rattle.decimal.proofs.FieldLaws.{take-of-drop}
 use Rattle.rules.specs.Book.{Book}
 use Rattle.rules.specs.Tables.{Tables, accounts_in, room_in, rows_used, book_of}

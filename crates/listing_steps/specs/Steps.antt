@@ -2,7 +2,7 @@
 -- come.
 use Rattle.std.specs.Prelude.{◌≡◌, true, false, cond, ℕ, ◌+◌, ◌≤◌, ◌<◌, List, [], ◌++◌, length}
 use Rattle.std.proofs.Math.Seq.{slice}
-use Rattle.bytes.specs.Bytes.{index_of}
+use Rattle.decimal.specs.Bytes.{index_of}
 use Rattle.rules.specs.Tables.{Tables, book_of}
 use Rattle.listing_rules.specs.Texts.{lines_of}
 use Rattle.listing_rules.specs.Listing.{most_lines, listed}

@@ -1,8 +1,10 @@
 // The listing, step by step over a buffer of its input: the next line is taken where it is whole, and after the last one the book is
 // printed.
+#![tactic(auto)]
+
 ghost use Rattle.std.specs.Prelude.{◌≡◌, [], ◌+◌, ◌≤◌, ◌<◌, length};
 ghost use Rattle.std.proofs.Math.Seq.{slice};
-ghost use Rattle.bytes.specs.Bytes.{index_of};
+ghost use Rattle.decimal.specs.Bytes.{index_of};
 ghost use Rattle.rules.specs.Tables.{book_of};
 ghost use Rattle.listing_rules.specs.Texts.{lines_of};
 ghost use Rattle.listing_rules.specs.Listing.{most_lines, listed};
@@ -19,7 +21,7 @@ use listing_text::write_bad_line;
 
 // Where the listing stands: so many lines are taken; the input's bytes from one place up to another are read and not taken; what is printed
 // ends here in its buffer. It waits where no whole line is left to take, and is over where a bad line has ended the output.
-#[derive(Drop)]
+#[derive(Clone, Copy)]
 pub struct Place {
     pub lines: u64,
     pub from: usize,

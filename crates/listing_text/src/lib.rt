@@ -1,5 +1,7 @@
 // The lines that the listing prints, written to a lent buffer: fields and names, an event's answer, a bad line; and whether a line that
 // is read has given bytes.
+#![tactic(auto)]
+
 ghost use Rattle.std.specs.Prelude.{◌≡◌, [], ◌∷◌, ◌++◌, ◌+◌, ◌≤◌, length};
 ghost use Rattle.decimal.specs.Decimal.{digits_of};
 ghost use Rattle.listing_rules.specs.Texts.{same, answer_text, bad_line};
@@ -31,7 +33,8 @@ pub fn write_text(out: &mut [u8], at: usize, text: &[u8]) -> usize
     requires { at + length text.now ≤ length out.old }
     ensures { Puts out.old out.new at result text.now }
 {
-    let n = bytes::copy(text, &mut out[at..]);
+    let n = text.len();
+    out[at..at + n].copy_from_slice(text);
     at + n
 }
 

@@ -1,0 +1,12 @@
+-- Where a byte stands in a list of bytes.
+use Rattle.std.specs.Prelude.{ℕ, suc, Bool, true, false, List, [], ◌∷◌, eqb}
+
+-- the place in a list with one more byte before it, from the place without: 0 where that byte is the one looked for
+unfoldable pub index_after : Bool → ℕ → ℕ
+index_after true n = 0
+index_after false n = suc n
+
+-- the place of the first byte c in a list, the list's length where there is none
+unfoldable pub index_of : ℕ → List ℕ → ℕ
+index_of c [] = 0
+index_of c (b ∷ bs) = index_after (eqb b c) (index_of c bs)
