@@ -1,5 +1,7 @@
 // What the rows come to for each account, in arrays by account number: returned checks, used sources, unused money, settled debits, debts
 // that settlement may pay, and all that is unsettled.
+#![tactic(auto)]
+
 ghost use Rattle.std.specs.Prelude.{◌≡◌, cond, ◌+◌, ◌*◌, ◌^◌, ◌≤◌, ◌<◌, get_or, set};
 ghost use Rattle.records.specs.Limits.{most_rows, highest_refund, slot_count};
 ghost use Rattle.account_sums.specs.Columns.{Low, raised, with_source, with_debit, Addable, sums_size};

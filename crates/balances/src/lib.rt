@@ -1,4 +1,6 @@
 // The sums of an account's sources and of its debits, its unused money, and whether its top-up is due.
+#![tactic(auto)]
+
 ghost use Rattle.std.specs.Prelude.{◌≡◌, true, ◌+◌, ◌<◌};
 ghost use Rattle.records.specs.Encoding.{rows_of};
 ghost use Rattle.rules.specs.Settlement.{money};

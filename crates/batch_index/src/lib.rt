@@ -1,5 +1,7 @@
 // The index that a batch keeps of the journal in two arrays of its own, so that no event searches all rows: the trees of passage numbers
 // and, for each account, from which row on something of its sources and of its debits can be left, and its unused money.
+#![tactic(auto)]
+
 ghost use Rattle.std.specs.Prelude.{◌≡◌, true, ◌+◌, ◌^◌, ◌≤◌, ◌<◌, ltb, length, get_or, set, drop};
 ghost use Rattle.records.specs.Encoding.{row_at, rows_of};
 ghost use Rattle.lists.specs.Lists.{only};

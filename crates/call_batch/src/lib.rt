@@ -1,5 +1,7 @@
 // A batch of event records on tables of any lengths and contents: soundness and the lengths once, then each event posted in order and its
 // answer written.
+#![tactic(auto)]
+
 ghost use Rattle.std.specs.Prelude.{◌≡◌, true};
 ghost use Rattle.rules.specs.Tables.{sound_tables};
 ghost use Rattle.posting.specs.Posts.{Posts};

@@ -1,4 +1,6 @@
 // A single event on tables of any lengths and contents: soundness, the lengths, the event, its answer written.
+#![tactic(auto)]
+
 ghost use Rattle.std.specs.Prelude.{pos};
 ghost use Rattle.rules.specs.Calls.{event_call, Gives};
 ghost use Rattle.call_event.specs.EventCalls.{AnswersTo};

@@ -1,4 +1,6 @@
 // Opening: lent tables of any contents become the book of a first day, a schedule and six rates, all else 0.
+#![tactic(auto)]
+
 ghost use Rattle.std.specs.Prelude.{◌≡◌, true, [], ◌++◌, pos, ◌+◌, ◌-◌, ◌≤◌, ◌<◌, length, get_or, set, take, drop, replicate};
 ghost use Rattle.std.proofs.Math.Seq.{paste};
 ghost use Rattle.records.specs.Layout.{header_width};

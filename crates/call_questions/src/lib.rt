@@ -1,5 +1,7 @@
 // The questions, which change nothing: an account's balance, whether its top-up is due, and a row's words as a part of the lent journal.
 // Each checks the book first.
+#![tactic(auto)]
+
 ghost use Rattle.std.specs.Prelude.{◌≡◌, pos, ◌&&◌};
 ghost use Rattle.lists.specs.Tests.{◌from◌to◌, first};
 ghost use Rattle.rules.specs.Tables.{rows_used, sound_tables};

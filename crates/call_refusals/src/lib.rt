@@ -1,3 +1,5 @@
 // Why a call that posts events is refused before it reads one: the book is not sound, or a length is not what document 01 says.
+#![tactic(auto)]
+
 pub mod single; // single.rt: of a single event
 pub mod batch; // batch.rt: of a batch

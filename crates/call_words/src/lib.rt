@@ -1,4 +1,6 @@
 // An event read from words or from a record, and an answer written to its five words.
+#![tactic(auto)]
+
 ghost use Rattle.std.specs.Prelude.{◌≡◌, ◌*◌, ◌≤◌, length};
 ghost use Rattle.records.specs.Layout.{event_width, answer_width};
 ghost use Rattle.records.specs.Encoding.{instruction_from, instruction_of, answer_words};

@@ -1,4 +1,6 @@
 // Events 1 and 8, which change an account alone.
+#![tactic(auto)]
+
 ghost use Rattle.std.specs.Prelude.{◌≡◌, true};
 ghost use Rattle.rules.specs.Tables.{sound_tables};
 ghost use Rattle.posting.specs.Posts.{Posts};

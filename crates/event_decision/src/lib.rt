@@ -1,4 +1,6 @@
 // Event 6: a decision.
+#![tactic(auto)]
+
 pub mod fees; // fees.rt: the fees of a toll, summed and settled
 
 ghost use Rattle.std.specs.Prelude.{◌≡◌, true};

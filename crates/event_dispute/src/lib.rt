@@ -1,4 +1,6 @@
 // Event 5: a dispute.
+#![tactic(auto)]
+
 ghost use Rattle.std.specs.Prelude.{◌≡◌, true};
 ghost use Rattle.rules.specs.Events.{hold_from};
 ghost use Rattle.rules.specs.Refusals.{answer_number};

@@ -1,4 +1,6 @@
 // The form of each event: which words it may have (document 01, "words not named are 0, else the event is malformed").
+#![tactic(auto)]
+
 ghost use Rattle.std.specs.Prelude.{◌≡◌};
 ghost use Rattle.rules.specs.Refusals.{zero_from-f, zero_from-c, open_form, toll_form, payment_form, return_form, dispute_form, decision_form, result_form, request_form, tick_form, list_form, well_formed};
 ghost use Rattle.rules.specs.Schedule.{rates_fit};

@@ -1,4 +1,6 @@
 // Event 10: a rate list (document 02, No. 1).
+#![tactic(auto)]
+
 ghost use Rattle.std.specs.Prelude.{◌≡◌, true, ◌+◌, ◌≤◌, length, take, drop};
 ghost use Rattle.records.specs.Codes.{event_rate_list};
 ghost use Rattle.records.specs.Layout.{list_width};

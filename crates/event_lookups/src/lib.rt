@@ -1,5 +1,7 @@
 // What is looked up in the tables for an event before it is posted: whether a toll's passage number stands in the journal, whether a
 // top-up is due, and from which rows on something of the account's can be left.
+#![tactic(auto)]
+
 ghost use Rattle.std.specs.Prelude.{◌≡◌, true, ◌&&◌, ◌*◌, ◌≤◌, length};
 ghost use Rattle.records.specs.Layout.{row_width};
 ghost use Rattle.records.specs.Encoding.{rows_of};

@@ -1,4 +1,6 @@
 // The class of a vehicle and its rate (document 01, event 2; document 02, No. 1).
+#![tactic(auto)]
+
 ghost use Rattle.std.specs.Prelude.{◌≡◌, ◌≤◌};
 ghost use Rattle.records.specs.Layout.{later_lists};
 ghost use Rattle.rules.specs.Schedule.{class, rate};

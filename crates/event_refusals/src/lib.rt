@@ -1,4 +1,6 @@
 // The refusals that are decided for every kind of event alike, 2, 15 and 3 to 5, once, before anything is looked up for the event.
+#![tactic(auto)]
+
 ghost use Rattle.std.specs.Prelude.{◌≡◌, true, length};
 ghost use Rattle.lists.specs.Tests.{first};
 ghost use Rattle.rules.specs.Book.{Book, account};

@@ -1,4 +1,6 @@
 // Event 4: a returned check.
+#![tactic(auto)]
+
 ghost use Rattle.std.specs.Prelude.{◌≡◌, true};
 ghost use Rattle.records.specs.Layout.{day_place};
 ghost use Rattle.records.specs.Encoding.{word, StorableRow};

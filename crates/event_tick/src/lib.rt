@@ -1,4 +1,6 @@
 // Event 9, the day tick: it refuses before it writes anything.
+#![tactic(auto)]
+
 ghost use Rattle.std.specs.Prelude.{◌≡◌, true};
 ghost use Rattle.rules.specs.Tables.{book_of, sound_tables};
 ghost use Rattle.posting.specs.Posts.{Posts};

@@ -1,4 +1,6 @@
 // Event 2: a toll.
+#![tactic(auto)]
+
 ghost use Rattle.std.specs.Prelude.{◌≡◌, true};
 ghost use Rattle.rules.specs.Refusals.{answer_number};
 ghost use Rattle.rules.specs.Tables.{book_of, sound_tables};

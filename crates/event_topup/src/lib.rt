@@ -1,4 +1,6 @@
 // Event 7: the result of a top-up.
+#![tactic(auto)]
+
 ghost use Rattle.std.specs.Prelude.{◌≡◌, true, cond};
 ghost use Rattle.records.specs.AccountOperations.{last_decline};
 ghost use Rattle.rules.specs.Refusals.{answer_number};

@@ -1,5 +1,7 @@
 // A row's or an account's words read for a pass over a whole table: as they are, where each is tested against a limit that no negative
 // word meets, and as a plain number, where it is known to be one. Both cost nothing beside the read.
+#![tactic(auto)]
+
 pub mod accounts; // accounts.rt: an account's words
 
 ghost use Rattle.std.specs.Prelude.{◌≡◌, ◌^◌, ◌<◌, length};

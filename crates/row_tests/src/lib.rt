@@ -1,4 +1,6 @@
 // Tests on a row as a value: what remains of it, whether it is a source, a debit, held.
+#![tactic(auto)]
+
 ghost use Rattle.std.specs.Prelude.{◌≡◌, ◌*◌, ◌≤◌, length};
 ghost use Rattle.records.specs.Layout.{row_width};
 ghost use Rattle.records.specs.Encoding.{rows_of};

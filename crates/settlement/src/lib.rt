@@ -1,5 +1,7 @@
 // The settlement of one account over the journal: unused sources in row order pay unsettled unheld debits in row order, until either side
 // is spent.
+#![tactic(auto)]
+
 ghost use Rattle.std.specs.Prelude.{◌≡◌, ◌+◌, ◌*◌, ◌^◌, ◌≤◌, ◌<◌, min, length};
 ghost use Rattle.records.specs.Layout.{row_width};
 ghost use Rattle.records.specs.Encoding.{row_at, rows_of};

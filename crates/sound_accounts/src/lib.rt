@@ -1,4 +1,6 @@
 // The clauses of soundness on an account by itself. Each test returns at once, as those on rows do.
+#![tactic(auto)]
+
 ghost use Rattle.std.specs.Prelude.{◌≡◌};
 ghost use Rattle.rules.specs.Soundness.{state_fits, unused_zero, request_fits, topup_fits, decline_fits};
 ghost use Rattle.sound_accounts.specs.Alone.{account_alone};

@@ -1,5 +1,7 @@
 // "A toll of stage k is named by at most k - 1 fees": the fees that name each row are counted as they come, and one too many is refused
 // at once.
+#![tactic(auto)]
+
 ghost use Rattle.std.specs.Prelude.{◌≡◌, ◌<◌, length, get_or};
 ghost use Rattle.records.specs.Limits.{most_rows};
 ghost use Rattle.sound_fees.specs.Fees.{CountsOne};

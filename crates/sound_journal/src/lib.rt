@@ -1,4 +1,6 @@
 // The clauses of soundness on each row of the journal: its own, its account, its reference; and the rows past the used ones.
+#![tactic(auto)]
+
 ghost use Rattle.std.specs.Prelude.{◌≡◌, ℕ, ◌*◌, ◌≤◌, length, eqb};
 ghost use Rattle.records.specs.Layout.{row_width, account_width};
 ghost use Rattle.records.specs.Encoding.{rows_of, accounts_of};

@@ -1,4 +1,6 @@
 // The clauses of soundness on the header's rate lists: the first one, the used ones of those after it, and the words after these.
+#![tactic(auto)]
+
 ghost use Rattle.std.specs.Prelude.{◌≡◌, ◌&&◌, ◌<◌, length, drop, ltb};
 ghost use Rattle.lists.specs.Lists.{every};
 ghost use Rattle.records.specs.Layout.{header_width, later_lists};

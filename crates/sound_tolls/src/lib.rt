@@ -1,5 +1,7 @@
 // The clauses of soundness on a toll's own words and days. Each test returns at once, so that a sound row costs one well-predicted branch
 // a test.
+#![tactic(auto)]
+
 ghost use Rattle.std.specs.Prelude.{◌≡◌, not, ◌&&◌, ◌≤◌, ltb};
 ghost use Rattle.records.specs.Limits.{final_day, longest_stage};
 ghost use Rattle.rules.specs.Rows.{kind_toll, last_stage, unsettled, held_toll};

@@ -1,5 +1,7 @@
 // The one pass of the check over the journal: each row is read once, and its kind decides once how it is tested, inserted among the
 // passage numbers, counted where it is a fee, and added to the sums of its account.
+#![tactic(auto)]
+
 ghost use Rattle.std.specs.Prelude.{◌≡◌, List, ℕ, ◌+◌, ◌<◌};
 ghost use Rattle.rules.specs.Rows.{kind_toll, kind_payment};
 ghost use Rattle.sound_header.specs.Clauses.{Bounds};

@@ -1,5 +1,7 @@
 // The check of a whole book: whether three lent tables of any lengths and contents are sound, in time that grows with the rows and
 // accounts.
+#![tactic(auto)]
+
 ghost use Rattle.std.specs.Prelude.{◌≡◌, ◌≤◌};
 ghost use Rattle.records.specs.Limits.{most_rows};
 ghost use Rattle.rules.specs.Tables.{sound_tables};

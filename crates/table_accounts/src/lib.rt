@@ -1,4 +1,6 @@
 // An account of the accounts' table, read and written as a value.
+#![tactic(auto)]
+
 ghost use Rattle.std.specs.Prelude.{◌≡◌, ◌+◌, ◌*◌, ◌≤◌, length, take, drop};
 ghost use Rattle.records.specs.Layout.{account_width};
 ghost use Rattle.records.specs.Encoding.{account_at, accounts_of, account_words, StorableAccount};

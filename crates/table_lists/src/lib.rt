@@ -1,4 +1,6 @@
 // The rate lists of a header: how many are used, when each begins, and which one is in force on a day.
+#![tactic(auto)]
+
 ghost use Rattle.std.specs.Prelude.{◌≡◌, ◌<◌, length};
 ghost use Rattle.records.specs.Layout.{header_width, later_lists};
 ghost use Rattle.rules.specs.RateLists.{last_first_day};

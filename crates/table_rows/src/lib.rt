@@ -1,4 +1,6 @@
 // A row of the journal, read and written as a value.
+#![tactic(auto)]
+
 ghost use Rattle.std.specs.Prelude.{◌≡◌, ◌+◌, ◌*◌, ◌^◌, ◌≤◌, ◌<◌, length, take, drop};
 ghost use Rattle.records.specs.Layout.{row_width};
 ghost use Rattle.records.specs.Encoding.{row_at, rows_of, row_words, StorableRow};

@@ -1,5 +1,7 @@
 // The last step of a day tick: each pending account whose 15 days are over and that owes nothing closes, and its unused money leaves as
 // one refund row.
+#![tactic(auto)]
+
 ghost use Rattle.std.specs.Prelude.{◌≡◌, ◌/◌, length};
 ghost use Rattle.records.specs.Layout.{account_width};
 ghost use Rattle.records.specs.Encoding.{row_at};

@@ -1,5 +1,7 @@
 // The first steps of a day tick: holds begun 30 days ago end as by verdict 0, then settlement of the accounts for which something can
 // have changed.
+#![tactic(auto)]
+
 ghost use Rattle.std.specs.Prelude.{◌+◌, ◌≤◌, ◌<◌};
 ghost use Rattle.records.specs.Encoding.{row_at};
 ghost use Rattle.records.specs.Limits.{most_accounts, slot_count};

@@ -1,5 +1,7 @@
 // The plan of a day tick, made on the tables before it writes anything: how many rows it adds, which are the fees of the tolls that will
 // rise and a refund for each account that will close with money left; whether a hold ends; whether an account closes.
+#![tactic(auto)]
+
 mod fees; // fees.rt: the fee of a toll that will rise
 mod holds; // holds.rt: the tolls that stay held and those whose hold ends
 mod rows; // rows.rt: what the used rows come to, in one pass

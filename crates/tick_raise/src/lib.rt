@@ -1,4 +1,6 @@
 // The fourth step of a day tick: tolls due today rise a stage, and from stage 2 a nonzero fee row naming each is added.
+#![tactic(auto)]
+
 ghost use Rattle.std.specs.Prelude.{◌≡◌, ◌+◌, ◌-◌, ◌/◌, ◌^◌, ◌≤◌, ◌<◌, length};
 ghost use Rattle.lists.specs.Lists.{count};
 ghost use Rattle.records.specs.Layout.{day_place, row_width};

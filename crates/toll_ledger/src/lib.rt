@@ -1,5 +1,7 @@
 // The calls of the ledger: each thin over the call of the same name, its contract that call's own, with no `requires`. The crate
 // toll_ledger_c exports them to C.
+#![tactic(auto)]
+
 ghost use Rattle.std.specs.Prelude.{[]};
 ghost use Rattle.rules.specs.Calls.{Gives, Replies, open_call, event_call, batch_call, balance_call, topup_due_call};
 ghost use Rattle.rules.specs.Lent.{at_entry, at_exit};

@@ -25,12 +25,11 @@ pub loop-a-smaller : goal.loop-a-smaller
 loop-a-smaller c = omega arith
 
 pub loop-a-preserved : goal.loop-a-preserved
-loop-a-preserved c =
-    (
-      omega arith,
-      rw (c.put_money.ensures, c.put_first-in-loop-a.ensures, c.put_first.ensures)
-          (resetting-more _ _ _ c.loop-a-test.true c.loop-a.invariant.1),
-    )
+loop-a-preserved c = (
+  omega arith,
+  rw (c.put_money.ensures, c.put_first-in-loop-a.ensures, c.put_first.ensures)
+      (resetting-more _ _ _ c.loop-a-test.true c.loop-a.invariant.1),
+)
 
 pub returns : goal.returns
 returns c = let e : c.loop-a.a ≡ slot_count = omega arith in resetting-all _ _ (rw e at c.loop-a.invariant.1)

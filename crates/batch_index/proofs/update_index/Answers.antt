@@ -22,13 +22,12 @@ returns-then-may_pay_held c =
     index-made _ _ _ _ c.get-used.ensures c.index_passages.ensures c.index_slots.ensures
 
 pub update_slots-requires : goal.update_slots-requires
-update_slots-requires c =
-    (
-      rw c.get-used.ensures (sound-indexable _ c.requires.0).rows,
-      omega (arith, c.get-used.ensures, c.requires.1),
-      c.requires.2.hold,
-      rw c.get-used.ensures (c.requires.2.moneys (sym c.may_pay_held.ensures ∙ c.if-may_pay_held.false)),
-    )
+update_slots-requires c = (
+  rw c.get-used.ensures (sound-indexable _ c.requires.0).rows,
+  omega (arith, c.get-used.ensures, c.requires.1),
+  c.requires.2.hold,
+  rw c.get-used.ensures (c.requires.2.moneys (sym c.may_pay_held.ensures ∙ c.if-may_pay_held.false)),
+)
 
 pub returns : goal.returns
 returns c =

@@ -19,8 +19,7 @@ loop-k-smaller c = omega arith
 
 pub loop-k-preserved : goal.loop-k-preserved
 loop-k-preserved c =
-    let e = c.copy_word.ensures in
-    (
+    let e = c.copy_word.ensures in (
       omega arith,
       rw e (length-set c.loop-k.t _ _ ∙ c.loop-k.invariant.1),
       rw (e, c.loop-k.invariant.2) (copied_more c.args.t.now c.args.from.now c.args.i c.args.j c.loop-k.k (omega arith) (omega arith)),

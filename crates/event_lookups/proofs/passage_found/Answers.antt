@@ -38,7 +38,7 @@ loop-i-preserved c =
       omega arith,
       passage-passed _ _ l.i l.invariant.1
           (elim c.if-reference_at-passage.branch [
-            then-reference_at-passage+else-kind_at-eq-KIND_TOLL w ↦ other-kind a.passage r (λ e. w.if-kind_at-eq-KIND_TOLL.false (w.kind_at.ensures ∙ e))
+            | then-reference_at-passage+else-kind_at-eq-KIND_TOLL w ↦ other-kind a.passage r (λ e. w.if-kind_at-eq-KIND_TOLL.false (w.kind_at.ensures ∙ e))
             | else-reference_at-passage w ↦ other-passage a.passage r (λ e. w.if-reference_at-passage.false (c.reference_at.ensures ∙ e))
           ]),
     )

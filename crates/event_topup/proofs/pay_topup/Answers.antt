@@ -16,11 +16,10 @@ pub overflow_sub-e : goal.overflow_sub-e
 overflow_sub-e c = (paid-inside _ _ c.requires.0).0
 
 pub write_account-requires : goal.write_account-requires
-write_account-requires c =
-    (
-      paid-in _ _ c.requires.0,
-      rw (c.pay_topup-paid.ensures, c.requires.2) (paid-account-storable _ c.args.e c.requires.0),
-    )
+write_account-requires c = (
+  paid-in _ _ c.requires.0,
+  rw (c.pay_topup-paid.ensures, c.requires.2) (paid-account-storable _ c.args.e c.requires.0),
+)
 
 pub get-requires : goal.get-requires
 get-requires c = omega (arith, header-length _ c.requires.0.sound)

@@ -11,7 +11,6 @@ use Rattle.settlement.proofs.WalkLaws.{Walking, walking_start, walking-debit, wa
 use Rattle.settlement.proofs.settle_from.Goals as goal
 use Rattle.settlement.proofs.settle_from.Goals.{After-lesser-m}
 
-
 turn-from : (c : After-lesser-m) (old : List ℤ)
     → Walking c.args.account c.args.used old c.sources.journal c.sources.i c.sources.j
     → Turn c.args.account c.args.used old c.loop-x.journal c.sources.i c.next_debit-j.result c.lesser-m.result
