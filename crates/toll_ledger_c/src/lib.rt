@@ -1,6 +1,7 @@
 // The exports of the static library that C hosts link: each calls toll_ledger's function of the same name, and has its clauses. Every table
 // is a pointer and its length in words; include/toll_ledger.h declares them.
 #![tactic(auto)]
+
 ghost use Rattle.std.specs.Prelude.{[]};
 ghost use Rattle.rules.specs.Calls.{Gives, Replies, open_call, event_call, batch_call, balance_call, topup_due_call};
 ghost use Rattle.rules.specs.Lent.{at_entry, at_exit};

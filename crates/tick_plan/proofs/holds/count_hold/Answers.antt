@@ -36,8 +36,7 @@ add-requires c =
 
 pub returns : goal.returns
 returns c =
-    let r = (goal.at.returns c).After-read_row-r in
-    (
+    let r = (goal.at.returns c).After-read_row-r in (
       share-added (stays_of c.args.today) (λ r. held_toll r && not (hold_ends c.args.today r)) (λ r. 1) (share-stays c.args.today) c.args.journal.now c.args.stays.now c.args.i c.requires.2 c.args.used c.requires.0 c.requires.1
           r.read_row-r.result r.read_row-r.ensures c.part.result (added (goal.at.returns c).After-part) _ c.add.ensures,
       c.hold_ends-ends.ensures ∙ rw r.read_row-r.ensures,
