@@ -15,7 +15,7 @@ use Rattle.lists.proofs.GatherLaws.{gather-each, grown-at, grown-each, length-ch
 use Rattle.records.specs.Limits.{final_day}
 use Rattle.rules.specs.Rows.{Row, blank, remaining, source, debit_of}
 use Rattle.rules.specs.Settlement.{money, debt, moved}
-use Rattle.rules.specs.Book.{unused, Instruction, Book, account, with_rows, settled}
+use Rattle.rules.specs.Book.{unused, Instruction, Book, with_rows, settled}
 use Rattle.rules.specs.Tick.{next_day, end_holds, before_raising, raise_tolls, closes, close_if, refund_row, use_up, close_accounts, tick}
 use Rattle.rules.specs.Refusals.{change_of, after}
 use Rattle.rules.proofs.SettlementAccountsLaws.{settle_accounts-no-idle-money, settle_accounts-same}

@@ -11,8 +11,8 @@ use Rattle.lists.specs.Lists.{gather}
 use Rattle.lists.proofs.TestLaws.{and_left, and_right}
 use Rattle.lists.proofs.GatherLaws.{gather-same}
 use Rattle.records.specs.Limits.{hold_days}
-use Rattle.rules.specs.Rows.{Row, blank, held_toll, held}
-use Rattle.rules.specs.Book.{Book, settled}
+use Rattle.rules.specs.Rows.{Row, blank, held_toll}
+use Rattle.rules.specs.Book.{Book}
 use Rattle.rules.specs.Events.{release}
 use Rattle.rules.specs.Tick.{hold_ends, rises, fee_row}
 use Rattle.rules.proofs.AllocationLaws.{bare}
