@@ -1,0 +1,10 @@
+-- `event_call` meets its contract: the answer is written where there is room for it.
+use Rattle.call_event.proofs.EventCallLaws.{call-unwritten, call-written}
+use borrow.Author.Rules.{rules}
+use Rattle.call_event.proofs.event_call.Goals as goal
+
+pub returns-then-answer-lt-ANSWER_WIDTH : goal.returns-then-answer-lt-ANSWER_WIDTH
+returns-then-answer-lt-ANSWER_WIDTH c = call-unwritten _ _ _ _ _ c.answer_to-x.ensures c.if-answer-lt-ANSWER_WIDTH.true
+
+pub returns : goal.returns
+returns c = rw c.write_answer.ensures (call-written _ _ _ _ _ c.answer_to-x.ensures c.if-answer-lt-ANSWER_WIDTH.false)
