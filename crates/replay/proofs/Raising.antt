@@ -8,12 +8,11 @@ use native.Mathlib.Decide.{dec_lt}
 use mathlib.Core.List.{List, map}
 use lib.ListN.{length, get_or}
 use borrow.Author.Tests.{eqb-true, eq-eqb, not-true}
-use Rattle.lists.specs.Tests.{◌is◌}
 use Rattle.lists.proofs.TestLaws.{and3}
 use Rattle.lists.proofs.ListLaws.{map_at}
 use Rattle.lists.proofs.PairLaws.{pairs-in}
 use Rattle.rules.specs.Rows.{Row, kind_toll, last_stage, blank, with_due, with_mark, toll, held_toll, held, unsettled}
-use Rattle.rules.specs.Book.{Book, settled}
+use Rattle.rules.specs.Book.{Book}
 use Rattle.rules.specs.Events.{release}
 use Rattle.rules.specs.Tick.{rises, raise}
 use Rattle.rules.specs.SoundFacts.{Sound}

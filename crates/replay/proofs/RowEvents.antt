@@ -23,7 +23,7 @@ use Rattle.rules.specs.SoundFacts.{Near}
 use Rattle.replay.specs.Entries.{Entry, no_entry, entry_no, new_entry, with_covered, with_hold, cover_whole, uncovered, fee_of}
 use Rattle.replay.specs.Replay.{Note, Replay, change_entry, add_return, set_hold, toll_and_fees, add_credit, free_toll}
 use Rattle.replay.specs.Demand3.{toll_named}
-use Rattle.replay.proofs.Relation.{SameLine, Match, Named, Noted, Rows, Agrees, counts-other}
+use Rattle.replay.proofs.Relation.{SameLine, Match, Named, Noted, Agrees, counts-other}
 use Rattle.replay.proofs.SoundRows.{sound-row}
 use Rattle.replay.proofs.Growing.{Referring, referring, Kept, kept_self, kind-kept, SameToll, grow, regrow, Place, row-place, number_at, rows-no}
 use Rattle.replay.proofs.PlainEvents.{noted-no, account-agrees}

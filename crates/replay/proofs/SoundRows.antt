@@ -1,14 +1,14 @@
 -- What soundness says of a row, in numbers.
 use mathlib.Core.Path.{◌≡◌, refl}
-use mathlib.Core.Bool.{Bool, true, false, not, ◌&&◌, ◌||◌, false≢true}
+use mathlib.Core.Bool.{Bool, true, false, not, ◌||◌, false≢true}
 use Prim.Native.Nat.{ℕ, zero, suc, ◌≤◌, ◌<◌}
 use native.Mathlib.Omega.{arith}
 use mathlib.Core.List.{List}
 use native.Mathlib.Decide.{dec_lt}
 use lib.ListN.{length, get_or, get_or-eq_default}
-use lib.Dec.{leb, ltb}
+use lib.Dec.{ltb}
 use borrow.Author.Tests.{leb-true, ltb-true, eqb-true}
-use Rattle.lists.specs.Tests.{◌is◌, ◌from◌to◌, ◌implies◌}
+use Rattle.lists.specs.Tests.{◌is◌, ◌implies◌}
 use Rattle.lists.proofs.TestLaws.{and_left, and_right, and3}
 use Rattle.rules.specs.Rows.{Row, kind_toll, kind_fee, kind_payment, last_stage, dispute_held, blank, row_no, toll, held_toll, unsettled}
 use Rattle.rules.specs.Book.{Account, unused, state_unused, Book, account_no}
