@@ -5,7 +5,6 @@ use mir.Facts.{to_z-of_z}
 use mir.ValLaws.{to_z_pos}
 use mir.Syntax.{w64}
 use mathlib.Core.Path.{◌∙◌}
-use borrow.Author.Rules.{rules}
 use Rattle.tables.proofs.words.minus.Goals as goal
 
 pub overflow_sub-result : goal.overflow_sub-result

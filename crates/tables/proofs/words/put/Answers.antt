@@ -1,7 +1,6 @@
 -- `put` meets its contract: a number below 2 ^ 63 is itself as a signed word.
 use mir.ValLaws.{to_z_pos}
 use mir.Syntax.{w64}
-use borrow.Author.Rules.{rules}
 use Rattle.tables.proofs.words.put.Goals as goal
 
 pub returns : goal.returns
