@@ -16,16 +16,15 @@ LISTING = target/bin/listing
 FILE = examples/listing.csv
 
 # What library and program are made of: newer than they, and they are proved and built again.
-SOURCES := crates.txt $(shell find crates -name '*.rt' -o -name '*.antt')
+SOURCES := crates.txt $(shell find crates -name out -prune -o \( -name '*.rt' -o -name '*.antt' \) -print)
 
 .PHONY: build install uninstall host listing list test times bench clean
 
 build: $(LIBRARY)
 
 $(LIBRARY): $(SOURCES)
-	$(RT) check toll_ledger
-	$(RT) staticlib toll_ledger
-	@touch $@
+	cd crates/toll_ledger_c && $(RT) lib
+	install -D -m 644 crates/toll_ledger_c/out/libtoll_ledger_c.a $@
 
 # The example host, against the library as it stands here.
 host: target/host
@@ -37,8 +36,8 @@ target/host: examples/host.c include/toll_ledger.h $(LIBRARY)
 listing: $(LISTING)
 
 $(LISTING): $(SOURCES)
-	$(RT) check listing
-	@touch $@
+	cd crates/listing && $(RT) run > /dev/null
+	install -D crates/listing/out/listing $@
 
 list: $(LISTING)
 	@$(LISTING) < $(FILE)
