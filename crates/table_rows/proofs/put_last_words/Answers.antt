@@ -1,7 +1,6 @@
 -- `put_last_words` meets its contract: five stores, in the layout's order.
 use Rattle.tables.specs.Changes.{put_all}
 use Rattle.records.specs.Encoding.{row_words}
-use borrow.Author.Rules.{rules}
 use Rattle.table_rows.proofs.put_last_words.Goals as goal
 
 pub returns : goal.returns

@@ -1,6 +1,5 @@
 -- `put_settled` meets its contract: one word of the row is put, and no other row has it.
 use Rattle.tables.proofs.ChangeLaws.{settled-changed}
-use borrow.Author.Rules.{rules}
 use Rattle.table_rows.proofs.put_settled.Goals as goal
 
 pub returns : goal.returns

@@ -3,7 +3,6 @@ use Rattle.lists.proofs.ListLaws.{numbered-at, numbered-past}
 use Rattle.rules.specs.Rows.{blank}
 use Rattle.records.specs.Encoding.{row_at}
 use mathlib.Core.Path.{sym, ◌∙◌}
-use borrow.Author.Rules.{rules}
 use Rattle.table_rows.proofs.row_numbered.Goals as goal
 
 pub returns-then-n-used : goal.returns-then-n-used

@@ -2,7 +2,6 @@
 use Rattle.tables.proofs.ChangeLaws.{row-changed}
 use Rattle.tables.specs.Changes.{put_all}
 use Rattle.records.specs.Encoding.{row_words}
-use borrow.Author.Rules.{rules}
 use Rattle.table_rows.proofs.write_row.Goals as goal
 
 pub returns : goal.returns
