@@ -1,0 +1,14 @@
+-- `post_record` meets its contract: the event is posted, its answer stands at its place, and the index is that of the tables after it.
+use borrow.Author.Rules.{rules}
+use mathlib.Core.Path.{◌∙◌}
+use Rattle.call_words.proofs.AnswerLaws.{answer-storable}
+use Rattle.call_batch.proofs.post_record.Goals as goal
+
+pub write_answer-requires : goal.write_answer-requires
+write_answer-requires c =
+    (c.requires.1, answer-storable _ c.requires.0 _ _ c.post_indexed-r.ensures.0.answer)
+
+pub returns : goal.returns
+returns c =
+    let q = rw c.event_of.ensures at c.post_indexed-r.ensures.0 in
+    (record { tables = q.tables; answers = c.write_answer.ensures ∙ rw q.answer }, c.post_indexed-r.ensures.1)
