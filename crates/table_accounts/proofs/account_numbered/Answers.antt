@@ -3,7 +3,6 @@ use Rattle.lists.proofs.ListLaws.{numbered-at, numbered-past}
 use Rattle.rules.specs.Book.{unused}
 use Rattle.records.specs.Encoding.{account_at}
 use mathlib.Core.Path.{sym, ◌∙◌}
-use borrow.Author.Rules.{rules}
 use Rattle.table_accounts.proofs.account_numbered.Goals as goal
 
 pub returns-then-n-count : goal.returns-then-n-count

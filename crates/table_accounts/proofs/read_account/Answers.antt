@@ -1,6 +1,5 @@
 -- `read_account` meets its contract: seven words, read in the layout's order.
 use Rattle.records.specs.Encoding.{account_from}
-use borrow.Author.Rules.{rules}
 use Rattle.table_accounts.proofs.read_account.Goals as goal
 
 pub returns : goal.returns

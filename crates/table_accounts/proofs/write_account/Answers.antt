@@ -2,7 +2,6 @@
 use Rattle.tables.proofs.ChangeLaws.{account-changed}
 use Rattle.tables.specs.Changes.{put_all}
 use Rattle.records.specs.Encoding.{account_words}
-use borrow.Author.Rules.{rules}
 use Rattle.table_accounts.proofs.write_account.Goals as goal
 
 pub returns : goal.returns
