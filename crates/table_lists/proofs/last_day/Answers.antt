@@ -4,7 +4,6 @@ use Rattle.table_lists.proofs.UsedLaws.{used-few}
 use native.Mathlib.Omega.{arith}
 use mathlib.Core.Path.{◌≡◌, sym, ◌∙◌}
 use Prim.Native.Nat.{suc, ◌-◌}
-use borrow.Author.Rules.{rules}
 use Rattle.table_lists.proofs.last_day.Goals as goal
 
 pub returns-then-used-eq0 : goal.returns-then-used-eq0

@@ -1,6 +1,5 @@
 -- `later_day` meets its contract: it is the word that is read.
 use Rattle.rules.specs.Tables.{list_from}
-use borrow.Author.Rules.{rules}
 use Rattle.table_lists.proofs.later_day.Goals as goal
 
 pub returns : goal.returns

@@ -1,10 +1,6 @@
 -- `list_on` meets its contract: every list passed has begun; the pass ends at the first that is unused or has not, or after the last.
 use Rattle.table_lists.proofs.OnDayLaws.{on-last, on-stop, passed-more}
-use Rattle.rules.specs.Tables.{later_list_at}
-use Rattle.records.specs.Layout.{later_lists}
 use native.Mathlib.Omega.{arith}
-use borrow.Author.Rules.{rules}
-use Prim.Native.Nat.{ℕ, ◌-◌, ◌≤◌, ◌<◌}
 use Rattle.table_lists.proofs.list_on.Goals as goal
 
 pub loop-i-init : goal.loop-i-init

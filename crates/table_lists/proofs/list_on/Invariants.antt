@@ -1,8 +1,5 @@
-use Rattle.table_lists.proofs.OnDayLaws.{on-last, on-stop, passed-more}
 use Rattle.rules.specs.Tables.{later_list_at}
 use Rattle.records.specs.Layout.{later_lists}
-use native.Mathlib.Omega.{arith}
-use borrow.Author.Rules.{rules}
 use Prim.Native.Nat.{ℕ, ◌-◌, ◌≤◌, ◌<◌}
 use Rattle.table_lists.proofs.list_on.Given as goal
 

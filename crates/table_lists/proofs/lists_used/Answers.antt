@@ -2,12 +2,10 @@
 use Rattle.table_lists.proofs.UsedLaws.{used_of, flag-le, used-more}
 use Rattle.rules.specs.Tables.{lists_used}
 use Rattle.records.specs.Layout.{later_lists}
-use mathlib.Core.Path.{◌≡◌, refl, sym, ◌∙◌}
+use mathlib.Core.Path.{◌≡◌, refl}
 use native.Mathlib.Omega.{arith}
-use borrow.Author.Rules.{rules}
 use lib.Dec.{ltb}
 use Rattle.lists.specs.Lists.{sum_by, count, tabulate}
-use Prim.Native.Nat.{◌+◌, ◌-◌, ◌≤◌}
 use Rattle.table_lists.proofs.lists_used.Goals as goal
 
 pub loop-i-init : goal.loop-i-init

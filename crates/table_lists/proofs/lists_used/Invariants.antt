@@ -1,12 +1,7 @@
-use Rattle.table_lists.proofs.UsedLaws.{used_of, flag-le, used-more}
-use Rattle.rules.specs.Tables.{lists_used}
+use Rattle.table_lists.proofs.UsedLaws.{used_of}
 use Rattle.records.specs.Layout.{later_lists}
-use mathlib.Core.Path.{◌≡◌, refl, sym, ◌∙◌}
-use native.Mathlib.Omega.{arith}
-use borrow.Author.Rules.{rules}
-use lib.Dec.{ltb}
-use Rattle.lists.specs.Lists.{sum_by, count, tabulate}
-use Prim.Native.Nat.{◌+◌, ◌-◌, ◌≤◌}
+use mathlib.Core.Path.{◌≡◌}
+use Prim.Native.Nat.{◌-◌, ◌≤◌}
 use Rattle.table_lists.proofs.lists_used.Given as goal
 
 abbrev pub invariant-loop-i : goal.invariant-loop-i
