@@ -1,6 +1,6 @@
 -- `get_bits` meets its contract: the word that was read is bits' argument.
 use Rattle.records.specs.Encoding.{word}
-use borrow.Author.Rules.{rules, sfits_of}
+use borrow.Author.Rules.{sfits_of}
 use mir.Facts.{to_z-of_z}
 use Rattle.plain_rows.proofs.get_bits.Goals as goal
 

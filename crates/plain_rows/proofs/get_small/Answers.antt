@@ -1,6 +1,6 @@
 -- `get_small` meets its contract: the word that was read is small's argument.
 use Rattle.records.specs.Encoding.{nat_of, word}
-use borrow.Author.Rules.{rules, sfits_of}
+use borrow.Author.Rules.{sfits_of}
 use mir.Facts.{to_z-of_z}
 use Rattle.std.proofs.Common.{w64}
 use mathlib.Core.Path.{ap, ◌∙◌}

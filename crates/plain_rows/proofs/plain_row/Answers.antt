@@ -1,6 +1,5 @@
 -- `plain_row` meets its contract: ten words, read in the layout's order.
 use Rattle.records.specs.Encoding.{row_from}
-use borrow.Author.Rules.{rules}
 use Rattle.plain_rows.proofs.plain_row.Goals as goal
 
 pub returns : goal.returns

@@ -1,7 +1,6 @@
 -- `small_settled` meets its contract: the word is the row's field.
 use Rattle.records.specs.Encoding.{row_from}
 use native.Mathlib.Omega.{arith}
-use borrow.Author.Rules.{rules}
 use Rattle.plain_rows.proofs.small_settled.Goals as goal
 
 pub get_small-requires : goal.get_small-requires

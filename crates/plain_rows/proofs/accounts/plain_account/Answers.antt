@@ -1,7 +1,6 @@
 -- `plain_account` meets its contract: seven words, read in the layout's order.
 use Rattle.records.specs.Encoding.{account_from}
 use Rattle.plain_rows.proofs.AlikeLaws.{alike-none, alike-more}
-use borrow.Author.Rules.{rules}
 use Rattle.plain_rows.proofs.accounts.plain_account.Goals as goal
 
 pub returns : goal.returns
