@@ -1,5 +1,4 @@
 -- `is_held` meets its contract.
-use borrow.Author.Rules.{rules}
 use mathlib.Core.Path.{◌∙◌, ap}
 use Rattle.rules.specs.Rows.{Row, held_toll}
 use Rattle.row_tests.proofs.RowTestLaws.{held-fee, held-other}
