@@ -3,7 +3,6 @@ use Rattle.account_sums.specs.Columns.{raised}
 use Prim.Native.Nat.{◌+◌}
 use mathlib.Core.Path.{refl}
 use native.Mathlib.Omega.{arith}
-use borrow.Author.Rules.{rules}
 use Rattle.account_sums.proofs.add_at.Goals as goal
 
 pub overflow_add-sums : goal.overflow_add-sums

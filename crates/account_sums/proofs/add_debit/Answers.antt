@@ -5,7 +5,6 @@ use Rattle.records.specs.Limits.{highest_refund}
 use Rattle.rules.specs.Rows.{remaining}
 use mathlib.Core.Bool.{not}
 use native.Mathlib.Omega.{arith}
-use borrow.Author.Rules.{rules}
 use Rattle.account_sums.proofs.add_debit.Goals as goal
 
 pub add_at-requires : goal.add_at-requires

@@ -3,7 +3,6 @@ use Rattle.account_sums.proofs.SumsLaws.{part-le}
 use Rattle.account_sums.specs.Columns.{with_source}
 use Rattle.records.specs.Limits.{highest_refund}
 use native.Mathlib.Omega.{arith}
-use borrow.Author.Rules.{rules}
 use Rattle.account_sums.proofs.add_source.Goals as goal
 
 pub add_at-requires : goal.add_at-requires
