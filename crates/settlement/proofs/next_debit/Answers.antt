@@ -1,11 +1,6 @@
 -- `settlement::next_debit` meets its contract: every row passed wants nothing.
-use Prim.Native.Nat.{ℕ, ◌-◌, ◌≤◌, ◌<◌}
 use native.Mathlib.Omega.{arith}
 use native.Mathlib.Decide.{ℕ_discrete}
-use mathlib.Core.Path.{◌≡◌}
-use Rattle.records.specs.Encoding.{row_at, rows_of}
-use Rattle.lists.specs.Lists.{only}
-use Rattle.rules.specs.Rows.{remaining, payable}
 use Rattle.settlement.proofs.next_debit.Goals as goal
 
 pub loop-k-init : goal.loop-k-init

@@ -1,6 +1,4 @@
 use Prim.Native.Nat.{ℕ, ◌-◌, ◌≤◌, ◌<◌}
-use native.Mathlib.Omega.{arith}
-use native.Mathlib.Decide.{ℕ_discrete}
 use mathlib.Core.Path.{◌≡◌}
 use Rattle.records.specs.Encoding.{row_at, rows_of}
 use Rattle.lists.specs.Lists.{only}

@@ -1,5 +1,4 @@
 -- `settlement::settle` meets its contract: from the first row on nothing lies before.
-use borrow.Author.Rules.{rules}
 use Rattle.settlement.proofs.WalkLaws.{begun_first}
 use Rattle.settlement.proofs.settle.Goals as goal
 

@@ -1,12 +1,12 @@
 -- `settlement::settle_from` meets its contract: at each turn the walk of WalkLaws.
-use Prim.Native.Nat.{◌-◌, min}
+use Prim.Native.Nat.{min}
 use native.Mathlib.Omega.{arith}
 use mathlib.Core.Path.{◌≡◌, sym}
 use mathlib.Core.List.{List}
 use lib.IntN.{ℤ}
 use Rattle.records.specs.Encoding.{row_at, rows_of}
 use Rattle.lists.specs.Lists.{only}
-use Rattle.rules.specs.Rows.{remaining, source_of, payable}
+use Rattle.rules.specs.Rows.{remaining, payable}
 use Rattle.settlement.proofs.WalkLaws.{Walking, walking_start, walking-debit, walking-source, walking-pay, source-left, no-source-left, no-debit-left, Turn, source_fits, debit-fits}
 use Rattle.settlement.proofs.settle_from.Goals as goal
 use Rattle.settlement.proofs.settle_from.Goals.{After-lesser-m}

@@ -1,12 +1,11 @@
-use Prim.Native.Nat.{◌-◌, min}
-use native.Mathlib.Omega.{arith}
-use mathlib.Core.Path.{◌≡◌, sym}
+use Prim.Native.Nat.{◌-◌}
+use mathlib.Core.Path.{◌≡◌}
 use mathlib.Core.List.{List}
 use lib.IntN.{ℤ}
-use Rattle.records.specs.Encoding.{row_at, rows_of}
+use Rattle.records.specs.Encoding.{row_at}
 use Rattle.lists.specs.Lists.{only}
-use Rattle.rules.specs.Rows.{remaining, source_of, payable}
-use Rattle.settlement.proofs.WalkLaws.{Walking, walking_start, walking-debit, walking-source, walking-pay, source-left, no-source-left, no-debit-left, Turn, source_fits, debit-fits}
+use Rattle.rules.specs.Rows.{remaining, source_of}
+use Rattle.settlement.proofs.WalkLaws.{Walking}
 use Rattle.settlement.proofs.settle_from.Given as goal
 
 abbrev pub invariant-loop-x : goal.invariant-loop-x

@@ -1,5 +1,4 @@
 -- `settlement::unused` meets its contract.
-use borrow.Author.Rules.{rules}
 use mathlib.Core.Bool.{true, false}
 use mathlib.Core.Path.{sym, ◌∙◌}
 use Rattle.settlement.proofs.RowTestLaws.{no-source-of-others, source-has}

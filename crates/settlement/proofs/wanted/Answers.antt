@@ -1,5 +1,4 @@
 -- `settlement::wanted` meets its contract.
-use borrow.Author.Rules.{rules}
 use mathlib.Core.Bool.{true, false}
 use mathlib.Core.Path.{sym, ◌∙◌}
 use Rattle.settlement.proofs.RowTestLaws.{no-debit-of-others, no-debit, debit-wants}
