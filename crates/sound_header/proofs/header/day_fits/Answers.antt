@@ -1,6 +1,5 @@
 -- `day_fits` meets its contract: it is the clause.
 use Rattle.rules.specs.Opening.{day_fits}
-use borrow.Author.Rules.{rules}
 use Rattle.sound_header.proofs.header.day_fits.Goals as goal
 
 pub returns : goal.returns

@@ -1,6 +1,5 @@
 -- `lengths_fit` meets its contract: it is the clause on the tables' lengths.
 use Rattle.rules.specs.Tables.{lengths_fit, whole_records}
-use borrow.Author.Rules.{rules}
 use Rattle.sound_header.proofs.header.lengths_fit.Goals as goal
 
 pub returns : goal.returns

@@ -1,7 +1,6 @@
 -- `rates_fit` meets its contract: six words, each tested.
 use Rattle.rules.specs.Tables.{rates_from}
 use Rattle.rules.specs.Schedule.{rates_fit}
-use borrow.Author.Rules.{rules}
 use Rattle.sound_header.proofs.header.rates_fit.Goals as goal
 
 pub returns : goal.returns

@@ -1,7 +1,6 @@
 -- `schedule_fits` meets its contract: four words, each tested.
 use Rattle.rules.specs.Tables.{schedule_from}
 use Rattle.rules.specs.Schedule.{schedule_fits}
-use borrow.Author.Rules.{rules}
 use Rattle.sound_header.proofs.header.schedule_fits.Goals as goal
 
 pub returns : goal.returns

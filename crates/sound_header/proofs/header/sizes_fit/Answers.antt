@@ -1,6 +1,5 @@
 -- `sizes_fit` meets its contract: it is the clause.
 use Rattle.rules.specs.Opening.{sizes_fit}
-use borrow.Author.Rules.{rules}
 use Rattle.sound_header.proofs.header.sizes_fit.Goals as goal
 
 pub returns : goal.returns
