@@ -2,7 +2,6 @@
 use Rattle.rules.specs.Opening.{day_fits}
 use Rattle.rules.specs.RateLists.{list_in_range}
 use Rattle.rules.specs.Tables.{first_list_in}
-use borrow.Author.Rules.{rules}
 use Rattle.sound_lists.proofs.first_fits.Goals as goal
 
 pub returns : goal.returns

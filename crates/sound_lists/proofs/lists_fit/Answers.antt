@@ -1,7 +1,7 @@
 -- `lists_fit` meets its contract: every list passed stands, and `before` is the last one's first day; the measure is the lists left.
 use Rattle.sound_lists.proofs.StandingLaws.{rises, lists-parts, day-first, day-later}
 use Rattle.table_lists.proofs.UsedLaws.{used-few}
-use Rattle.rules.specs.RateLists.{list_no, list_in_range, lists_fit}
+use Rattle.rules.specs.RateLists.{list_in_range, lists_fit}
 use Rattle.rules.specs.Tables.{first_list_in, later_list_at, lists_in}
 use Rattle.lists.specs.Lists.{every, tabulate}
 use Rattle.lists.proofs.ListLaws.{every-tabulate, every-fails}
@@ -10,8 +10,6 @@ use borrow.Author.Count.{below_more}
 use mathlib.Core.Bool.{true, false}
 use mathlib.Core.Path.{◌≡◌, sym, ◌∙◌}
 use native.Mathlib.Omega.{arith}
-use borrow.Author.Rules.{rules}
-use Prim.Native.Nat.{ℕ, ◌+◌, ◌-◌, ◌≤◌, ◌<◌}
 use Rattle.sound_lists.proofs.lists_fit.Goals as goal
 use Rattle.sound_lists.proofs.lists_fit.Goals.{Else-not-first_fits}
 

@@ -7,7 +7,6 @@ use borrow.Author.Tests.{not-true, not-false}
 use mathlib.Core.Bool.{true, false}
 use mathlib.Core.Path.{◌≡◌, sym, ◌∙◌}
 use native.Mathlib.Omega.{arith}
-use borrow.Author.Rules.{rules}
 use Rattle.sound_lists.proofs.lists_stand.Goals as goal
 
 pub returns-then-not-lists_fit : goal.returns-then-not-lists_fit

@@ -8,9 +8,8 @@ use mathlib.Core.Bool.{true, false}
 use borrow.Author.Tests.{eq-eqb, ne_eqb}
 use mathlib.Core.Path.{◌≡◌, refl, sym, ◌∙◌}
 use native.Mathlib.Omega.{arith}
-use borrow.Author.Rules.{rules}
-use Prim.Native.Nat.{◌+◌, ◌-◌}
-use lib.ListN.{length, drop}
+use Prim.Native.Nat.{◌+◌}
+use lib.ListN.{drop}
 use Rattle.sound_lists.proofs.rest_zero.Goals as goal
 
 pub loop-i-init : goal.loop-i-init

@@ -1,14 +1,7 @@
-use Rattle.sound_lists.proofs.StandingLaws.{zeros-more, zeros-none}
 use Rattle.rules.specs.Tables.{zero_word}
-use Rattle.lists.specs.Tests.{◌is◌}
 use Rattle.lists.specs.Lists.{every}
-use Rattle.records.specs.Encoding.{word}
-use mathlib.Core.Bool.{true, false}
-use borrow.Author.Tests.{eq-eqb, ne_eqb}
-use mathlib.Core.Path.{◌≡◌, refl, sym, ◌∙◌}
-use native.Mathlib.Omega.{arith}
-use borrow.Author.Rules.{rules}
-use Prim.Native.Nat.{◌+◌, ◌-◌}
+use mathlib.Core.Path.{◌≡◌}
+use Prim.Native.Nat.{◌-◌}
 use lib.ListN.{length, drop}
 use Rattle.sound_lists.proofs.rest_zero.Given as goal
 
