@@ -4,7 +4,6 @@ use Rattle.rules.specs.Soundness.{due_within}
 use borrow.Author.Tests.{eq-eqb, le-leb, lt-leb}
 use mathlib.Core.Path.{sym, ◌∙◌}
 use native.Mathlib.Omega.{arith}
-use borrow.Author.Rules.{rules}
 use Rattle.sound_tolls.proofs.due_fits.Goals as goal
 
 pub returns-then-r-today : goal.returns-then-r-today

@@ -4,7 +4,6 @@ use mathlib.Core.Bool.{and-false}
 use Rattle.rules.specs.Soundness.{hold_fits}
 use borrow.Author.Tests.{eq-eqb, lt-leb, ne_eqb}
 use native.Mathlib.Omega.{arith}
-use borrow.Author.Rules.{rules}
 use Rattle.sound_tolls.proofs.hold_fits.Goals as goal
 
 pub returns-then-r-ne-DISPUTE_HELD : goal.returns-then-r-ne-DISPUTE_HELD

@@ -1,6 +1,5 @@
 -- `row_day_fits` meets its contract: it is the clause.
 use Rattle.rules.specs.Soundness.{row_day_fits}
-use borrow.Author.Rules.{rules}
 use Rattle.sound_tolls.proofs.row_day_fits.Goals as goal
 
 pub returns : goal.returns

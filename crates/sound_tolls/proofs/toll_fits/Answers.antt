@@ -5,7 +5,6 @@ use Rattle.lists.specs.Tests.{all_of}
 use borrow.Author.Tests.{not-true, not-false}
 use mathlib.Core.Bool.{and-true, and-false}
 use mathlib.Core.Path.{sym, ◌∙◌}
-use borrow.Author.Rules.{rules}
 use Rattle.sound_tolls.proofs.toll_fits.Goals as goal
 
 pub returns-then-not-stage_fits : goal.returns-then-not-stage_fits

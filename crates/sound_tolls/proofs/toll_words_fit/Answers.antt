@@ -2,7 +2,6 @@
 use Rattle.rules.specs.Soundness.{toll_words_fit}
 use borrow.Author.Tests.{eq-eqb, le-leb, lt-leb}
 use native.Mathlib.Omega.{arith}
-use borrow.Author.Rules.{rules}
 use Rattle.sound_tolls.proofs.toll_words_fit.Goals as goal
 
 pub returns-then-r-gt-DISPUTE_UPHELD : goal.returns-then-r-gt-DISPUTE_UPHELD
