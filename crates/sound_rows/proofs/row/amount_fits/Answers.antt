@@ -1,6 +1,5 @@
 -- `amount_fits` meets its contract: it is the clause.
 use Rattle.rules.specs.Soundness.{amount_fits}
-use borrow.Author.Rules.{rules}
 use Rattle.sound_rows.proofs.row.amount_fits.Goals as goal
 
 pub returns : goal.returns

@@ -1,6 +1,5 @@
 -- `kind_fits` meets its contract: it is the clause.
 use Rattle.rules.specs.Soundness.{kind_fits}
-use borrow.Author.Rules.{rules}
 use Rattle.sound_rows.proofs.row.kind_fits.Goals as goal
 
 pub returns : goal.returns

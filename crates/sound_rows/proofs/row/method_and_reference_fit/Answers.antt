@@ -2,7 +2,6 @@
 use Rattle.rules.specs.Soundness.{mark_fits, no_reference}
 use borrow.Author.Tests.{eq-eqb, ne_eqb}
 use native.Mathlib.Omega.{arith}
-use borrow.Author.Rules.{rules}
 use Rattle.sound_rows.proofs.row.method_and_reference_fit.Goals as goal
 
 pub returns-then-r-eq-KIND_PAYMENT : goal.returns-then-r-eq-KIND_PAYMENT

@@ -1,10 +1,8 @@
 -- `other_alone` meets its contract: the first test that fails decides.
 use Rattle.sound_header.specs.Clauses.{row_alone}
 use Rattle.lists.specs.Tests.{all_of}
-use borrow.Author.Tests.{not-true, not-false}
 use mathlib.Core.Bool.{and-true, and-false}
 use mathlib.Core.Path.{sym, ◌∙◌}
-use borrow.Author.Rules.{rules}
 use Rattle.sound_rows.proofs.row.other_alone.Goals as goal
 
 pub returns-then-not-kind_fits : goal.returns-then-not-kind_fits

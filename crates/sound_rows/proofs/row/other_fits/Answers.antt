@@ -2,10 +2,8 @@
 use Rattle.sound_tolls.proofs.RowLaws.{other-due, other-hold}
 use Rattle.sound_header.specs.Clauses.{own_words}
 use Rattle.lists.specs.Tests.{all_of}
-use borrow.Author.Tests.{not-true, not-false}
 use mathlib.Core.Bool.{and-true, and-false}
 use mathlib.Core.Path.{sym, ◌∙◌}
-use borrow.Author.Rules.{rules}
 use Rattle.sound_rows.proofs.row.other_fits.Goals as goal
 
 pub returns-then-not-no_toll_words : goal.returns-then-not-no_toll_words

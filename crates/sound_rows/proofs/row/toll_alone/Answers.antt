@@ -1,8 +1,6 @@
 -- `toll_alone` meets its contract: the first test that fails decides.
 use Rattle.sound_rows.proofs.KindLaws.{toll-clauses}
-use borrow.Author.Tests.{not-true, not-false}
 use mathlib.Core.Path.{sym, ◌∙◌}
-use borrow.Author.Rules.{rules}
 use Rattle.sound_rows.proofs.row.toll_alone.Goals as goal
 
 pub returns-then-not-between : goal.returns-then-not-between
