@@ -1,6 +1,5 @@
 -- `account_used` meets its contract: it is the clause on the account that is looked up.
 use Rattle.rules.specs.Soundness.{account_used}
-use borrow.Author.Rules.{rules}
 use Rattle.sound_journal.proofs.account_used.Goals as goal
 
 pub returns : goal.returns

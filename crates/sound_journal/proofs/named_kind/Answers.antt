@@ -1,7 +1,6 @@
 -- `named_kind` meets its contract: a row that is not earlier, or of another account, is of no kind that is asked for.
 use Rattle.sound_journal.proofs.JournalLaws.{names-later, names-other, names_same}
 use Rattle.records.specs.Encoding.{rows_of}
-use borrow.Author.Rules.{rules}
 use Rattle.sound_journal.proofs.named_kind.Goals as goal
 
 pub returns-then-r-n : goal.returns-then-r-n

@@ -1,10 +1,8 @@
 -- `other_passes` meets its contract: the first test that fails decides.
 use Rattle.sound_header.specs.Clauses.{row_passes}
 use Rattle.lists.specs.Tests.{all_of}
-use borrow.Author.Tests.{not-true, not-false}
 use mathlib.Core.Bool.{and-true, and-false}
 use mathlib.Core.Path.{sym, ◌∙◌}
-use borrow.Author.Rules.{rules}
 use Rattle.sound_journal.proofs.other_passes.Goals as goal
 
 pub returns-then-not-other_alone : goal.returns-then-not-other_alone

@@ -3,7 +3,6 @@ use Rattle.sound_journal.proofs.JournalLaws.{fits-fee, fits-reversal, fits-credi
 use Rattle.records.specs.Encoding.{rows_of}
 use Rattle.rules.specs.Soundness.{reference_fits}
 use mathlib.Core.Path.{◌∙◌}
-use borrow.Author.Rules.{rules}
 use Rattle.sound_journal.proofs.reference_fits.Goals as goal
 
 pub returns-then-r-eq-KIND_TOLL : goal.returns-then-r-eq-KIND_TOLL

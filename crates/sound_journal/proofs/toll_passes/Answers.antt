@@ -2,10 +2,8 @@
 use Rattle.sound_journal.proofs.JournalLaws.{toll-names-none}
 use Rattle.sound_header.specs.Clauses.{row_passes}
 use Rattle.lists.specs.Tests.{all_of}
-use borrow.Author.Tests.{not-true, not-false}
 use mathlib.Core.Bool.{and-true}
 use mathlib.Core.Path.{sym, ◌∙◌}
-use borrow.Author.Rules.{rules}
 use Rattle.sound_journal.proofs.toll_passes.Goals as goal
 
 pub returns-then-not-toll_alone : goal.returns-then-not-toll_alone
