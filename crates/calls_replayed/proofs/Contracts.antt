@@ -11,7 +11,8 @@ use Rattle.toll_ledger.proofs.toll_ledger_open.Kinds as open-kinds
 use Rattle.toll_ledger.proofs.toll_ledger_open.Reads as open-reads
 use Rattle.toll_ledger.proofs.toll_ledger_event.Kinds as event-kinds
 use Rattle.toll_ledger.proofs.toll_ledger_event.Reads as event-reads
-use Rattle.toll_ledger.proofs.BatchContract as batch
+use Rattle.toll_ledger.proofs.toll_ledger_batch.Kinds as batch-kinds
+use Rattle.toll_ledger.proofs.toll_ledger_batch.Reads as batch-reads
 use Rattle.toll_ledger.proofs.toll_ledger_balance.Kinds as balance-kinds
 use Rattle.toll_ledger.proofs.toll_ledger_balance.Reads as balance-reads
 use Rattle.toll_ledger.proofs.toll_ledger_topup_due.Kinds as due-kinds
@@ -29,7 +30,7 @@ pub event-contract : (κs : Lfts 5) (a : Dens κs event-kinds.ps) (n : ℤ) (e :
 event-contract κs a n e g = event-step a.1.1.1.0.now a.1.1.1.1.0.now e.1.1.1.1.0.now n g
 
 -- toll_ledger_batch
-pub batch-contract : (κs : Lfts 5) (a : Dens κs batch.ps) (n : ℤ) (e : AtExit (ended_of 5 batch.ps batch.r) κs) → batch.Post κs a n e
+pub batch-contract : (κs : Lfts 5) (a : Dens κs batch-kinds.ps) (n : ℤ) (e : AtExit (ended_of 5 batch-kinds.ps batch-kinds.r) κs) → batch-reads.Learnt κs a n e
     → Step (tables_at a.0.now a.1.0.now a.1.1.0.now) (tables_at e.0.now e.1.0.now e.1.1.0.now)
 batch-contract κs a n e g = batch-step a.1.1.1.0.now a.1.1.1.1.0.now e.1.1.1.1.0.now n g
 

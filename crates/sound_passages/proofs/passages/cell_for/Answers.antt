@@ -1,7 +1,6 @@
 -- `cell_for` meets its contract: the invariant is the way down; the cells on it only grow, so the measure is the cells above.
-use borrow.Author.Rules.{rules}
 use Rattle.sound_passages.specs.Trees.{IsToll}
-use Rattle.sound_passages.proofs.TreeLaws.{Way, root-fits, root-low, way-start, way-row, way_next, way-taken, way-free}
+use Rattle.sound_passages.proofs.TreeLaws.{root-fits, root-low, way-start, way-row, way_next, way-taken, way-free}
 use mathlib.Core.Path.{◌≡◌, sym, ◌∙◌}
 use native.Mathlib.Omega.{arith}
 use Prim.Native.Nat.{◌+◌, ◌*◌, ◌-◌, ◌<◌}

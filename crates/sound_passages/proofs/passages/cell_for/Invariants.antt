@@ -1,9 +1,5 @@
-use borrow.Author.Rules.{rules}
-use Rattle.sound_passages.specs.Trees.{IsToll}
-use Rattle.sound_passages.proofs.TreeLaws.{Way, root-fits, root-low, way-start, way-row, way_next, way-taken, way-free}
-use mathlib.Core.Path.{◌≡◌, sym, ◌∙◌}
-use native.Mathlib.Omega.{arith}
-use Prim.Native.Nat.{◌+◌, ◌*◌, ◌-◌, ◌<◌}
+use Rattle.sound_passages.proofs.TreeLaws.{Way}
+use Prim.Native.Nat.{◌*◌, ◌-◌}
 use Rattle.sound_passages.proofs.passages.cell_for.Given as goal
 
 abbrev pub invariant-loop-s : goal.invariant-loop-s

@@ -1,7 +1,6 @@
 -- `insert` meets its contract: a row that is no toll leaves the trees, and a toll is inserted.
 use Rattle.sound_passages.proofs.TreeLaws.{trees-skip}
 use mathlib.Core.Bool.{true≢false}
-use borrow.Author.Rules.{rules}
 use Rattle.sound_passages.proofs.passages.insert.Goals as goal
 
 pub returns-then-kind_at-ne-KIND_TOLL : goal.returns-then-kind_at-ne-KIND_TOLL

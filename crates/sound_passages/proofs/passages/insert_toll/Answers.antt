@@ -2,7 +2,6 @@
 use Rattle.sound_passages.proofs.TreeLaws.{trees-add, taken-same}
 use native.Mathlib.Omega.{arith}
 use mathlib.Core.Bool.{true≢false, false≢true}
-use borrow.Author.Rules.{rules}
 use Rattle.sound_passages.proofs.passages.insert_toll.Goals as goal
 
 pub returns-then-c-ge-CELLS : goal.returns-then-c-ge-CELLS

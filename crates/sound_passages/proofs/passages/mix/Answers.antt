@@ -3,7 +3,6 @@ use Rattle.sound_passages.specs.Trees.{mix_of}
 use mathlib.Core.Path.{refl}
 use native.Mathlib.Omega.{arith}
 use native.Mathlib.Nat.{mod-lt}
-use borrow.Author.Rules.{rules}
 use Rattle.sound_passages.proofs.passages.mix.Goals as goal
 
 pub returns : goal.returns

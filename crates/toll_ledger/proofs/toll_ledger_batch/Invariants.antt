@@ -1,0 +1,15 @@
+use Rattle.posting.specs.Posts.{tables_at}
+use Rattle.batch_index.specs.Index.{Indexed}
+use Rattle.call_batch.proofs.BatchCallLaws.{After}
+use Prim.Native.Nat.{◌-◌}
+use lib.ListN.{length}
+use Rattle.toll_ledger.proofs.toll_ledger_batch.Given as goal
+
+-- the first i events are posted, and the arrays hold the index of the tables
+abbrev pub invariant-loop-i : goal.invariant-loop-i
+invariant-loop-i l =
+    After (tables_at l.initial.header l.initial.accounts l.initial.journal) l.events l.initial.answers l.i (tables_at l.header l.accounts l.journal) l.answers
+    × Indexed (tables_at l.header l.accounts l.journal) l.cells l.slots
+
+abbrev pub decreases-loop-i : goal.decreases-loop-i
+decreases-loop-i l = length l.events - l.i
