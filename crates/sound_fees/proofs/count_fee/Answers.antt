@@ -5,7 +5,6 @@ use Prim.Native.Nat.{◌+◌}
 use lib.ListN.{get_or}
 use mathlib.Core.Path.{refl, ◌∙◌}
 use native.Mathlib.Omega.{arith}
-use borrow.Author.Rules.{rules}
 use Rattle.sound_fees.proofs.count_fee.Goals as goal
 
 pub returns : goal.returns
