@@ -1,10 +1,8 @@
 -- `account_alone` meets its contract: the first test that fails decides.
 use Rattle.sound_accounts.specs.Alone.{account_alone}
 use Rattle.lists.specs.Tests.{all_of}
-use borrow.Author.Tests.{not-true, not-false}
 use mathlib.Core.Bool.{and-true, and-false}
 use mathlib.Core.Path.{sym, ◌∙◌}
-use borrow.Author.Rules.{rules}
 use Rattle.sound_accounts.proofs.account_alone.Goals as goal
 
 pub returns-then-not-state_fits : goal.returns-then-not-state_fits

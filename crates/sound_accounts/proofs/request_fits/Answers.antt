@@ -3,7 +3,6 @@ use Rattle.rules.specs.Soundness.{request_fits}
 use borrow.Author.Tests.{eq-eqb, ne_eqb, le-leb, lt-leb}
 use mathlib.Core.Bool.{and-true}
 use native.Mathlib.Omega.{arith}
-use borrow.Author.Rules.{rules}
 use Rattle.sound_accounts.proofs.request_fits.Goals as goal
 
 pub returns-then-x-eq-STATE_OPEN : goal.returns-then-x-eq-STATE_OPEN

@@ -1,6 +1,5 @@
 -- `topup_fits` meets its contract: it is the clause.
 use Rattle.rules.specs.Soundness.{topup_fits}
-use borrow.Author.Rules.{rules}
 use Rattle.sound_accounts.proofs.topup_fits.Goals as goal
 
 pub returns : goal.returns
