@@ -2,10 +2,8 @@
 use Rattle.sound_sums.specs.Accounts.{account_passes, sums_at}
 use Rattle.sound_sums.proofs.AccountLaws.{passes-alike, returned-small}
 use mathlib.Core.Bool.{false}
-use borrow.Author.Tests.{not-true, not-false}
 use mathlib.Core.Path.{◌≡◌, sym, ◌∙◌}
 use Prim.Native.Nat.{◌+◌}
-use borrow.Author.Rules.{rules}
 use Rattle.sound_sums.proofs.accounts.account_passes.Goals as goal
 
 pub returns-then-not-account_alone : goal.returns-then-not-account_alone

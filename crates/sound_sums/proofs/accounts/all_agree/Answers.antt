@@ -1,14 +1,10 @@
 -- `all_agree` meets its contract: the invariant is that every account passed stands; the measure is the accounts left.
-use borrow.Author.Rules.{rules}
-use Rattle.sound_sums.specs.Accounts.{account_passes, sums_at, all_agree}
+use Rattle.sound_sums.specs.Accounts.{all_agree}
 use Rattle.lists.proofs.ListLaws.{every-tabulate, every-fails}
 use Rattle.records.specs.Encoding.{account_at}
-use borrow.Author.Tests.{not-true, not-false}
 use borrow.Author.Count.{below_more}
-use mathlib.Core.Bool.{true}
 use mathlib.Core.Path.{◌≡◌, sym, ◌∙◌}
 use native.Mathlib.Omega.{arith}
-use Prim.Native.Nat.{ℕ, ◌+◌, ◌-◌, ◌≤◌, ◌<◌}
 use Rattle.sound_sums.proofs.accounts.all_agree.Goals as goal
 
 pub loop-i-init : goal.loop-i-init

@@ -1,12 +1,7 @@
-use borrow.Author.Rules.{rules}
-use Rattle.sound_sums.specs.Accounts.{account_passes, sums_at, all_agree}
-use Rattle.lists.proofs.ListLaws.{every-tabulate, every-fails}
+use Rattle.sound_sums.specs.Accounts.{account_passes, sums_at}
 use Rattle.records.specs.Encoding.{account_at}
-use borrow.Author.Tests.{not-true, not-false}
-use borrow.Author.Count.{below_more}
 use mathlib.Core.Bool.{true}
-use mathlib.Core.Path.{◌≡◌, sym, ◌∙◌}
-use native.Mathlib.Omega.{arith}
+use mathlib.Core.Path.{◌≡◌}
 use Prim.Native.Nat.{ℕ, ◌+◌, ◌-◌, ◌≤◌, ◌<◌}
 use Rattle.sound_sums.proofs.accounts.all_agree.Given as goal
 

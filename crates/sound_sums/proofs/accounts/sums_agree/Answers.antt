@@ -5,7 +5,6 @@ use lib.Dec.{eqb}
 use mathlib.Core.List.{[], ◌∷◌}
 use mathlib.Core.Bool.{◌||◌}
 use mathlib.Core.Path.{◌∙◌}
-use borrow.Author.Rules.{rules}
 use Rattle.sound_sums.proofs.accounts.sums_agree.Goals as goal
 
 pub returns : goal.returns
