@@ -1,5 +1,4 @@
 -- `add_amount` meets its contract: a row of another account changes neither sum.
-use borrow.Author.Rules.{rules}
 use native.Mathlib.Omega.{arith}
 use mathlib.Core.Path.{◌∙◌}
 use Rattle.balances.proofs.AmountLaws.{summed-others, summed-own, source_fits, debit-fits}

@@ -1,5 +1,4 @@
 -- `add_unused` meets its contract: a row of another account adds nothing.
-use borrow.Author.Rules.{rules}
 use native.Mathlib.Omega.{arith}
 use mathlib.Core.Path.{◌∙◌}
 use Rattle.balances.proofs.MoneyLaws.{money-others, money-own, money-fits}

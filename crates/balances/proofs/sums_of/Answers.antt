@@ -1,8 +1,7 @@
 -- `sums_of` meets its contract: the sums are those of the rows passed.
-use Prim.Native.Nat.{◌-◌, ◌≤◌}
+use Prim.Native.Nat.{◌-◌}
 use native.Mathlib.Omega.{arith}
 use mathlib.Core.Path.{◌≡◌}
-use Rattle.balances.specs.Summed.{Summed}
 use Rattle.balances.proofs.AmountLaws.{summed-none}
 use Rattle.balances.proofs.sums_of.Goals as goal
 

@@ -1,8 +1,5 @@
 use Prim.Native.Nat.{◌-◌, ◌≤◌}
-use native.Mathlib.Omega.{arith}
-use mathlib.Core.Path.{◌≡◌}
 use Rattle.balances.specs.Summed.{Summed}
-use Rattle.balances.proofs.AmountLaws.{summed-none}
 use Rattle.balances.proofs.sums_of.Given as goal
 
 abbrev pub invariant-loop-i : goal.invariant-loop-i

@@ -1,9 +1,7 @@
 -- `unused_money` meets its contract: it is that of the rows passed.
-use Prim.Native.Nat.{◌-◌, ◌≤◌}
+use Prim.Native.Nat.{◌-◌}
 use native.Mathlib.Omega.{arith}
 use mathlib.Core.Path.{◌≡◌}
-use Rattle.records.specs.Encoding.{rows_of}
-use Rattle.rules.specs.Settlement.{money}
 use Rattle.balances.proofs.MoneyLaws.{money-none}
 use Rattle.balances.proofs.unused_money.Goals as goal
 

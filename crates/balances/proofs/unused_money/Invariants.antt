@@ -1,9 +1,7 @@
 use Prim.Native.Nat.{◌-◌, ◌≤◌}
-use native.Mathlib.Omega.{arith}
 use mathlib.Core.Path.{◌≡◌}
 use Rattle.records.specs.Encoding.{rows_of}
 use Rattle.rules.specs.Settlement.{money}
-use Rattle.balances.proofs.MoneyLaws.{money-none}
 use Rattle.balances.proofs.unused_money.Given as goal
 
 abbrev pub invariant-loop-i : goal.invariant-loop-i

@@ -1,6 +1,5 @@
 -- `add_row` meets its contract: the row changes the money of its account alone.
 use Rattle.batch_index.proofs.SlotLaws.{added-account, add-fits, row-added}
-use borrow.Author.Rules.{rules}
 use mathlib.Core.Path.{refl}
 use Rattle.batch_index.proofs.add_row.Goals as goal
 

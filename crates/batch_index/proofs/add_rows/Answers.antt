@@ -1,10 +1,8 @@
 -- `add_rows` meets its contract: the rows passed are added.
-use Rattle.batch_index.specs.Index.{SlotsHold, MoneysUpTo}
 use Rattle.batch_index.proofs.SlotLaws.{rows-added}
-use Prim.Native.Nat.{◌-◌, ◌≤◌}
+use Prim.Native.Nat.{◌-◌}
 use native.Mathlib.Omega.{arith}
 use mathlib.Core.Path.{◌≡◌}
-use Rattle.records.specs.Encoding.{rows_of}
 use Rattle.batch_index.proofs.add_rows.Goals as goal
 
 pub loop-i-init : goal.loop-i-init

@@ -1,8 +1,5 @@
 use Rattle.batch_index.specs.Index.{SlotsHold, MoneysUpTo}
-use Rattle.batch_index.proofs.SlotLaws.{rows-added}
 use Prim.Native.Nat.{◌-◌, ◌≤◌}
-use native.Mathlib.Omega.{arith}
-use mathlib.Core.Path.{◌≡◌}
 use Rattle.records.specs.Encoding.{rows_of}
 use Rattle.batch_index.proofs.add_rows.Given as goal
 

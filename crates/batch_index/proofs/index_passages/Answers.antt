@@ -1,10 +1,8 @@
 -- `index_passages` meets its contract: the trees have the rows passed.
 use Rattle.batch_index.proofs.IndexLaws.{inserted-trees}
-use Prim.Native.Nat.{◌-◌, ◌≤◌}
+use Prim.Native.Nat.{◌-◌}
 use native.Mathlib.Omega.{arith}
 use mathlib.Core.Path.{◌≡◌}
-use Rattle.records.specs.Limits.{most_rows}
-use Rattle.sound_passages.specs.Trees.{TreesOf}
 use Rattle.batch_index.proofs.index_passages.Goals as goal
 
 pub loop-i-init : goal.loop-i-init

@@ -1,7 +1,4 @@
-use Rattle.batch_index.proofs.IndexLaws.{inserted-trees}
 use Prim.Native.Nat.{◌-◌, ◌≤◌}
-use native.Mathlib.Omega.{arith}
-use mathlib.Core.Path.{◌≡◌}
 use Rattle.records.specs.Limits.{most_rows}
 use Rattle.sound_passages.specs.Trees.{TreesOf}
 use Rattle.batch_index.proofs.index_passages.Given as goal

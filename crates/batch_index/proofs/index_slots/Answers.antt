@@ -1,11 +1,8 @@
 -- `index_slots` meets its contract: the slots are those of the rows from row i on.
-use Rattle.batch_index.specs.Index.{SlotsHold, MoneysOf}
 use Rattle.batch_index.proofs.SlotLaws.{reset-holds}
-use Prim.Native.Nat.{◌+◌, ◌-◌, ◌≤◌}
+use Prim.Native.Nat.{◌+◌, ◌-◌}
 use native.Mathlib.Omega.{arith}
 use mathlib.Core.Path.{◌≡◌}
-use lib.ListN.{drop}
-use Rattle.records.specs.Encoding.{rows_of}
 use Rattle.batch_index.proofs.index_slots.Goals as goal
 
 pub reset_slots-requires : goal.reset_slots-requires

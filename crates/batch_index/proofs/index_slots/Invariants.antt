@@ -1,8 +1,5 @@
 use Rattle.batch_index.specs.Index.{SlotsHold, MoneysOf}
-use Rattle.batch_index.proofs.SlotLaws.{reset-holds}
-use Prim.Native.Nat.{◌+◌, ◌-◌, ◌≤◌}
-use native.Mathlib.Omega.{arith}
-use mathlib.Core.Path.{◌≡◌}
+use Prim.Native.Nat.{◌-◌, ◌≤◌}
 use lib.ListN.{drop}
 use Rattle.records.specs.Encoding.{rows_of}
 use Rattle.batch_index.proofs.index_slots.Given as goal

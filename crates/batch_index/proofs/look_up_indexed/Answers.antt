@@ -4,7 +4,6 @@ use Rattle.balances.proofs.TopupLaws.{due-both}
 use Rattle.rules.proofs.TableLaws.{header-length}
 use Rattle.posting.proofs.BookLaws.{used-room, used-small}
 use native.Mathlib.Omega.{arith}
-use borrow.Author.Rules.{rules}
 use Rattle.batch_index.proofs.look_up_indexed.Goals as goal
 
 pub get-requires : goal.get-requires

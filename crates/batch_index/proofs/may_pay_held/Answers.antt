@@ -1,5 +1,4 @@
 -- `may_pay_held` meets its contract.
-use borrow.Author.Rules.{rules}
 use Rattle.batch_index.specs.Index.{may_pay_held}
 use Rattle.batch_index.proofs.may_pay_held.Goals as goal
 

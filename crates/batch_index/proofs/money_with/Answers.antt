@@ -1,6 +1,5 @@
 -- `money_with` meets its contract: the row is of the account itself.
-use borrow.Author.Rules.{rules}
-use borrow.Author.Tests.{eq-eqb, not-true}
+use borrow.Author.Tests.{eq-eqb}
 use mathlib.Core.Path.{refl, sym, ◌∙◌}
 use native.Mathlib.Omega.{arith}
 use Rattle.batch_index.specs.Money.{money_with}

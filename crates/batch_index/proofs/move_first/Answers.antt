@@ -1,6 +1,5 @@
 -- `move_first` meets its contract.
 use Rattle.batch_index.proofs.SlotLaws.{first-moved}
-use borrow.Author.Rules.{rules}
 use Rattle.batch_index.proofs.move_first.Goals as goal
 
 pub next_open-next-requires : goal.next_open-next-requires

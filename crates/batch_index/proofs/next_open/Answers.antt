@@ -1,12 +1,8 @@
 -- `next_open` meets its contract: of the rows passed nothing is left.
-use Rattle.batch_index.specs.Index.{of_side}
 use Rattle.batch_index.proofs.SlotLaws.{passed-more}
-use Prim.Native.Nat.{ℕ, ◌-◌, ◌≤◌, ◌<◌}
+use Prim.Native.Nat.{◌-◌}
 use native.Mathlib.Omega.{arith}
-use mathlib.Core.Path.{◌≡◌, sym, ◌∙◌}
-use Rattle.lists.specs.Lists.{only}
-use Rattle.rules.specs.Rows.{remaining}
-use Rattle.records.specs.Encoding.{row_at}
+use mathlib.Core.Path.{sym, ◌∙◌}
 use Rattle.batch_index.proofs.next_open.Goals as goal
 
 pub loop-k-init : goal.loop-k-init

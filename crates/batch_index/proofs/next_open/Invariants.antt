@@ -1,8 +1,6 @@
 use Rattle.batch_index.specs.Index.{of_side}
-use Rattle.batch_index.proofs.SlotLaws.{passed-more}
 use Prim.Native.Nat.{ℕ, ◌-◌, ◌≤◌, ◌<◌}
-use native.Mathlib.Omega.{arith}
-use mathlib.Core.Path.{◌≡◌, sym, ◌∙◌}
+use mathlib.Core.Path.{◌≡◌}
 use Rattle.lists.specs.Lists.{only}
 use Rattle.rules.specs.Rows.{remaining}
 use Rattle.records.specs.Encoding.{row_at}

@@ -1,6 +1,5 @@
 -- `note_row` meets its contract: a row of which nothing is left leaves the slots, another is its side's first, and a source is money.
 use Rattle.batch_index.proofs.SlotLaws.{note-account, note-closed, note-debit, note-fits, note-source}
-use borrow.Author.Rules.{rules}
 use native.Mathlib.Omega.{arith}
 use mathlib.Core.Path.{sym, ◌∙◌}
 use Rattle.batch_index.proofs.note_row.Goals as goal

@@ -1,6 +1,5 @@
 -- `open_at` meets its contract.
 use Rattle.batch_index.proofs.SideLaws.{closed-account, closed-side, open_own}
-use borrow.Author.Rules.{rules}
 use Rattle.batch_index.proofs.open_at.Goals as goal
 
 pub returns-then-account_at-account : goal.returns-then-account_at-account

@@ -1,6 +1,6 @@
 -- `reset_slots` meets its contract: the accounts passed have both first rows and the money reset.
-use Rattle.batch_index.proofs.SlotLaws.{Resetting, resetting-none, resetting-more, resetting-all}
-use Prim.Native.Nat.{◌-◌, ◌≤◌}
+use Rattle.batch_index.proofs.SlotLaws.{resetting-none, resetting-more, resetting-all}
+use Prim.Native.Nat.{◌-◌}
 use native.Mathlib.Omega.{arith}
 use mathlib.Core.Path.{◌≡◌}
 use Rattle.records.specs.Limits.{slot_count}

@@ -1,7 +1,5 @@
-use Rattle.batch_index.proofs.SlotLaws.{Resetting, resetting-none, resetting-more, resetting-all}
+use Rattle.batch_index.proofs.SlotLaws.{Resetting}
 use Prim.Native.Nat.{◌-◌, ◌≤◌}
-use native.Mathlib.Omega.{arith}
-use mathlib.Core.Path.{◌≡◌}
 use Rattle.records.specs.Limits.{slot_count}
 use Rattle.batch_index.proofs.reset_slots.Given as goal
 

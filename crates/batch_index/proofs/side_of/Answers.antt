@@ -1,7 +1,6 @@
 -- `side_of` meets its contract.
 use Rattle.batch_index.specs.Index.{side_of}
 use mathlib.Core.Path.{sym, ◌∙◌}
-use borrow.Author.Rules.{rules}
 use Rattle.batch_index.proofs.side_of.Goals as goal
 
 pub returns-then-is_source : goal.returns-then-is_source

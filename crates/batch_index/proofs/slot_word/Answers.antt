@@ -1,7 +1,6 @@
 -- `slot_word` meets its contract.
 use Rattle.batch_index.specs.Index.{slot_word}
 use borrow.Author.Tests.{lt-ltb, le-ltb}
-use borrow.Author.Rules.{rules}
 use Rattle.records.specs.Limits.{slot_count}
 use Rattle.batch_index.proofs.slot_word.Goals as goal
 

@@ -1,7 +1,6 @@
 -- `update_index` meets its contract: the new rows go in, and the slots are made anew or brought up to them.
 use Rattle.batch_index.proofs.IndexLaws.{sound-indexable, index-made}
 use Rattle.rules.proofs.TableLaws.{header-length}
-use borrow.Author.Rules.{rules}
 use mathlib.Core.Path.{sym, ◌∙◌}
 use native.Mathlib.Omega.{arith}
 use Rattle.batch_index.proofs.update_index.Goals as goal

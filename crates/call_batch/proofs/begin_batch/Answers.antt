@@ -1,5 +1,4 @@
 -- `begin_batch` meets its contract: a batch that is not refused has sound tables, so they can be indexed.
-use borrow.Author.Rules.{rules}
 use mathlib.Core.Path.{sym, ◌∙◌}
 use Rattle.call_batch.proofs.BatchCallLaws.{counted-sound}
 use Rattle.call_batch.proofs.begin_batch.Goals as goal

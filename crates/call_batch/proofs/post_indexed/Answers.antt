@@ -1,6 +1,5 @@
 -- `post_indexed` meets its contract: refused by a shared refusal, tables and index stay; else the event is posted by what the index has for
 -- it, and the index is that of the tables after it.
-use borrow.Author.Rules.{rules}
 use borrow.Author.Tests.{ne_eqb}
 use native.Mathlib.Omega.{arith}
 use Rattle.rules.proofs.TableLaws.{header-length}

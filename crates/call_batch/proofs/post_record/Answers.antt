@@ -1,5 +1,4 @@
 -- `post_record` meets its contract: the event is posted, its answer stands at its place, and the index is that of the tables after it.
-use borrow.Author.Rules.{rules}
 use mathlib.Core.Path.{◌∙◌}
 use Rattle.call_words.proofs.AnswerLaws.{answer-storable}
 use Rattle.call_batch.proofs.post_record.Goals as goal

@@ -3,7 +3,6 @@ use native.Mathlib.Omega.{arith}
 use mathlib.Core.Path.{sym, ◌∙◌}
 use borrow.Author.Tests.{ne_eqb}
 use Rattle.call_event.proofs.EventCallLaws.{taken, refused-answers, posted-answers}
-use borrow.Author.Rules.{rules}
 use Rattle.call_event.proofs.answer_to.Goals as goal
 
 pub returns-then-n-ne0 : goal.returns-then-n-ne0

@@ -1,6 +1,5 @@
 -- `event_call` meets its contract: the answer is written where there is room for it.
 use Rattle.call_event.proofs.EventCallLaws.{call-unwritten, call-written}
-use borrow.Author.Rules.{rules}
 use Rattle.call_event.proofs.event_call.Goals as goal
 
 pub returns-then-answer-lt-ANSWER_WIDTH : goal.returns-then-answer-lt-ANSWER_WIDTH

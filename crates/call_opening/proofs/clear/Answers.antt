@@ -1,10 +1,9 @@
 -- `clear` meets its contract: the words from the first place to i are 0, the others as they were.
-use Rattle.call_opening.proofs.OpenedLaws.{cleared, cleared-none, cleared_more, cleared-all}
-use borrow.Author.Rules.{rules}
+use Rattle.call_opening.proofs.OpenedLaws.{cleared-none, cleared_more, cleared-all}
 use native.Mathlib.Omega.{arith}
-use mathlib.Core.Path.{◌≡◌, refl, ◌∙◌}
-use Prim.Native.Nat.{◌+◌, ◌-◌, ◌≤◌}
-use lib.ListN.{length, length-set}
+use mathlib.Core.Path.{refl, ◌∙◌}
+use Prim.Native.Nat.{◌-◌}
+use lib.ListN.{length-set}
 use Rattle.call_opening.proofs.clear.Goals as goal
 
 pub loop-i-init : goal.loop-i-init

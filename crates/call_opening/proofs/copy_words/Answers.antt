@@ -1,11 +1,10 @@
 -- `copy_words` meets its contract: k words are copied; the measure is the words left.
 use Rattle.call_opening.proofs.OpenedLaws.{copied_more}
-use borrow.Author.Rules.{rules}
 use native.Mathlib.Omega.{arith}
 use mathlib.Core.Path.{◌≡◌, refl, ◌∙◌}
-use Prim.Native.Nat.{◌-◌, ◌≤◌}
-use lib.ListN.{length, drop, length-set}
-use lib.Seq.{paste, paste-zero}
+use Prim.Native.Nat.{◌-◌}
+use lib.ListN.{drop, length-set}
+use lib.Seq.{paste-zero}
 use Rattle.call_opening.proofs.copy_words.Goals as goal
 
 pub loop-k-init : goal.loop-k-init

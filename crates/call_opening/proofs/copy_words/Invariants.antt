@@ -1,10 +1,7 @@
-use Rattle.call_opening.proofs.OpenedLaws.{copied_more}
-use borrow.Author.Rules.{rules}
-use native.Mathlib.Omega.{arith}
-use mathlib.Core.Path.{◌≡◌, refl, ◌∙◌}
+use mathlib.Core.Path.{◌≡◌}
 use Prim.Native.Nat.{◌-◌, ◌≤◌}
-use lib.ListN.{length, drop, length-set}
-use lib.Seq.{paste, paste-zero}
+use lib.ListN.{length, drop}
+use lib.Seq.{paste}
 use Rattle.call_opening.proofs.copy_words.Given as goal
 
 abbrev pub invariant-loop-k : goal.invariant-loop-k

@@ -6,7 +6,6 @@ use mathlib.Core.Bool.{true}
 use Rattle.sound_header.proofs.LengthLaws.{lengths-known}
 use borrow.Author.Tests.{not-true, not-false}
 use mathlib.Core.Path.{◌≡◌, sym, ◌∙◌}
-use borrow.Author.Rules.{rules}
 use Rattle.call_opening.proofs.open_book.Goals as goal
 use Rattle.call_opening.proofs.open_book.Goals.{Else-not-lengths_fit}
 

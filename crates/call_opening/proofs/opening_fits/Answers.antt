@@ -1,7 +1,6 @@
 -- `opening_fits` meets its contract: a wrong number of words decides; else it is the clauses on day, schedule and rates.
 use Rattle.rules.specs.Calls.{opening_fits}
 use borrow.Author.Tests.{eq-eqb, ne_eqb}
-use borrow.Author.Rules.{rules}
 use Rattle.call_opening.proofs.opening_fits.Goals as goal
 
 pub returns-then-schedule-ne-OPENING_WIDTH : goal.returns-then-schedule-ne-OPENING_WIDTH

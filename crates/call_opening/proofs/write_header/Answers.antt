@@ -1,7 +1,6 @@
 -- `write_header` meets its contract: each step's list is the one before it with the words stored, and the last is the opened book's.
 use Rattle.call_opening.proofs.OpenedLaws.{words-given, header-opened}
 use native.Mathlib.Omega.{arith}
-use borrow.Author.Rules.{rules}
 use Rattle.call_opening.proofs.write_header.Goals as goal
 
 pub copy_word-requires : goal.copy_word-requires

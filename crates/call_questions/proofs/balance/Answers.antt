@@ -12,7 +12,7 @@ use mathlib.Core.Bool.{true}
 use Rattle.records.specs.Encoding.{nat_of}
 use Rattle.rules.specs.Tables.{Tables, sound_tables}
 use Rattle.posting.specs.Posts.{tables_at}
-use borrow.Author.Rules.{rules, sfits_of}
+use borrow.Author.Rules.{sfits_of}
 use Rattle.call_questions.proofs.balance.Goals as goal
 use Rattle.call_questions.proofs.balance.Goals.{After-natural-n, Else-number-ne0, Start}
 

@@ -3,7 +3,6 @@ use Rattle.call_questions.proofs.QuestionLaws.{refusal-unsound, refusal-by}
 use borrow.Author.Tests.{eq-eqb, ne_eqb, not-true, not-false}
 use mathlib.Core.Bool.{true, false}
 use mathlib.Core.Path.{sym, ◌∙◌}
-use borrow.Author.Rules.{rules}
 use Rattle.call_questions.proofs.question_refusal.Goals as goal
 
 pub returns-then-not-sound : goal.returns-then-not-sound

@@ -9,7 +9,6 @@ use Rattle.rules.specs.Tables.{Tables, rows_used, sound_tables}
 use Rattle.posting.specs.Posts.{tables_at}
 use mir.Facts.{to_z-of_z}
 use Rattle.records.specs.Encoding.{nat_of}
-use borrow.Author.Rules.{rules}
 use Rattle.call_questions.proofs.row.Goals as goal
 use Rattle.call_questions.proofs.row.Goals.{After-natural-n, Else-not-row_used, Start}
 

@@ -3,7 +3,6 @@ use Rattle.rules.proofs.TableLaws.{header-length}
 use borrow.Author.Tests.{not-true, not-false}
 use native.Mathlib.Omega.{arith}
 use mathlib.Core.Path.{sym, ◌∙◌}
-use borrow.Author.Rules.{rules}
 use Rattle.call_questions.proofs.row_used.Goals as goal
 
 pub returns-then-not-sound : goal.returns-then-not-sound

@@ -9,7 +9,6 @@ use mir.Facts.{to_z-of_z}
 use lib.IntN.{pos}
 use mathlib.Core.Bool.{true, cond}
 use mathlib.Core.Path.{◌≡◌, sym, ap, ◌∙◌}
-use borrow.Author.Rules.{rules}
 use Rattle.call_questions.proofs.topup_due.Goals as goal
 use Rattle.call_questions.proofs.topup_due.Goals.{After-natural-n, Else-number-ne0, Start}
 

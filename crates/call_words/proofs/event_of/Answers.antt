@@ -1,6 +1,5 @@
 -- `event_of` meets its contract: each of the nine words as a number.
 use Rattle.records.specs.Encoding.{instruction_of}
-use borrow.Author.Rules.{rules}
 use mathlib.Core.Path.{◌≡◌}
 use mir.Syntax.{w64}
 use mir.Val.{to_z, of_z}

@@ -1,6 +1,5 @@
 -- `read_event` meets its contract: nine words, read in the layout's order.
 use Rattle.records.specs.Encoding.{instruction_from}
-use borrow.Author.Rules.{rules}
 use Rattle.call_words.proofs.read_event.Goals as goal
 
 pub returns : goal.returns

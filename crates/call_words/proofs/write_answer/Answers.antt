@@ -1,7 +1,6 @@
 -- `write_answer` meets its contract: five stores, in the order of the answer's words.
 use Rattle.records.specs.Encoding.{answer_words}
 use Rattle.tables.specs.Changes.{put_all}
-use borrow.Author.Rules.{rules}
 use Rattle.call_words.proofs.write_answer.Goals as goal
 
 pub returns : goal.returns

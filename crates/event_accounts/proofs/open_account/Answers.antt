@@ -1,5 +1,4 @@
 -- `open_account` meets its contract: the tables hold the book with the account opened.
-use borrow.Author.Rules.{rules}
 use native.Mathlib.Omega.{arith}
 use Rattle.rules.proofs.TableLaws.{header-length}
 use Rattle.posting.proofs.BookLaws.{used-small}

@@ -1,5 +1,4 @@
 -- `request_close` meets its contract: refused, the tables stay; accepted, they hold the book with the account pending.
-use borrow.Author.Rules.{rules}
 use borrow.Author.Tests.{eq-eqb, ne_eqb}
 use native.Mathlib.Omega.{arith}
 use mathlib.Core.Path.{refl}

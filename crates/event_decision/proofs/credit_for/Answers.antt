@@ -1,5 +1,4 @@
 -- `credit_for` meets its contract.
-use borrow.Author.Rules.{rules}
 use Rattle.event_decision.specs.Decision.{credit_for}
 use Rattle.event_decision.proofs.credit_for.Goals as goal
 

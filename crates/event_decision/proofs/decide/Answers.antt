@@ -1,12 +1,10 @@
 -- `decide` meets its contract: refused, the tables stay; accepted, they hold the book as the verdict makes it, settled.
-use borrow.Author.Rules.{rules}
 use borrow.Author.Tests.{eq-eqb, ne_eqb}
 use native.Mathlib.Omega.{arith}
-use mathlib.Core.Path.{◌∙◌}
 use Rattle.rules.proofs.TableLaws.{header-length}
 use Rattle.posting.proofs.BookLaws.{used-small}
 use Rattle.posting_laws.proofs.AddedLaws.{posts-refused}
-use Rattle.event_decision.proofs.DecisionLaws.{upheld-header, upheld-journal, releasable, rejected-settles, rejected-begins, rejected-posts, upholdable, upheld-settles, upheld-begins, upheld-posts}
+use Rattle.event_decision.proofs.DecisionLaws.{releasable, rejected-settles, rejected-begins, rejected-posts, upholdable, upheld-settles, upheld-begins, upheld-posts}
 use Rattle.event_decision.proofs.decide.Goals as goal
 
 pub returns-then-n-ne0 : goal.returns-then-n-ne0

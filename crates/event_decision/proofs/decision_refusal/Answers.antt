@@ -1,5 +1,4 @@
 -- `decision_refusal` meets its contract: each way through the tests is a case of the table.
-use borrow.Author.Rules.{rules}
 use borrow.Author.Tests.{not-true, not-false}
 use native.Mathlib.Omega.{arith}
 use mathlib.Core.Path.{refl, sym, ◌∙◌}

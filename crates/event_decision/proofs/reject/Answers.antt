@@ -1,5 +1,4 @@
 -- `reject` meets its contract.
-use borrow.Author.Rules.{rules}
 use native.Mathlib.Omega.{arith}
 use Rattle.rules.specs.Events.{release}
 use Rattle.event_decision.proofs.DecisionLaws.{row_named_lem}

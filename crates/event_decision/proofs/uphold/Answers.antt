@@ -1,8 +1,6 @@
 -- `uphold` meets its contract.
-use borrow.Author.Rules.{rules}
 use native.Mathlib.Omega.{arith}
 use mathlib.Core.Path.{◌∙◌}
-use lib.ListN.{length-set}
 use Rattle.event_decision.proofs.DecisionLaws.{row_named_lem, written-journal}
 use Rattle.event_decision.proofs.uphold.Goals as goal
 

@@ -1,5 +1,4 @@
 -- `hold_toll` meets its contract: refused, the tables stay; accepted, they hold the book with the toll held and its account settled.
-use borrow.Author.Rules.{rules}
 use borrow.Author.Tests.{ne_eqb}
 use native.Mathlib.Omega.{arith}
 use Rattle.rules.proofs.TableLaws.{header-length}

@@ -1,5 +1,4 @@
 -- `decision_form` meets its contract.
-use borrow.Author.Rules.{rules}
 use Rattle.rules.specs.Refusals.{decision_form}
 use Rattle.event_forms.proofs.decision_form.Goals as goal
 

@@ -1,5 +1,4 @@
 -- `dispute_form` meets its contract.
-use borrow.Author.Rules.{rules}
 use Rattle.rules.specs.Refusals.{dispute_form}
 use Rattle.event_forms.proofs.dispute_form.Goals as goal
 

@@ -1,5 +1,4 @@
 -- `list_form` meets its contract.
-use borrow.Author.Rules.{rules}
 use Rattle.rules.specs.RateLists.{list_in_range}
 use Rattle.rules.specs.Refusals.{list_form}
 use Rattle.event_forms.proofs.list_form.Goals as goal

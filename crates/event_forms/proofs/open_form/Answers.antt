@@ -1,5 +1,4 @@
 -- `open_form` meets its contract.
-use borrow.Author.Rules.{rules}
 use Rattle.lists.specs.Tests.{◌is◌}
 use Rattle.lists.proofs.TestLaws.{or-implies}
 use Rattle.rules.specs.Refusals.{open_form}

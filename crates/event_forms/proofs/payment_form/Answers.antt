@@ -1,5 +1,4 @@
 -- `payment_form` meets its contract.
-use borrow.Author.Rules.{rules}
 use Rattle.rules.specs.Refusals.{payment_form}
 use Rattle.event_forms.proofs.payment_form.Goals as goal
 

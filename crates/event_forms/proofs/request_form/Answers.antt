@@ -1,5 +1,4 @@
 -- `request_form` meets its contract.
-use borrow.Author.Rules.{rules}
 use Rattle.rules.specs.Refusals.{request_form}
 use Rattle.event_forms.proofs.request_form.Goals as goal
 

@@ -1,5 +1,4 @@
 -- `result_form` meets its contract.
-use borrow.Author.Rules.{rules}
 use Rattle.rules.specs.Refusals.{result_form}
 use Rattle.event_forms.proofs.result_form.Goals as goal
 

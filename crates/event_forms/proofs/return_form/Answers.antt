@@ -1,5 +1,4 @@
 -- `return_form` meets its contract.
-use borrow.Author.Rules.{rules}
 use Rattle.rules.specs.Refusals.{return_form}
 use Rattle.event_forms.proofs.return_form.Goals as goal
 

@@ -1,5 +1,4 @@
 -- `tick_form` meets its contract.
-use borrow.Author.Rules.{rules}
 use Rattle.rules.specs.Refusals.{tick_form}
 use Rattle.event_forms.proofs.tick_form.Goals as goal
 

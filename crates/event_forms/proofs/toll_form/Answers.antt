@@ -1,5 +1,4 @@
 -- `toll_form` meets its contract.
-use borrow.Author.Rules.{rules}
 use Rattle.rules.specs.Refusals.{toll_form}
 use Rattle.event_forms.proofs.toll_form.Goals as goal
 

@@ -1,5 +1,4 @@
 -- `well_formed` meets its contract: each kind has its form, and another has none.
-use borrow.Author.Rules.{rules}
 use mathlib.Core.Path.{refl, sym, ◌∙◌}
 use Rattle.rules.specs.Refusals.{form_of}
 use Rattle.event_forms.proofs.KindLaws.{no-form, well_formed-of}

@@ -1,5 +1,4 @@
 -- `zero_from_c` meets its contract.
-use borrow.Author.Rules.{rules}
 use Rattle.event_forms.proofs.zero_from_c.Goals as goal
 
 pub returns : goal.returns

@@ -1,5 +1,4 @@
 -- `add_list` meets its contract: the tables hold the book with the list added.
-use borrow.Author.Rules.{rules}
 use native.Mathlib.Omega.{arith}
 use Rattle.rules.specs.Tables.{list_words, rates_words}
 use Rattle.rules.proofs.TableLaws.{header-length}

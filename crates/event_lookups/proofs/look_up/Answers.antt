@@ -1,5 +1,4 @@
 -- `look_up` meets its contract: it searches for a toll's passage number and asks for a top-up, and passes over no row.
-use borrow.Author.Rules.{rules}
 use native.Mathlib.Omega.{arith}
 use Rattle.rules.proofs.TableLaws.{header-length, sound-rows}
 use Rattle.posting.proofs.BookLaws.{used-room}

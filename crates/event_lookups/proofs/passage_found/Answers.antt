@@ -1,12 +1,11 @@
 -- `passage_found` meets its contract: no row passed has the passage number.
-use Prim.Native.Nat.{ℕ, ◌-◌, ◌≤◌, ◌<◌}
+use Prim.Native.Nat.{◌-◌}
 use native.Mathlib.Omega.{arith}
 use mathlib.Core.Path.{◌≡◌, sym, ◌∙◌}
-use mathlib.Core.Logic.{⊎_elim}
 use mathlib.Core.Bool.{false}
 use Rattle.records.specs.Encoding.{row_at}
 use Rattle.rules.specs.Rows.{Row}
-use Rattle.event_lookups.proofs.PassageLaws.{toll_of, other-kind, other-passage, passage-found, passage-passed, passage-absent}
+use Rattle.event_lookups.proofs.PassageLaws.{other-kind, other-passage, passage-found, passage-passed, passage-absent}
 use Rattle.event_lookups.proofs.passage_found.Goals as goal
 use Rattle.event_lookups.proofs.passage_found.Goals.{then-reference_at-passage+else-kind_at-eq-KIND_TOLL, else-reference_at-passage}
 

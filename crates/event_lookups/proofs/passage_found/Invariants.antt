@@ -1,11 +1,8 @@
 use Prim.Native.Nat.{ℕ, ◌-◌, ◌≤◌, ◌<◌}
-use native.Mathlib.Omega.{arith}
-use mathlib.Core.Path.{◌≡◌, sym, ◌∙◌}
-use mathlib.Core.Logic.{⊎_elim}
+use mathlib.Core.Path.{◌≡◌}
 use mathlib.Core.Bool.{false}
 use Rattle.records.specs.Encoding.{row_at}
-use Rattle.rules.specs.Rows.{Row}
-use Rattle.event_lookups.proofs.PassageLaws.{toll_of, other-kind, other-passage, passage-found, passage-passed, passage-absent}
+use Rattle.event_lookups.proofs.PassageLaws.{toll_of}
 use Rattle.event_lookups.proofs.passage_found.Given as goal
 
 abbrev pub invariant-loop-i : goal.invariant-loop-i

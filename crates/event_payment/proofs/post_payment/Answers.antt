@@ -1,9 +1,7 @@
 -- `post_payment` meets its contract: refused, the tables stay; accepted, they hold the book with the payment settled.
-use borrow.Author.Rules.{rules}
 use borrow.Author.Tests.{ne_eqb}
 use native.Mathlib.Omega.{arith}
 use mathlib.Core.Path.{refl, sym, ◌∙◌}
-use lib.ListN.{length-set}
 use Rattle.rules.proofs.TableLaws.{header-length, journal-length}
 use Rattle.posting.proofs.BookLaws.{day-read, used-small}
 use Rattle.event_lookups.proofs.LastSourceLaws.{begun-last}

@@ -1,5 +1,4 @@
 -- `rate_of` meets its contract: the rate stands where the list in force has it.
-use borrow.Author.Rules.{rules}
 use native.Mathlib.Omega.{arith}
 use mathlib.Core.Path.{◌∙◌}
 use Rattle.table_lists.proofs.UsedLaws.{used-few}

@@ -1,5 +1,4 @@
 -- `rates_place` meets its contract: the first list's rates stand among the words of document 01, a later one's after its first day.
-use borrow.Author.Rules.{rules}
 use Rattle.event_rates.proofs.RateLaws.{first-rates, later-rates}
 use Rattle.event_rates.proofs.rates_place.Goals as goal
 

@@ -1,5 +1,4 @@
 -- `admit` meets its contract: on sound tables the count and the account read are the book's.
-use borrow.Author.Rules.{rules}
 use mathlib.Core.Path.{refl, ◌∙◌}
 use Rattle.rules.specs.Tables.{book_of}
 use Rattle.rules.proofs.TableLaws.{header-length}

@@ -1,5 +1,4 @@
 -- `list_refused` meets its contract: another kind is not refused by it; of event 10 it is the test on the lists.
-use borrow.Author.Rules.{rules}
 use borrow.Author.Tests.{eq-eqb, ne_eqb}
 use native.Mathlib.Omega.{arith}
 use Rattle.rules.specs.Refusals.{list_refused}

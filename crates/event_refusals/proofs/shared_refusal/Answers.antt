@@ -1,6 +1,4 @@
 -- `shared_refusal` meets its contract: each way through the tests is a case of the table.
-use borrow.Author.Rules.{rules}
-use borrow.Author.Tests.{not-true, not-false}
 use mathlib.Core.Path.{◌≡◌, refl, sym, ◌∙◌}
 use mathlib.Core.Bool.{true, false}
 use Rattle.lists.specs.Tests.{first}

@@ -1,5 +1,4 @@
 -- `add_naming` meets its contract.
-use borrow.Author.Rules.{rules}
 use Rattle.event_return.proofs.add_naming.Goals as goal
 
 pub add_row-requires : goal.add_row-requires

@@ -1,5 +1,4 @@
 -- `count_return` meets its contract.
-use borrow.Author.Rules.{rules}
 use native.Mathlib.Omega.{arith}
 use Rattle.event_return.proofs.ReturnLaws.{counts-below}
 use Rattle.event_return.proofs.count_return.Goals as goal

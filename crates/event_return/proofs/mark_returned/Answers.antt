@@ -1,5 +1,4 @@
 -- `mark_returned` meets its contract.
-use borrow.Author.Rules.{rules}
 use native.Mathlib.Omega.{arith}
 use mathlib.Core.Path.{ap}
 use Rattle.rules.specs.Rows.{Row}

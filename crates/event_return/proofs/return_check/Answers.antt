@@ -1,12 +1,11 @@
 -- `return_check` meets its contract: refused, the tables stay; accepted, they hold the book with the check returned and settled.
-use borrow.Author.Rules.{rules}
 use borrow.Author.Tests.{ne_eqb}
 use native.Mathlib.Omega.{arith}
 use mathlib.Core.Path.{sym, ◌∙◌}
 use Rattle.rules.proofs.TableLaws.{header-length}
 use Rattle.posting.proofs.BookLaws.{used-small}
 use Rattle.posting_laws.proofs.AddedLaws.{posts-refused}
-use Rattle.event_return.proofs.ReturnLaws.{charge-le, return-counts, return-marks, marked-read, amount-read, reversal-read, reversal-storable, reversal-room, fee-read, fee-storable, fee-room, return-settles, return-begins, header-size, return-size, return-posts}
+use Rattle.event_return.proofs.ReturnLaws.{charge-le, return-counts, return-marks, marked-read, amount-read, reversal-read, reversal-storable, reversal-room, fee-read, fee-storable, fee-room, return-settles, return-begins, return-posts}
 use Rattle.event_return.proofs.return_check.Goals as goal
 
 pub returns-then-n-ne0 : goal.returns-then-n-ne0

@@ -1,5 +1,4 @@
 -- `carry_out` meets its contract: each step leaves the tables of the book after it.
-use borrow.Author.Rules.{rules}
 use native.Mathlib.Omega.{arith}
 use Rattle.rules.proofs.TableLaws.{header-length}
 use Rattle.posting.proofs.BookLaws.{day-small, used-small}

@@ -7,7 +7,6 @@ use Rattle.lists.specs.Tests.{first}
 use Rattle.rules.proofs.TableLaws.{header-length, sound-book}
 use Rattle.posting.proofs.BookLaws.{used-small, day-read}
 use Rattle.event_tick.proofs.TickLaws.{tick-by, tick-lacks, tick-fits, judged-refused}
-use borrow.Author.Rules.{rules}
 use Rattle.event_tick.proofs.judge_tick.Goals as goal
 
 pub get-requires : goal.get-requires

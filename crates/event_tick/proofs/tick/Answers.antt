@@ -1,5 +1,4 @@
 -- `tick` meets its contract: refused, the tables stay.
-use borrow.Author.Rules.{rules}
 use borrow.Author.Tests.{ne_eqb}
 use mathlib.Core.Path.{sym, ◌∙◌}
 use Rattle.posting_laws.proofs.AddedLaws.{posts-refused}

@@ -1,9 +1,7 @@
 -- `post_toll` meets its contract: refused, the tables stay; accepted, they hold the book with the toll settled.
-use borrow.Author.Rules.{rules}
 use borrow.Author.Tests.{ne_eqb}
 use native.Mathlib.Omega.{arith}
 use mathlib.Core.Path.{sym, ◌∙◌}
-use lib.ListN.{length-set}
 use Rattle.rules.proofs.TableLaws.{header-length, journal-length}
 use Rattle.posting.proofs.BookLaws.{day-small, stage-small, used-small}
 use Rattle.table_lists.proofs.OnDayLaws.{sound-lists}

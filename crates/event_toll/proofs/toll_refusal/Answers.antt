@@ -1,5 +1,4 @@
 -- `toll_refusal` meets its contract: each way through the tests is a case of the table.
-use borrow.Author.Rules.{rules}
 use borrow.Author.Tests.{eq-eqb, ne_eqb}
 use native.Mathlib.Omega.{arith}
 use mathlib.Core.Path.{refl, sym, ◌∙◌}

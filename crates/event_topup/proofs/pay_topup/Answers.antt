@@ -1,5 +1,4 @@
 -- `pay_topup` meets its contract: the account is put back, the payment posted and settled.
-use borrow.Author.Rules.{rules}
 use native.Mathlib.Omega.{arith}
 use mathlib.Core.Path.{refl}
 use Rattle.rules.proofs.TableLaws.{header-length, journal-length}

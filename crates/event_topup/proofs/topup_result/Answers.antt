@@ -1,5 +1,4 @@
 -- `topup_result` meets its contract: refused, the tables stay; paid or declined, they hold the book after it.
-use borrow.Author.Rules.{rules}
 use borrow.Author.Tests.{ne_eqb}
 use native.Mathlib.Omega.{arith}
 use mathlib.Core.Path.{sym, ◌∙◌}

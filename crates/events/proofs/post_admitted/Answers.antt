@@ -3,7 +3,6 @@ use mathlib.Core.Path.{refl, sym, ◌∙◌}
 use mathlib.Core.Bool.{true≢false}
 use Rattle.rules.proofs.RefusalLaws.{shared-formed}
 use Rattle.event_forms.proofs.KindLaws.{no-form, well_formed-of}
-use borrow.Author.Rules.{rules}
 use Rattle.events.proofs.post_admitted.Goals as goal
 
 pub returns-in_default : goal.returns-in_default

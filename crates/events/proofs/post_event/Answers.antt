@@ -1,5 +1,4 @@
 -- `post_event` meets its contract: refused by a shared refusal, the tables stay; else it is looked up and posted.
-use borrow.Author.Rules.{rules}
 use borrow.Author.Tests.{ne_eqb}
 use Rattle.posting_laws.proofs.AddedLaws.{posts-refused}
 use Rattle.event_refusals.proofs.AdmissionLaws.{admits-number}

@@ -3,11 +3,9 @@ use Rattle.sound_walk.proofs.WalkLaws.{fee-held}
 use Rattle.sound_fees.proofs.FeeLaws.{counts-fit, counted-fee, counted-over}
 use Rattle.account_sums.proofs.ColumnLaws.{debit-added}
 use Rattle.records.specs.Encoding.{rows_of}
-use borrow.Author.Tests.{not-true, not-false}
 use mathlib.Core.Bool.{true≢false, false≢true}
 use mathlib.Core.Path.{sym, ◌∙◌}
 use native.Mathlib.Omega.{arith}
-use borrow.Author.Rules.{rules}
 use Rattle.sound_walk.proofs.fee_turn.Goals as goal
 
 pub count_fee-requires : goal.count_fee-requires

@@ -6,11 +6,9 @@ use Rattle.sound_fees.proofs.FeeLaws.{counted_skip}
 use Rattle.account_sums.proofs.ColumnLaws.{source-added, debit-added}
 use Rattle.sound_header.specs.Clauses.{passes_in}
 use Rattle.records.specs.Encoding.{row_at, rows_of}
-use borrow.Author.Tests.{not-true, not-false}
 use mathlib.Core.Bool.{true, false}
 use mathlib.Core.Path.{◌≡◌, refl, sym, ◌∙◌}
 use Prim.Native.Nat.{◌+◌}
-use borrow.Author.Rules.{rules}
 use Rattle.sound_walk.proofs.other_turn.Goals as goal
 use Rattle.sound_walk.proofs.other_turn.Goals.{Else-not-other_passes}
 

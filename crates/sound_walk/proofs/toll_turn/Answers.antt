@@ -4,12 +4,10 @@ use Rattle.sound_fees.proofs.FeeLaws.{counted_skip}
 use Rattle.account_sums.proofs.ColumnLaws.{debit-added}
 use Rattle.sound_header.specs.Clauses.{passes_in}
 use Rattle.records.specs.Encoding.{row_at, rows_of}
-use borrow.Author.Tests.{not-true, not-false}
 use mathlib.Core.Bool.{true}
 use mathlib.Core.Path.{◌≡◌, sym, ◌∙◌}
 use native.Mathlib.Omega.{arith}
 use Prim.Native.Nat.{◌+◌}
-use borrow.Author.Rules.{rules}
 use Rattle.sound_walk.proofs.toll_turn.Goals as goal
 use Rattle.sound_walk.proofs.toll_turn.Goals.{Else-not-toll_passes}
 

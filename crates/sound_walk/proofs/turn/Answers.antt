@@ -5,13 +5,11 @@ use Rattle.sound_passages.proofs.TreeLaws.{trees-skip}
 use Rattle.sound_fees.proofs.FeeLaws.{counted_skip}
 use Rattle.account_sums.proofs.ColumnLaws.{source-added}
 use Rattle.sound_header.specs.Clauses.{passes_in}
-use borrow.Author.Tests.{not-true, not-false}
 use lib.Dec.{eqb}
 use mathlib.Core.Bool.{true}
 use mathlib.Core.Path.{◌≡◌, sym, ◌∙◌}
 use native.Mathlib.Omega.{arith}
 use Prim.Native.Nat.{◌+◌}
-use borrow.Author.Rules.{rules}
 use Rattle.sound_walk.proofs.turn.Goals as goal
 use Rattle.sound_walk.proofs.turn.Goals.{After-plain_row-r, Else-not-payment_passes}
 

@@ -1,11 +1,8 @@
 -- `walk` meets its contract: the invariant is what the rows passed have shown; the measure is the rows left.
-use borrow.Author.Rules.{rules}
-use Rattle.sound_walk.specs.Walks.{Walked}
-use borrow.Author.Tests.{not-true, not-false}
 use Rattle.sound_walk.proofs.WalkLaws.{walks-good, walks-bad}
 use mathlib.Core.Path.{◌≡◌}
 use native.Mathlib.Omega.{arith}
-use Prim.Native.Nat.{◌-◌, ◌≤◌}
+use Prim.Native.Nat.{◌-◌}
 use Rattle.sound_walk.proofs.walk.Goals as goal
 
 pub loop-i-init : goal.loop-i-init

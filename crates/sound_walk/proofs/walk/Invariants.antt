@@ -1,9 +1,4 @@
-use borrow.Author.Rules.{rules}
 use Rattle.sound_walk.specs.Walks.{Walked}
-use borrow.Author.Tests.{not-true, not-false}
-use Rattle.sound_walk.proofs.WalkLaws.{walks-good, walks-bad}
-use mathlib.Core.Path.{◌≡◌}
-use native.Mathlib.Omega.{arith}
 use Prim.Native.Nat.{◌-◌, ◌≤◌}
 use Rattle.sound_walk.proofs.walk.Given as goal
 

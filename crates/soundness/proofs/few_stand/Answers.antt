@@ -4,7 +4,6 @@ use Rattle.sound_passages.proofs.TreeLaws.{trees-none}
 use Rattle.sound_fees.proofs.FeeLaws.{counted_none}
 use mathlib.Core.Path.{refl}
 use native.Mathlib.Omega.{arith}
-use borrow.Author.Rules.{rules}
 use Rattle.soundness.proofs.few_stand.Goals as goal
 
 pub passes_with-requires : goal.passes_with-requires

@@ -2,7 +2,6 @@
 use Rattle.soundness.proofs.SoundParts.{walked_none, unfit-passes, sums-decide}
 use borrow.Author.Tests.{not-true, not-false}
 use mathlib.Core.Path.{◌∙◌}
-use borrow.Author.Rules.{rules}
 use native.Mathlib.Omega.{arith}
 use Rattle.soundness.proofs.passes_with.Goals as goal
 

@@ -7,7 +7,6 @@ use Rattle.rules.specs.Opening.{day_fits}
 use borrow.Author.Tests.{not-true, not-false, lt-leb}
 use mathlib.Core.Path.{refl, sym, ap, ◌∙◌}
 use native.Mathlib.Omega.{arith}
-use borrow.Author.Rules.{rules}
 use Rattle.soundness.proofs.sound.Goals as goal
 use Rattle.soundness.proofs.sound.Goals.{After-get, Else-not-lengths_fit}
 

@@ -1,5 +1,4 @@
 -- `close_account` meets its contract: the account stays open, closes with no money, or closes and its money leaves.
-use borrow.Author.Rules.{rules}
 use borrow.Author.Tests.{not-true, not-false}
 use mathlib.Core.Path.{sym, ◌∙◌}
 use Rattle.tick_close.proofs.CloseLaws.{stays_open, closes-bare, closes-refunding, closed-holds, refund-room, refund-holds}

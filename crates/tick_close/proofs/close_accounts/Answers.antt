@@ -1,5 +1,4 @@
 -- `close_accounts` meets its contract: none closes and the tables stay, or the arrays decide as the book does.
-use borrow.Author.Rules.{rules}
 use borrow.Author.Tests.{not-true}
 use native.Mathlib.Omega.{arith}
 use Rattle.account_sums.specs.Tallies.{money_of, owed_of}

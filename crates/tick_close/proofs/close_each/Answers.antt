@@ -1,10 +1,9 @@
 -- `close_each` meets its contract: the accounts passed are done.
 use native.Mathlib.Omega.{arith}
 use mathlib.Core.Path.{◌≡◌}
-use Prim.Native.Nat.{◌-◌, ◌/◌, ◌≤◌, ◌<◌}
+use Prim.Native.Nat.{◌-◌, ◌/◌, ◌<◌}
 use lib.ListN.{length}
 use Rattle.records.specs.Layout.{account_width}
-use Rattle.tick_close.specs.Closing.{ClosedTo}
 use Rattle.tick_close.proofs.CloseLaws.{closed_none, closable-next, closed-more}
 use Rattle.tick_close.proofs.close_each.Goals as goal
 

@@ -1,10 +1,5 @@
-use native.Mathlib.Omega.{arith}
-use mathlib.Core.Path.{◌≡◌}
-use Prim.Native.Nat.{◌-◌, ◌/◌, ◌≤◌, ◌<◌}
-use lib.ListN.{length}
-use Rattle.records.specs.Layout.{account_width}
+use Prim.Native.Nat.{◌-◌, ◌≤◌}
 use Rattle.tick_close.specs.Closing.{ClosedTo}
-use Rattle.tick_close.proofs.CloseLaws.{closed_none, closable-next, closed-more}
 use Rattle.tick_close.proofs.close_each.Given as goal
 
 abbrev pub invariant-loop-i : goal.invariant-loop-i

@@ -1,5 +1,4 @@
 -- `is_closing` meets its contract.
-use borrow.Author.Rules.{rules}
 use Rattle.tick_close.specs.Closing.{closes_by}
 use Rattle.tick_close.proofs.is_closing.Goals as goal
 

@@ -1,5 +1,4 @@
 -- `use_row` meets its contract: a row of an account that stays open and a debit are left, a source of a closing account is used whole.
-use borrow.Author.Rules.{rules}
 use borrow.Author.Tests.{not-true, not-false}
 use native.Mathlib.Omega.{arith}
 use mathlib.Core.Path.{sym, ◌∙◌}

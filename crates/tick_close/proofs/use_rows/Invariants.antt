@@ -1,10 +1,5 @@
-use borrow.Author.Rules.{rules}
-use native.Mathlib.Omega.{arith}
-use mathlib.Core.Path.{◌≡◌}
 use Prim.Native.Nat.{◌-◌, ◌≤◌}
-use Rattle.records.specs.Encoding.{row_at}
 use Rattle.tables.specs.Changes.{RowsMapped}
-use Rattle.tables.proofs.ChangeLaws.{mapped-none, mapped-more}
 use Rattle.tick_close.specs.Closing.{use_up_by}
 use Rattle.tick_close.proofs.use_rows.Given as goal
 

@@ -7,7 +7,6 @@ use Rattle.records.specs.Encoding.{row_at}
 use Rattle.tick_base.proofs.StageLaws.{no_end}
 use Rattle.tick_holds.specs.Holds.{ends_of}
 use Rattle.tick_holds.proofs.HoldLaws.{share-ends}
-use borrow.Author.Rules.{rules}
 use Rattle.tick_holds.proofs.count_end.Goals as goal
 use Rattle.tick_holds.proofs.count_end.Goals.{After-read_row-r}
 

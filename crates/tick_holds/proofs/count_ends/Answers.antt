@@ -1,10 +1,7 @@
 -- `count_ends` meets its contract: the counts are of the rows passed.
 use native.Mathlib.Omega.{arith}
 use mathlib.Core.Path.{◌≡◌}
-use Prim.Native.Nat.{◌-◌, ◌≤◌}
-use Rattle.account_sums.specs.Tallies.{Tallied}
-use Rattle.tick_holds.specs.Holds.{ends_of}
-use Rattle.records.specs.Limits.{slot_count}
+use Prim.Native.Nat.{◌-◌}
 use Rattle.tick_holds.proofs.count_ends.Goals as goal
 
 pub loop-i-init : goal.loop-i-init

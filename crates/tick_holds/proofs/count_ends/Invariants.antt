@@ -1,5 +1,3 @@
-use native.Mathlib.Omega.{arith}
-use mathlib.Core.Path.{◌≡◌}
 use Prim.Native.Nat.{◌-◌, ◌≤◌}
 use Rattle.account_sums.specs.Tallies.{Tallied}
 use Rattle.tick_holds.specs.Holds.{ends_of}

@@ -4,7 +4,6 @@ use Rattle.tables.proofs.ChangeLaws.{unchanged}
 use Rattle.tick_base.proofs.StageLaws.{no_end}
 use Rattle.tick_holds.proofs.HoldLaws.{release-due}
 use Rattle.records.specs.Encoding.{row_at}
-use borrow.Author.Rules.{rules}
 use Rattle.preservation.proofs.TickSteps.{end_hold-ends, end_hold-goes-on}
 use Rattle.tick_holds.proofs.end_hold.Goals as goal
 

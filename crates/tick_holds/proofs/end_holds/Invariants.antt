@@ -1,9 +1,5 @@
-use native.Mathlib.Omega.{arith}
-use mathlib.Core.Path.{◌≡◌}
 use Prim.Native.Nat.{◌-◌, ◌≤◌}
-use Rattle.records.specs.Encoding.{row_at}
 use Rattle.tables.specs.Changes.{RowsMapped}
-use Rattle.tables.proofs.ChangeLaws.{mapped-none, mapped-more}
 use Rattle.rules.specs.Tick.{end_hold}
 use Rattle.tick_holds.proofs.end_holds.Given as goal
 

@@ -7,7 +7,6 @@ use Rattle.account_sums.proofs.TallyLaws.{tallied-none}
 use Rattle.tick_base.proofs.MidwayLaws.{sound-midway, midway-countable}
 use Rattle.tick_holds.specs.Holds.{ends_of}
 use Rattle.tick_holds.proofs.HoldLaws.{sound-ending, mapped-journal, unraised-written, unraised-same}
-use borrow.Author.Rules.{rules}
 use Rattle.records.specs.Limits.{slot_count}
 use Rattle.tick_holds.proofs.free_and_settle.Goals as goal
 

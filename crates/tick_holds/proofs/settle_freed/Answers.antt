@@ -1,8 +1,7 @@
 -- `settle_freed` meets its contract: of the accounts passed those are settled of which a hold has ended.
 use native.Mathlib.Omega.{arith}
 use mathlib.Core.Path.{◌≡◌}
-use Prim.Native.Nat.{◌-◌, ◌≤◌}
-use Rattle.tick_holds.specs.Holds.{SettledThose}
+use Prim.Native.Nat.{◌-◌}
 use Rattle.tick_holds.proofs.HoldLaws.{settled-journal, settled-none, settled-more}
 use Rattle.tick_holds.proofs.settle_freed.Goals as goal
 

@@ -1,8 +1,5 @@
-use native.Mathlib.Omega.{arith}
-use mathlib.Core.Path.{◌≡◌}
 use Prim.Native.Nat.{◌-◌, ◌≤◌}
 use Rattle.tick_holds.specs.Holds.{SettledThose}
-use Rattle.tick_holds.proofs.HoldLaws.{settled-journal, settled-none, settled-more}
 use Rattle.tick_holds.proofs.settle_freed.Given as goal
 
 abbrev pub invariant-loop-i : goal.invariant-loop-i

@@ -1,6 +1,5 @@
 -- `settle_if` meets its contract.
 use Rattle.tick_holds.proofs.HoldLaws.{settled-not}
-use borrow.Author.Rules.{rules}
 use Rattle.tick_holds.proofs.settle_if.Goals as goal
 
 pub returns-then-freed : goal.returns-then-freed

@@ -1,5 +1,4 @@
 -- `fee_naming` meets its contract.
-use borrow.Author.Rules.{rules}
 use Rattle.tick_raise.proofs.fee_naming.Goals as goal
 
 pub returns : goal.returns

@@ -1,6 +1,5 @@
 -- `raise_row` meets its contract.
 use borrow.Author.Rules.{rules}
-use borrow.Author.Tests.{not-true, not-false}
 use mathlib.Core.Path.{refl, sym, ◌∙◌}
 use Rattle.tick_base.proofs.StageLaws.{not-due}
 use Rattle.tick_raise.proofs.RaisedLaws.{raised-none, up-storable, raised-alone, fee-room, fee-storable, raised-fee}

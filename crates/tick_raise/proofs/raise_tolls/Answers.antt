@@ -5,9 +5,8 @@ use mathlib.Core.Path.{◌≡◌}
 use Rattle.records.specs.Layout.{used_place}
 use Rattle.records.specs.Encoding.{word}
 use Rattle.records.specs.Limits.{most_rows}
-use Rattle.posting.specs.Posts.{tables_at}
 use Rattle.tick_base.proofs.MidwayLaws.{midway-header}
-use Rattle.tick_raise.proofs.RaisingLaws.{Turns, turns-none, turn-raisable, turns_more, turns-few, turns-counted, turns-written}
+use Rattle.tick_raise.proofs.RaisingLaws.{turns-none, turn-raisable, turns_more, turns-few, turns-counted, turns-written}
 use Rattle.tick_raise.proofs.raise_tolls.Goals as goal
 
 pub get-today-requires : goal.get-today-requires

@@ -1,12 +1,6 @@
-use Prim.Native.Nat.{◌+◌, ◌-◌, ◌≤◌}
-use native.Mathlib.Omega.{arith}
-use mathlib.Core.Path.{◌≡◌}
-use Rattle.records.specs.Layout.{used_place}
-use Rattle.records.specs.Encoding.{word}
-use Rattle.records.specs.Limits.{most_rows}
+use Prim.Native.Nat.{◌-◌}
 use Rattle.posting.specs.Posts.{tables_at}
-use Rattle.tick_base.proofs.MidwayLaws.{midway-header}
-use Rattle.tick_raise.proofs.RaisingLaws.{Turns, turns-none, turn-raisable, turns_more, turns-few, turns-counted, turns-written}
+use Rattle.tick_raise.proofs.RaisingLaws.{Turns}
 use Rattle.tick_raise.proofs.raise_tolls.Given as goal
 
 abbrev pub invariant-loop-i : goal.invariant-loop-i

@@ -1,13 +1,8 @@
 -- `toll_ledger_batch` meets its contract: refused, it writes nothing; else, at each turn, the events before it are posted in order.
 use mathlib.Core.Bool.{false}
-use mathlib.Core.Path.{◌≡◌, refl, sym, ◌∙◌}
-use mathlib.Core.List.{List}
-use Prim.Native.Nat.{◌<◌}
-use native.Mathlib.Omega.{arith}
-use lib.IntN.{ℤ, pos}
+use mathlib.Core.Path.{refl, sym, ◌∙◌}
+use lib.IntN.{pos}
 use borrow.Author.Tests.{ne_eqb}
-use Rattle.lists.specs.Tests.{◌is◌}
-use Rattle.rules.specs.Tables.{Tables}
 use Rattle.rules.specs.Calls.{Gives, batch_call}
 use Rattle.posting.specs.Posts.{tables_at}
 use Rattle.call_batch.proofs.BatchCallLaws.{Taken, taken, batch-refused, after_none, after-sound, after-room, after_more, after-all}

@@ -1,6 +1,5 @@
 -- `toll_ledger_event` meets its contract: number, tables and answer table are the call's.
 use Rattle.toll_ledger.proofs.NumberLaws.{number_fits, signed_gives, event-small}
-use borrow.Author.Rules.{rules}
 use Rattle.toll_ledger.proofs.toll_ledger_event.Goals as goal
 
 pub overflow_cast-result : goal.overflow_cast-result

@@ -1,6 +1,5 @@
 -- `toll_ledger_open` meets its contract: number and tables are opening's.
 use Rattle.toll_ledger.proofs.NumberLaws.{number_fits, signed_gives, open-small}
-use borrow.Author.Rules.{rules}
 use Rattle.toll_ledger.proofs.toll_ledger_open.Goals as goal
 
 pub overflow_cast-result : goal.overflow_cast-result

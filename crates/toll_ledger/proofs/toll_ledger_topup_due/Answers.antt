@@ -3,7 +3,7 @@ use mathlib.Core.Path.{◌∙◌}
 use mir.Facts.{to_z-of_z}
 use Rattle.std.proofs.Common.{w64}
 use Rattle.toll_ledger.proofs.NumberLaws.{number_fits, signed-replies, due-small}
-use borrow.Author.Rules.{rules, sfits_of}
+use borrow.Author.Rules.{sfits_of}
 use Rattle.toll_ledger.proofs.toll_ledger_topup_due.Goals as goal
 
 pub overflow_cast-result : goal.overflow_cast-result

@@ -4,7 +4,6 @@ use mathlib.Core.Bool.{true, false}
 use borrow.Author.Tests.{not-true, not-false, lt-ltb, le-ltb}
 use Rattle.lists.specs.Tests.{first}
 use Rattle.call_refusals.proofs.RefusalLaws.{batch-refusals-by}
-use borrow.Author.Rules.{rules}
 use Rattle.call_refusals.proofs.batch.batch_refusal.Goals as goal
 
 pub returns-then-not-sound : goal.returns-then-not-sound

@@ -4,7 +4,6 @@ use mathlib.Core.Bool.{true, false}
 use borrow.Author.Tests.{not-true, not-false}
 use Rattle.lists.specs.Tests.{first}
 use Rattle.call_refusals.proofs.RefusalLaws.{event-refusals-by}
-use borrow.Author.Rules.{rules}
 use Rattle.call_refusals.proofs.single.event_refusal.Goals as goal
 
 pub returns-then-not-sound : goal.returns-then-not-sound

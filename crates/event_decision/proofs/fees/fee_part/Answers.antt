@@ -1,5 +1,4 @@
 -- `fees::fee_part` meets its contract.
-use borrow.Author.Rules.{rules}
 use mathlib.Core.Path.{sym, ◌∙◌}
 use mathlib.Core.Bool.{true, false}
 use Rattle.event_decision.proofs.FeeLaws.{fee-adds}

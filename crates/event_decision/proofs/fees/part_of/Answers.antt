@@ -1,5 +1,4 @@
 -- `fees::part_of` meets its contract.
-use borrow.Author.Rules.{rules}
 use Rattle.event_decision.specs.Decision.{part}
 use Rattle.event_decision.proofs.fees.part_of.Goals as goal
 

@@ -1,5 +1,4 @@
 -- `fees::settle_fee` meets its contract.
-use borrow.Author.Rules.{rules}
 use borrow.Author.Tests.{not-true, not-false}
 use mathlib.Core.Path.{sym, ◌∙◌}
 use Rattle.records.specs.Encoding.{row_at}

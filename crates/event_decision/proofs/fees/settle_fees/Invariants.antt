@@ -1,9 +1,5 @@
 use Prim.Native.Nat.{◌-◌, ◌≤◌}
-use native.Mathlib.Omega.{arith}
-use mathlib.Core.Path.{◌≡◌}
-use Rattle.records.specs.Encoding.{row_at}
 use Rattle.tables.specs.Changes.{RowsMapped}
-use Rattle.tables.proofs.ChangeLaws.{mapped-none, mapped-more}
 use Rattle.event_decision.specs.Decision.{fee_settled}
 use Rattle.event_decision.proofs.fees.settle_fees.Given as goal
 

@@ -1,9 +1,9 @@
 -- `fees::with_fees` meets its contract: the sum is that of the toll and of the fees among the rows passed.
-use Prim.Native.Nat.{◌-◌, ◌≤◌}
+use Prim.Native.Nat.{◌-◌}
 use native.Mathlib.Omega.{arith}
 use mathlib.Core.Path.{◌≡◌}
 use Rattle.event_decision.specs.Decision.{toll_and_fees}
-use Rattle.event_decision.proofs.FeeLaws.{sum_to, sum-start, sum_fits, sum_more}
+use Rattle.event_decision.proofs.FeeLaws.{sum-start, sum_fits, sum_more}
 use Rattle.event_decision.proofs.fees.with_fees.Goals as goal
 
 pub row_numbered-requires : goal.row_numbered-requires

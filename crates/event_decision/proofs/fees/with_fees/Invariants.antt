@@ -1,8 +1,6 @@
 use Prim.Native.Nat.{◌-◌, ◌≤◌}
-use native.Mathlib.Omega.{arith}
 use mathlib.Core.Path.{◌≡◌}
-use Rattle.event_decision.specs.Decision.{toll_and_fees}
-use Rattle.event_decision.proofs.FeeLaws.{sum_to, sum-start, sum_fits, sum_more}
+use Rattle.event_decision.proofs.FeeLaws.{sum_to}
 use Rattle.event_decision.proofs.fees.with_fees.Given as goal
 
 abbrev pub invariant-loop-i : goal.invariant-loop-i

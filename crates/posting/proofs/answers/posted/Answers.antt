@@ -1,5 +1,4 @@
 -- `answers::posted` meets its contract.
-use borrow.Author.Rules.{rules}
 use borrow.Author.Tests.{eq-eqb, ne_eqb}
 use Rattle.posting.proofs.answers.posted.Goals as goal
 

@@ -1,5 +1,4 @@
 -- `rows::add_row` meets its contract.
-use borrow.Author.Rules.{rules}
 use native.Mathlib.Omega.{arith}
 use Rattle.posting.proofs.rows.add_row.Goals as goal
 

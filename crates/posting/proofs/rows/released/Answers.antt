@@ -1,5 +1,4 @@
 -- `rows::released` meets its contract.
-use borrow.Author.Rules.{rules}
 use mathlib.Core.Path.{refl}
 use Rattle.rules.specs.Events.{release}
 use Rattle.posting.proofs.rows.released.Goals as goal

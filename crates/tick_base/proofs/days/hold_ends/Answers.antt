@@ -1,12 +1,10 @@
 -- `days::hold_ends` meets its contract.
 use native.Mathlib.Omega.{arith}
 use mathlib.Core.Path.{◌≡◌, sym, ◌∙◌}
-use borrow.Author.Tests.{not-true, not-false}
 use mathlib.Core.Bool.{false}
 use Rattle.rules.specs.Rows.{held_toll}
 use Rattle.rules.specs.Tick.{hold_ends}
 use Rattle.tick_base.proofs.StageLaws.{ends-before, ends_at}
-use borrow.Author.Rules.{rules}
 use Rattle.tick_base.proofs.days.hold_ends.Goals as goal
 
 pub returns-then-not-held_toll : goal.returns-then-not-held_toll

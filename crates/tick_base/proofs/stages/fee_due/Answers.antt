@@ -1,5 +1,4 @@
 -- `stages::fee_due` meets its contract.
-use borrow.Author.Rules.{rules}
 use native.Mathlib.Omega.{arith}
 use mathlib.Core.Path.{sym, ◌∙◌}
 use Rattle.tick_base.proofs.StageLaws.{riser-low}

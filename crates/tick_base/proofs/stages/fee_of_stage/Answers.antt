@@ -1,5 +1,4 @@
 -- `stages::fee_of_stage` meets its contract: the fees stand stage by stage.
-use borrow.Author.Rules.{rules}
 use native.Mathlib.Omega.{arith}
 use mathlib.Core.Path.{◌∙◌}
 use Rattle.tick_base.proofs.StageLaws.{fee-low, fee-high, fee-place}

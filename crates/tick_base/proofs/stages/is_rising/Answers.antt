@@ -1,5 +1,4 @@
 -- `stages::is_rising` meets its contract.
-use borrow.Author.Rules.{rules}
 use Rattle.rules.specs.Tick.{rises}
 use Rattle.tick_base.proofs.stages.is_rising.Goals as goal
 

@@ -1,5 +1,4 @@
 -- `sums::add_remainder` meets its contract: a row is a source or a debit, and each sum takes its share.
-use borrow.Author.Rules.{rules}
 use mathlib.Core.Bool.{cond}
 use mathlib.Core.Path.{◌≡◌, ◌∙◌}
 use Rattle.records.specs.Encoding.{row_at}

@@ -1,9 +1,7 @@
 -- `sums::add_remainders` meets its contract: the sums are of the rows passed.
-use borrow.Author.Rules.{rules}
 use mathlib.Core.Path.{◌≡◌}
 use native.Mathlib.Omega.{arith}
-use Prim.Native.Nat.{◌-◌, ◌≤◌}
-use Rattle.tick_base.specs.Remainders.{Remainders}
+use Prim.Native.Nat.{◌-◌}
 use Rattle.tick_base.proofs.sums.add_remainders.Goals as goal
 
 pub loop-i-init : goal.loop-i-init

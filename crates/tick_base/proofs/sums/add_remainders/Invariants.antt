@@ -1,6 +1,3 @@
-use borrow.Author.Rules.{rules}
-use mathlib.Core.Path.{◌≡◌}
-use native.Mathlib.Omega.{arith}
 use Prim.Native.Nat.{◌-◌, ◌≤◌}
 use Rattle.tick_base.specs.Remainders.{Remainders}
 use Rattle.tick_base.proofs.sums.add_remainders.Given as goal

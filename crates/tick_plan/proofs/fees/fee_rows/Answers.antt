@@ -6,7 +6,6 @@ use Rattle.records.specs.Encoding.{row_at}
 use Rattle.rules.specs.Tick.{rises}
 use Rattle.tick_base.proofs.StageLaws.{not-due}
 use Rattle.tick_plan.proofs.CountLaws.{fee-brought, fee-not-brought}
-use borrow.Author.Rules.{rules}
 use Rattle.tick_plan.proofs.fees.fee_rows.Goals as goal
 
 pub returns-then-due_at-today : goal.returns-then-due_at-today

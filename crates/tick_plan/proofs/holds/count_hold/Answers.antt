@@ -8,7 +8,6 @@ use Rattle.records.specs.Encoding.{row_at}
 use Rattle.tick_base.proofs.StageLaws.{not-held, no_end}
 use Rattle.tick_plan.specs.Plans.{stays_of}
 use Rattle.tick_plan.proofs.CountLaws.{share-stays}
-use borrow.Author.Rules.{rules}
 use Rattle.tick_plan.proofs.holds.count_hold.Goals as goal
 use Rattle.tick_plan.proofs.holds.count_hold.Goals.{After-part, After-read_row-r}
 

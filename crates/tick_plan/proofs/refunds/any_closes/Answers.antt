@@ -1,10 +1,9 @@
 -- `refunds::any_closes` meets its contract: none of the accounts passed closes.
-use Prim.Native.Nat.{◌-◌, ◌≤◌}
+use Prim.Native.Nat.{◌-◌}
 use native.Mathlib.Omega.{arith}
 use mathlib.Core.Path.{◌≡◌, sym, ◌∙◌}
 use mathlib.Core.Bool.{true≢false}
 use borrow.Author.Count.{below_more}
-use Rattle.tick_plan.specs.Plans.{NoneClosesBy}
 use Rattle.tick_plan.proofs.refunds.any_closes.Goals as goal
 
 pub loop-i-init : goal.loop-i-init

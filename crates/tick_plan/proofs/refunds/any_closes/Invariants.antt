@@ -1,8 +1,4 @@
 use Prim.Native.Nat.{◌-◌, ◌≤◌}
-use native.Mathlib.Omega.{arith}
-use mathlib.Core.Path.{◌≡◌, sym, ◌∙◌}
-use mathlib.Core.Bool.{true≢false}
-use borrow.Author.Count.{below_more}
 use Rattle.tick_plan.specs.Plans.{NoneClosesBy}
 use Rattle.tick_plan.proofs.refunds.any_closes.Given as goal
 

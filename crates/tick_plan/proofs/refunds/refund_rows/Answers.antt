@@ -1,5 +1,4 @@
 -- `refunds::refund_rows` meets its contract.
-use borrow.Author.Rules.{rules}
 use native.Mathlib.Omega.{arith}
 use Rattle.tick_plan.specs.Plans.{refund_by}
 use Rattle.tick_plan.proofs.refunds.refund_rows.Goals as goal

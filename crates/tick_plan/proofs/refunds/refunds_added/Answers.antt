@@ -1,11 +1,10 @@
 -- `refunds::refunds_added` meets its contract: n rows are brought by the accounts passed, at most one by each.
-use Prim.Native.Nat.{◌-◌, ◌≤◌}
+use Prim.Native.Nat.{◌-◌}
 use native.Mathlib.Omega.{arith}
 use mathlib.Core.Path.{◌≡◌, refl}
-use lib.ListN.{length}
-use Rattle.lists.specs.Lists.{gather, gather_from, tabulate}
+use Rattle.lists.specs.Lists.{gather_from, tabulate}
 use Rattle.lists.proofs.GatherLaws.{length-gather-tabulate}
-use Rattle.records.specs.Encoding.{account_at, accounts_of}
+use Rattle.records.specs.Encoding.{account_at}
 use Rattle.tick_plan.specs.Plans.{refund_at}
 use Rattle.tick_plan.proofs.refunds.refunds_added.Goals as goal
 

@@ -1,10 +1,8 @@
 use Prim.Native.Nat.{◌-◌, ◌≤◌}
-use native.Mathlib.Omega.{arith}
-use mathlib.Core.Path.{◌≡◌, refl}
+use mathlib.Core.Path.{◌≡◌}
 use lib.ListN.{length}
-use Rattle.lists.specs.Lists.{gather, gather_from, tabulate}
-use Rattle.lists.proofs.GatherLaws.{length-gather-tabulate}
-use Rattle.records.specs.Encoding.{account_at, accounts_of}
+use Rattle.lists.specs.Lists.{gather}
+use Rattle.records.specs.Encoding.{accounts_of}
 use Rattle.tick_plan.specs.Plans.{refund_at}
 use Rattle.tick_plan.proofs.refunds.refunds_added.Given as goal
 

@@ -1,5 +1,4 @@
 -- `refunds::will_close` meets its contract.
-use borrow.Author.Rules.{rules}
 use Rattle.tick_plan.specs.Plans.{close_by}
 use Rattle.tick_plan.proofs.refunds.will_close.Goals as goal
 

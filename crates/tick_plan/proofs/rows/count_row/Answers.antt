@@ -1,5 +1,4 @@
 -- `rows::count_row` meets its contract: each sum and count takes the row's share.
-use borrow.Author.Rules.{rules}
 use Rattle.tick_plan.proofs.CountLaws.{rows_more}
 use Rattle.tick_plan.proofs.rows.count_row.Goals as goal
 

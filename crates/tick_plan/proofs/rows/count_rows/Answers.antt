@@ -1,8 +1,7 @@
 -- `rows::count_rows` meets its contract: sums and counts are of the rows passed.
-use Prim.Native.Nat.{◌-◌, ◌≤◌}
+use Prim.Native.Nat.{◌-◌}
 use native.Mathlib.Omega.{arith}
 use mathlib.Core.Path.{◌≡◌}
-use Rattle.tick_plan.specs.Plans.{RowsCounted}
 use Rattle.tick_plan.proofs.CountLaws.{rows_none}
 use Rattle.tick_plan.proofs.rows.count_rows.Goals as goal
 

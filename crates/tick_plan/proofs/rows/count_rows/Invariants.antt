@@ -1,8 +1,5 @@
 use Prim.Native.Nat.{◌-◌, ◌≤◌}
-use native.Mathlib.Omega.{arith}
-use mathlib.Core.Path.{◌≡◌}
 use Rattle.tick_plan.specs.Plans.{RowsCounted}
-use Rattle.tick_plan.proofs.CountLaws.{rows_none}
 use Rattle.tick_plan.proofs.rows.count_rows.Given as goal
 
 abbrev pub invariant-loop-i : goal.invariant-loop-i
