@@ -1,6 +1,5 @@
 -- `after_print` meets its contract: the place changes where it is printed.
 use mathlib.Core.Path.{sym, ◌∙◌}
-use borrow.Author.Rules.{rules}
 use Rattle.listing.proofs.TurnLaws.{printed-due, printed-else}
 use Rattle.listing.proofs.after_print.Goals as goal
 

@@ -2,7 +2,6 @@
 use native.Mathlib.Omega.{arith}
 use mathlib.Core.Path.{refl, sym, ◌∙◌}
 use lib.Seq.{length-take-le}
-use borrow.Author.Rules.{rules}
 use Rattle.listing.proofs.after_read.Goals as goal
 
 pub slice_bounds-write_rest-end : goal.slice_bounds-write_rest-end

@@ -1,7 +1,6 @@
 -- `print` meets its contract: the bytes printed lie within the buffer.
 use mathlib.Core.Path.{sym}
 use lib.Seq.{length-take-le}
-use borrow.Author.Rules.{rules}
 use Rattle.listing.proofs.print.Goals as goal
 
 pub slice_bounds-write_all-end : goal.slice_bounds-write_all-end

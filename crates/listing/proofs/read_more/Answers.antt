@@ -1,7 +1,6 @@
 -- `read_more` meets its contract: the bytes before those that are read stay.
 use native.Mathlib.Omega.{arith}
 use Rattle.listing.proofs.TurnLaws.{filled-read, count-read}
-use borrow.Author.Rules.{rules}
 use Rattle.listing.proofs.read_more.Goals as goal
 
 pub returns : goal.returns

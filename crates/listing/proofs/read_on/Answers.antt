@@ -1,7 +1,6 @@
 -- `read_on` meets its contract: the bytes that wait are at the front, and what is read follows them.
 use native.Mathlib.Omega.{arith}
 use Rattle.listing.proofs.TurnLaws.{rest-unended, reads-after}
-use borrow.Author.Rules.{rules}
 use Rattle.listing.proofs.read_on.Goals as goal
 
 pub read_more-more-requires : goal.read_more-more-requires

@@ -1,10 +1,8 @@
 -- `run` meets its contract: before each turn the program stands where a run has led it, and the turns left are counted.
 use native.Mathlib.Omega.{arith}
 use mathlib.Core.Path.{refl}
-use borrow.Author.Rules.{rules}
-use Rattle.listing.specs.Turns.{state_at}
 use Rattle.listing.proofs.TurnLaws.{written-fits}
-use Rattle.listing.proofs.RunLaws.{Looping, looping-start, looping-turned, ran-loop, ran-unended}
+use Rattle.listing.proofs.RunLaws.{looping-start, looping-turned, ran-loop, ran-unended}
 use Rattle.listing.proofs.run.Goals as goal
 
 pub loop-turns-init : goal.loop-turns-init

@@ -1,9 +1,5 @@
-use native.Mathlib.Omega.{arith}
-use mathlib.Core.Path.{refl}
-use borrow.Author.Rules.{rules}
 use Rattle.listing.specs.Turns.{state_at}
-use Rattle.listing.proofs.TurnLaws.{written-fits}
-use Rattle.listing.proofs.RunLaws.{Looping, looping-start, looping-turned, ran-loop, ran-unended}
+use Rattle.listing.proofs.RunLaws.{Looping}
 use Rattle.listing.proofs.run.Given as goal
 
 abbrev pub invariant-loop-turns : goal.invariant-loop-turns

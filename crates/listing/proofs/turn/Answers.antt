@@ -1,7 +1,6 @@
 -- `turn` meets its contract: it reads where it waits, else it takes a step.
 use mathlib.Core.Path.{refl, sym, ◌∙◌}
 use mathlib.Core.Bool.{true≢false}
-use borrow.Author.Rules.{rules}
 use Rattle.listing.proofs.turn.Goals as goal
 
 pub returns-then-p : goal.returns-then-p

@@ -5,7 +5,6 @@ use lib.Seq.{take-length}
 use Rattle.records.specs.Layout.{event_width}
 use Rattle.decimal.specs.Decimal.{is_numbers}
 use Rattle.listing_lines.proofs.TakenLaws.{taken-bad, taken-good, numbers-read, event-good, posted-text, posted-book, posted-sound}
-use borrow.Author.Rules.{rules}
 use Rattle.listing_lines.proofs.event_line.Goals as goal
 
 pub returns-then-not-read_fields : goal.returns-then-not-read_fields

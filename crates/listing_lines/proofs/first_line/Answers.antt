@@ -4,7 +4,6 @@ use mathlib.Core.Path.{refl, sym, ◌∙◌}
 use Rattle.listing_rules.specs.Texts.{same, bytes_of}
 use Rattle.listing_text.proofs.PutsLaws.{puts-nothing}
 use Rattle.listing_lines.proofs.TakenLaws.{taken-bad, taken-good, first_good, first-text, first-book, first-ready}
-use borrow.Author.Rules.{rules}
 use Rattle.listing_lines.proofs.first_line.Goals as goal
 
 pub returns-then-not-same_bytes : goal.returns-then-not-same_bytes

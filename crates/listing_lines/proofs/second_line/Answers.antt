@@ -6,7 +6,6 @@ use Rattle.records.specs.Layout.{opening_width}
 use Rattle.decimal.specs.Decimal.{is_numbers}
 use Rattle.listing_text.proofs.PutsLaws.{puts-nothing}
 use Rattle.listing_lines.proofs.TakenLaws.{taken-bad, taken-good, numbers-read, second-unread, second-refused, second-good, second-book, second-sound, second-text}
-use borrow.Author.Rules.{rules}
 use Rattle.listing_lines.proofs.second_line.Goals as goal
 
 pub returns-then-not-read_fields : goal.returns-then-not-read_fields

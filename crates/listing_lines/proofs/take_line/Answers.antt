@@ -1,7 +1,6 @@
 -- `take_line` meets its contract: the number of lines before it decides what the line must be.
 use native.Mathlib.Omega.{arith}
 use mathlib.Core.Path.{◌≡◌}
-use borrow.Author.Rules.{rules}
 use Rattle.listing_lines.proofs.take_line.Goals as goal
 
 pub first_line-requires : goal.first_line-requires

@@ -3,7 +3,6 @@ use native.Mathlib.Omega.{arith}
 use mathlib.Core.Path.{refl, sym, ◌∙◌}
 use Rattle.listing_rules.specs.Texts.{same, bytes_of, line}
 use Rattle.listing_lines.proofs.TakenLaws.{taken-bad, taken-good, third-good, third-text, third-book, third-ready}
-use borrow.Author.Rules.{rules}
 use Rattle.listing_lines.proofs.third_line.Goals as goal
 
 pub returns-then-not-same_bytes : goal.returns-then-not-same_bytes

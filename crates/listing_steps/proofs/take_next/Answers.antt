@@ -1,7 +1,6 @@
 -- `take_next` meets its contract: a whole line is taken, else the bytes are those of an unended one.
 use native.Mathlib.Omega.{arith}
 use Rattle.listing_steps.proofs.StepLaws.{part_slice, step_line}
-use borrow.Author.Rules.{rules}
 use Rattle.listing_steps.proofs.take_next.Goals as goal
 
 pub returns : goal.returns

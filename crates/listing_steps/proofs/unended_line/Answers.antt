@@ -1,7 +1,6 @@
 -- `unended_line` meets its contract: it waits, or the line is too long.
 use native.Mathlib.Omega.{arith}
 use Rattle.listing_steps.proofs.StepLaws.{step_waits, step-long}
-use borrow.Author.Rules.{rules}
 use Rattle.listing_steps.proofs.unended_line.Goals as goal
 
 pub returns-then-p-le-MOST_LINE_BYTES : goal.returns-then-p-le-MOST_LINE_BYTES

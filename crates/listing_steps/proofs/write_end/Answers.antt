@@ -1,7 +1,6 @@
 -- `write_end` meets its contract: a missing line, or the book.
 use native.Mathlib.Omega.{arith}
 use Rattle.listing_steps.proofs.StepLaws.{end-missing, end-book, end-room}
-use borrow.Author.Rules.{rules}
 use Rattle.listing_steps.proofs.write_end.Goals as goal
 
 pub returns-then-lines-lt-FIRST_LINES : goal.returns-then-lines-lt-FIRST_LINES

@@ -2,7 +2,6 @@
 use native.Mathlib.Omega.{arith}
 use borrow.Author.Tests.{not-true, not-false}
 use Rattle.listing_steps.proofs.StepLaws.{rest-none, rest-bad, rest-ready, rest-good}
-use borrow.Author.Rules.{rules}
 use Rattle.listing_steps.proofs.write_rest.Goals as goal
 
 pub returns-then-rest-eq0 : goal.returns-then-rest-eq0
