@@ -1,4 +1,4 @@
--- The steps are the exports' contracts: what a caller learns from each contract is a step, or an opening.
+-- The steps are the contracts of toll_ledger's functions: what a caller learns from each contract is a step, or an opening.
 use mathlib.Core.Path.{refl}
 use mathlib.Core.List.{[]}
 use lib.IntN.{ℤ}

@@ -1,4 +1,4 @@
--- Demand 3 of the exported calls: a run of steps is a list of calls, with the same tables at its end and the same reports.
+-- Demand 3 of the ledger's calls: a run of steps is a list of calls, with the same tables at its end and the same reports.
 use mathlib.Core.Path.{◌≡◌, refl, sym, ap, ◌∙◌}
 use mathlib.Core.List.{List, [], ◌∷◌, ◌++◌}
 use lib.IntN.{ℤ, pos}

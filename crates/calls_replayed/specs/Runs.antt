@@ -1,4 +1,5 @@
--- Runs of the exported calls: each step is what the contract of one export of toll_ledger ensures, whatever its words are.
+-- Runs of the ledger's calls: each step is what the contract of one function of toll_ledger ensures, whatever its words are. toll_ledger_c
+-- exports these functions with the same clauses.
 use Rattle.std.specs.Prelude.{◌≡◌, List, [], ◌++◌, ℤ, pos}
 use Rattle.rules.specs.Tables.{Tables, book_of}
 use Rattle.rules.specs.Calls.{Event, Gives, Replies, open_call, event_call, batch_call, balance_call, topup_due_call}
@@ -30,7 +31,7 @@ unfoldable pub run_reports : {t u : Tables} → Run t u → List Report
 run_reports none = []
 run_reports (more s r) = step_reports s ++ run_reports r
 
--- demand 3 of the exported calls: opening gave 0 on the tables t, by its contract, and a run leads from the tables u that it made to v
+-- demand 3 of these calls: opening gave 0 on the tables t, by its contract, and a run leads from the tables u that it made to v
 abbrev pub CallsReplayed : Type 0
 CallsReplayed =
     (t u v : Tables) (w : List ℤ) → Gives (open_call t w) (pos 0) u [] → (run : Run u v) →

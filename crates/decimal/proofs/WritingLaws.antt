@@ -1,14 +1,14 @@
 -- Laws of texts written into a buffer, and of digits.
 use mathlib.Core.Path.{◌≡◌, refl, sym, ap, ◌∙◌}
 use mathlib.Core.Bool.{true, false}
-use mathlib.Core.List.{List, [], ◌∷◌, ◌++◌, append_assoc}
+use mathlib.Core.List.{List, [], ◌∷◌, ◌++◌, append-nil, append_assoc}
 use Prim.Native.Nat.{ℕ, zero, suc, ◌+◌, ◌-◌, ◌*◌, ◌/◌, ◌%◌, ◌^◌, ◌≤◌, ◌<◌}
 use native.Mathlib.Nat.{le_of_suc-le-suc, pow-suc, pow-le-pow_right, lt_of_not-le}
 use native.Mathlib.Omega.{arith}
 use native.Mathlib.Numerals.{add-one}
 use borrow.Author.Tests.{ltb-true, lt-ltb, le-ltb}
 use lib.ListN.{length, take, drop, set, length-append, length-drop}
-use lib.Seq.{length-take-le, take_at, drop-append-add, drop-drop, append_snoc, set_split}
+use lib.Seq.{length-take-le, take_at, drop-append-add, drop-drop, append_snoc, set_split, take_all, take-length, drop-length}
 use Rattle.io.specs.Digits.{last_digits, IsDigitCount, hex_digit_ascii}
 use lib.IntN.{ℤ, pos, negsuc}
 use lib.Signed.{lt_z}
@@ -40,10 +40,20 @@ pub set-written : (b : List ℕ) (at x : ℕ) → at < length b → set b at x �
 unfolding written
 set-written b at x h = rw (set_split b at x h, append_snoc (take at b) x (drop (at + 1) b), add-one at)
 
--- a text copied over as many bytes from a place on
-pub copied-written : (b : List ℕ) (at n : ℕ) (t u : List ℕ) → n ≡ length t → u ≡ t → take at b ++ (u ++ drop n (drop at b)) ≡ written b at t
+-- a copy into the part from a place on, put back
+pub copied-written : (b : List ℕ) (at : ℕ) (t u : List ℕ) → at ≤ length b
+    → u ≡ take (length t) t ++ drop (length t) (take (length b - at) (drop at b))
+    → take at b ++ (u ++ drop (length b - at) (drop at b)) ≡ written b at t
 unfolding written
-copied-written b at n t u k e = rw (e, k, drop-drop (length t) at b, append_assoc (take at b) t (drop (at + length t) b)) refl
+copied-written b at t u h e =
+    let whole : length (drop at b) ≤ length b - at = omega (arith, length-drop at b) in
+    let past : at + (length b - at) ≡ length b = omega arith in
+    rw (e, take-length t, take_all (length b - at) (drop at b) whole, drop-drop (length b - at) at b, past, drop-length b, append-nil (t ++ drop (length t) (drop at b)), drop-drop (length t) at b, append_assoc (take at b) t (drop (at + length t) b))
+
+-- a text copied over as many bytes from a place on
+pub replaced-written : (b : List ℕ) (at n : ℕ) (t u : List ℕ) → n ≡ length t → u ≡ t → take at b ++ (u ++ drop n (drop at b)) ≡ written b at t
+unfolding written
+replaced-written b at n t u k e = rw (e, k, drop-drop (length t) at b, append_assoc (take at b) t (drop (at + length t) b)) refl
 
 -- ---- digits
 
@@ -103,6 +113,12 @@ unfolding digits_of
 spelled n k text h f e =
     let same : last_digits 10 k n ≡ digits_within 20 n = fewest-digits k 20 n (fewest-within 20 n k f h (omega arith)) f in
     (e ∙ same, ap length (sym same) ∙ length_digits k n)
+
+-- the part from a place on holds a text for which there is room
+pub part_room : (b : List ℕ) (at : ℕ) (t : List ℕ) → at + length t ≤ length b → length t ≤ length (take (length b - at) (drop at b))
+part_room b at t h =
+    let whole : length (drop at b) ≤ length b - at = omega (arith, length-drop at b) in
+    rw (take_all (length b - at) (drop at b) whole) (omega (arith, length-drop at b))
 
 -- ---- numbers
 

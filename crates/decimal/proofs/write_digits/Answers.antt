@@ -3,7 +3,7 @@ use native.Mathlib.Omega.{arith}
 use mathlib.Core.Path.{ap, ◌∙◌}
 use lib.ListN.{take}
 use Rattle.decimal.specs.Decimal.{written}
-use Rattle.decimal.proofs.WritingLaws.{copied-written, spelled}
+use Rattle.decimal.proofs.WritingLaws.{replaced-written, spelled}
 use Rattle.decimal.proofs.write_digits.Goals as goal
 
 pub overflow_add-result : goal.overflow_add-result
@@ -27,5 +27,5 @@ returns c =
     let s = spelled a.n d.result d.new.out (omega arith) d.ensures.len d.ensures.digits in
     record {
       value = omega (arith, s.1);
-      buffer_after = copied-written a.buffer.now a.at _ (take d.result d.new.out) _ (rw s.0 (omega (arith, s.1))) c.copy_from_slice.ensures.after ∙ ap (written a.buffer.now a.at) s.0;
+      buffer_after = replaced-written a.buffer.now a.at _ (take d.result d.new.out) _ (rw s.0 (omega (arith, s.1))) c.copy_from_slice.ensures.after ∙ ap (written a.buffer.now a.at) s.0;
     }
