@@ -21,15 +21,15 @@ step_calls (topup-due-step account n value g same) = []
 -- the calls after it go on from the tables that it leaves
 tables_step : {t u : Tables} (s : Step t u) (cs : List Call) → tables_after t (step_calls s ++ cs) ≡ tables_after u cs
 unfolding step_calls tables_after called
-tables_step (event-step e w v n g) cs = ap (λ (x : Tables). tables_after x cs) (sym g.tables)
-tables_step (batch-step es w v n g) cs = ap (λ (x : Tables). tables_after x cs) (sym g.tables)
+tables_step (event-step e w v n g) cs = rw (← g.tables)
+tables_step (batch-step es w v n g) cs = rw (← g.tables)
 tables_step (balance-step account n value g same) cs = ap (λ (x : Tables). tables_after x cs) (sym same)
 tables_step (topup-due-step account n value g same) cs = ap (λ (x : Tables). tables_after x cs) (sym same)
 
 reports-step : {t u : Tables} (s : Step t u) (cs : List Call) → reports t (step_calls s ++ cs) ≡ step_reports s ++ reports u cs
 unfolding step_calls step_reports reports called
-reports-step {t} (event-step e w v n g) cs = ap (λ (x : Tables). reports_at t (single e w) ++ reports x cs) (sym g.tables)
-reports-step {t} (batch-step es w v n g) cs = ap (λ (x : Tables). reports_at t (batch es w) ++ reports x cs) (sym g.tables)
+reports-step {t} (event-step e w v n g) cs = rw (← g.tables)
+reports-step {t} (batch-step es w v n g) cs = rw (← g.tables)
 reports-step (balance-step account n value g same) cs = ap (λ (x : Tables). reports x cs) (sym same)
 reports-step (topup-due-step account n value g same) cs = ap (λ (x : Tables). reports x cs) (sym same)
 
