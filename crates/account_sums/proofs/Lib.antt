@@ -1,3 +1,3 @@
 pub mod TallyLaws
 pub mod SumsLaws
-pub mod ColumnLaws
+pub mod AccountSumsLaws

@@ -1,2 +1,2 @@
 pub mod Tallies
-pub mod Columns
+pub mod AccountSums

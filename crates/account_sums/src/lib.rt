@@ -1,10 +1,9 @@
-// What the rows come to for each account, in arrays by account number: returned checks, used sources, unused money, settled debits, debts
-// that settlement may pay, and all that is unsettled.
+// What the rows come to for each account, in arrays by account number: one sum, or the six sums that soundness compares.
 #![tactic(auto)]
 
-ghost use Rattle.std.specs.Prelude.{◌≡◌, cond, ◌+◌, ◌*◌, ◌^◌, ◌≤◌, ◌<◌, get_or, set};
-ghost use Rattle.records.specs.Limits.{most_rows, highest_refund, slot_count};
-ghost use Rattle.account_sums.specs.Columns.{Low, raised, with_source, with_debit, Addable, sums_size};
+ghost use Rattle.std.specs.Prelude.{◌≡◌, cond, ◌+◌, ◌^◌, ◌<◌, get_or, set};
+ghost use Rattle.records.specs.Limits.{most_rows, slot_count};
+ghost use Rattle.account_sums.specs.AccountSums.{Low, Small, sourced, debited, with_source, with_debit, Addable};
 
 use records::Row;
 use records::limits::SLOT_COUNT;
@@ -12,13 +11,48 @@ use records::limits::SLOT_COUNT;
 // A sum for each account number, from 0 on.
 pub const SLOTS: usize = SLOT_COUNT;
 
-// Six sums for each account number, side by side so that a row touches one place of memory: three of sources, then three of debits. 12 KiB
-// of a caller's stack.
-pub const SUMS: usize = SLOTS * WIDTH;
+// What an account's rows come to. An array of them has the sums of an account side by side, so that a row touches one place of memory.
+#[derive(Clone, Copy)]
+pub struct Sums {
+    pub returned: u64, // checks that were returned
+    pub drawn: u64, // what is used of its sources
+    pub money: u64, // what is not
+    pub paid: u64, // what is settled of its debits
+    pub debt: u64, // what settlement may pay of them
+    pub owed: u64, // all that is unsettled
+}
 
-const WIDTH: usize = 6;
+impl Sums {
+    pub const NONE: Sums = Sums {
+        returned: 0,
+        drawn: 0,
+        money: 0,
+        paid: 0,
+        debt: 0,
+        owed: 0,
+    };
 
-const DEBITS: usize = 3;
+    // A source: whether it is a returned check, what is used of it, what is not.
+    fn take_source(&mut self, r: Row, returned: bool)
+        requires { Low self.old most_rows × Small r }
+        ensures { self.new ≡ sourced self.old r returned }
+    {
+        self.returned += part(returned, 1);
+        self.drawn += r.settled;
+        self.money += r.amount - r.settled;
+    }
+
+    // A debit: what is settled of it, what settlement may pay, all that is unsettled.
+    fn take_debit(&mut self, r: Row, held: bool)
+        requires { Low self.old most_rows × Small r }
+        ensures { self.new ≡ debited self.old r held }
+    {
+        let left = r.amount - r.settled;
+        self.paid += r.settled;
+        self.debt += part(!held, left);
+        self.owed += left;
+    }
+}
 
 pub fn part(test: bool, v: u64) -> u64
     ensures { result ≡ cond test v 0 }
@@ -30,42 +64,21 @@ pub fn add(sums: &mut [u64; SLOTS], account: usize, v: u64)
     requires { (account < slot_count) × (get_or sums.old account 0 + v < 2 ^ 64) }
     ensures { sums.new ≡ set sums.old account (get_or sums.old account 0 + v) }
 {
-    let old = sums[account];
-    sums[account] = old + v;
+    sums[account] += v;
 }
 
-// Three sums that stand side by side.
-fn add_at(sums: &mut [u64; SUMS], p: usize, x: u64, y: u64, z: u64)
-    requires { (p + 2 < sums_size)
-        × Low sums.old most_rows
-        × (x ≤ highest_refund)
-        × (y ≤ highest_refund)
-        × (z ≤ highest_refund) }
-    ensures { sums.new ≡ raised sums.old p x y z }
-{
-    let first = sums[p];
-    let second = sums[p + 1];
-    let third = sums[p + 2];
-    sums[p] = first + x;
-    sums[p + 1] = second + y;
-    sums[p + 2] = third + z;
-}
-
-// A source: whether it is a returned check, what is used of it, what is not.
-pub fn add_source(sums: &mut [u64; SUMS], r: Row, returned: bool)
+// A source goes to its account's sums.
+pub fn add_source(sums: &mut [Sums; SLOTS], r: Row, returned: bool)
     requires { Addable sums.old r }
     ensures { sums.new ≡ with_source sums.old r returned }
 {
-    let p = r.account as usize * WIDTH;
-    add_at(sums, p, part(returned, 1), r.settled, r.amount - r.settled);
+    sums[r.account as usize].take_source(r, returned);
 }
 
-// A debit: what is settled of it, what settlement may pay, all that is unsettled.
-pub fn add_debit(sums: &mut [u64; SUMS], r: Row, held: bool)
+// So does a debit.
+pub fn add_debit(sums: &mut [Sums; SLOTS], r: Row, held: bool)
     requires { Addable sums.old r }
     ensures { sums.new ≡ with_debit sums.old r held }
 {
-    let p = r.account as usize * WIDTH + DEBITS;
-    let left = r.amount - r.settled;
-    add_at(sums, p, r.settled, part(!held, left), left);
+    sums[r.account as usize].take_debit(r, held);
 }

@@ -1,11 +1,11 @@
 -- Whether a top-up is due, from what is read of sound tables.
 use mathlib.Core.Path.{◌≡◌, refl, sym, ◌∙◌}
-use mathlib.Core.Bool.{Bool, true, false, ◌&&◌}
+use mathlib.Core.Bool.{true, false, ◌&&◌}
 use Prim.Native.Nat.{ℕ}
 use Rattle.records.specs.Layout.{day_place}
 use Rattle.records.specs.Encoding.{word, rows_of, accounts_of}
 use Rattle.rules.specs.Settlement.{money}
-use Rattle.rules.specs.Book.{Account, account, account_no, topup_due}
+use Rattle.rules.specs.Book.{Account, account_no, topup_due}
 use Rattle.rules.specs.Tables.{Tables, accounts_in, rows_used, book_of, sound_tables}
 use Rattle.rules.proofs.TableLaws.{sound-book, sound-rows}
 use Rattle.rules.proofs.BalanceLaws.{due-money}

@@ -52,10 +52,8 @@ pub fn sums_of(journal: &[i64], used: usize, account: u64) -> Sums
         sources: 0,
         debits: 0,
     };
-    let mut i = 0;
-    while i < used {
+    for i in 0..used {
         s = add_amount(journal, used, i, account, s);
-        i += 1;
     }
     s
 }
@@ -80,10 +78,8 @@ pub fn unused_money(journal: &[i64], used: usize, account: u64) -> u64
     ensures { result ≡ money account (rows_of journal.now used) }
 {
     let mut m = 0;
-    let mut i = 0;
-    while i < used {
+    for i in 0..used {
         m = add_unused(journal, used, i, account, m);
-        i += 1;
     }
     m
 }

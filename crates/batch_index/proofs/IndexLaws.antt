@@ -1,14 +1,15 @@
 -- The index of sound tables: it can be made, and what it has for an event is what the tables have.
 use mathlib.Core.Path.{◌≡◌, refl, sym, ◌∙◌}
-use mathlib.Core.Bool.{Bool, true, false, true≢false}
+use mathlib.Core.Bool.{Bool, true, false, not, true≢false}
 use Prim.Native.Nat.{ℕ, ◌+◌, ◌-◌, ◌≤◌, ◌<◌}
 use native.Mathlib.Omega.{arith}
 use native.Mathlib.Decide.{ℕ_discrete, dec_lt}
 use mathlib.Core.List.{List}
 use lib.Dec.{leb}
 use lib.IntN.{ℤ}
-use lib.ListN.{length, get_or, length-replicate}
-use borrow.Author.Tests.{lt-ltb, le-ltb, le-leb, lt-leb}
+use lib.ListN.{length, get_or-eq_default}
+use borrow.Author.Tests.{le-leb, lt-leb}
+use Rattle.std.specs.Prelude.{Option, Some, None, is_some}
 use Rattle.records.specs.Codes.{event_toll, event_topup_result}
 use Rattle.records.specs.Encoding.{row_at, rows_of}
 use Rattle.lists.specs.Lists.{exists}
@@ -24,17 +25,19 @@ use Rattle.sound_passages.proofs.TreeLaws.{trees-none}
 use Rattle.tick_base.proofs.MidwayLaws.{sound-midway, midway-countable}
 use Rattle.event_lookups.specs.Lookups.{NothingLeft, LooksUp}
 use Rattle.event_lookups.proofs.PassageLaws.{toll_of, other-kind, other-passage, passage-found, passage-absent}
-use Rattle.batch_index.specs.Index.{of_side, first_at, money_place, slot_word, SlotsHold, SlotsOf, Indexed, Empty, Indexable, index_size}
+use Rattle.batch_index.specs.declared.slots.Side.{Side}
+use Rattle.batch_index.specs.declared.slots.Side.TheVariants.{Sources, Debits}
+use Rattle.batch_index.specs.declared.slots.Slot.{Slot}
+use Rattle.batch_index.specs.declared.Index.{Index}
+use Rattle.batch_index.specs.Slots.{of_side, first_of, no_slot, slot_at, SlotsHold, SlotsOf}
+use Rattle.batch_index.specs.Index.{Indexed, Empty, Indexable}
 use Rattle.batch_index.proofs.SideLaws.{side-sources, side-debits}
 use Rattle.batch_index.proofs.SlotLaws.{money-outside}
 
 -- ---- the index is made
 
-pub empty-trees : (j : List ℤ) (cells slots : List ℕ) → Empty cells slots → TreesOf most_rows j cells 0
-empty-trees j cells slots e = rw e.no_cell (trees-none most_rows j 32768 refl (omega arith) (omega arith))
-
-pub empty-sized : (cells slots : List ℕ) → Empty cells slots → length slots ≡ index_size
-empty-sized cells slots e = rw e.no_slot (length-replicate {A = ℕ} index_size 0)
+pub empty-trees : (j : List ℤ) (x : Index) → Empty x → TreesOf most_rows j x.cells 0
+empty-trees j x e = rw e.no_cell (trees-none most_rows j 32768 refl (omega arith) (omega arith))
 
 -- in tables whose passage numbers differ a row is always inserted
 pub inserted-trees : (j : List ℤ) (cells : List ℕ) (n used : ℕ) (b : Bool) → n < used → passages_differ (rows_of j used) ≡ true → Inserted most_rows j cells n b → TreesOf most_rows j cells (n + 1)
@@ -47,70 +50,75 @@ sound-indexable t s = record { rows = midway-countable (book_of t).day t (sound-
     differ : passages_differ (book_of t).rows ≡ true
     differ = unfold passages_differ in (every-all _ 1 (book_of t).rows blank (λ k n q h. ((sound-book t s).near.shape k h).passage))
 
-pub index-made : (t : Tables) (cells slots : List ℕ) (used : ℕ) → used ≡ rows_used t → TreesOf most_rows t.journal cells used
-    → SlotsOf t.journal used slots → Indexed t cells slots
-index-made t cells slots used u p q = record { trees = rw u at p; slots-of = rw u at q }
+pub index-made : (t : Tables) (x : Index) (used : ℕ) → used ≡ rows_used t → TreesOf most_rows t.journal x.cells used → SlotsOf t.journal used x.slots → Indexed t x
+index-made t x used u p q = record { trees = rw u at p; slots-of = rw u at q }
 
 -- ---- a passage number
 
-pub cell-for-duplicate : (t : Tables) → sound_tables t ≡ true → (cells : List ℕ) (used x r : ℕ) → used ≡ rows_used t → CellFor most_rows t.journal cells used x r
-    → leb 32768 r ≡ exists (toll_of x) (book_of t).rows
-cell-for-duplicate t s cells used x r u p = rw (sound-rows t s, ← u) (go (dec_lt r 32768))
-  where
-    go : Dec (r < 32768) → leb 32768 r ≡ exists (toll_of x) (rows_of t.journal used)
-    go (yes h) = lt-leb 32768 r h ∙ passage-absent t.journal x used (λ k l. elim (ℕ_discrete (row_at t.journal k).kind kind_toll) [
-      | yes q ↦ other-passage x (row_at t.journal k) (λ w. p.none h k l q w)
-      | no q ↦ other-kind x (row_at t.journal k) q
-    ])
-    go (no h) =
-        let a = p.taken (r - 32768) (omega arith) in
-        le-leb 32768 r (omega arith) ∙ passage-found t.journal x used (r - 32768) a.0 a.1 a.2
+-- of a test and its negation
+pub flag-of_not : (b d : Bool) → b ≡ not d → d ≡ not b
+flag-of_not b true e = rw e refl
+flag-of_not b false e = rw e refl
 
--- ---- the words of a slot
+pub cell-for-duplicate : (t : Tables) → sound_tables t ≡ true → (cells : List ℕ) (used x : ℕ) (r : Option ℕ) → used ≡ rows_used t → CellFor most_rows t.journal cells used x r
+    → not (is_some r) ≡ exists (toll_of x) (book_of t).rows
+cell-for-duplicate t s cells used x (Some c) u p =
+    rw (sound-rows t s, ← u)
+    (passage-absent t.journal x used (λ k l. elim (ℕ_discrete (row_at t.journal k).kind kind_toll) [
+      | yes q ↦ other-passage x (row_at t.journal k) (λ w. p.none k l q w)
+      | no q ↦ other-kind x (row_at t.journal k) q
+    ]))
+cell-for-duplicate t s cells used x None u p = rw (sound-rows t s, ← u) (passage-found t.journal x used p.0 p.1.early p.1.toll p.1.passage)
+
+-- ---- the slot of an account
 
 -- the first row of a side, or row 0 where the account has no slot
-pub record FirstRow (j : List ℤ) (n s a x : ℕ) : Type 0 where
+pub record FirstRow (j : List ℤ) (n : ℕ) (s : Side) (a x : ℕ) : Type 0 where
   pub within : x ≤ n
   pub passed : NothingLeft (of_side s a) j x
 
-pub first_word : (j : List ℤ) (n : ℕ) (slots : List ℕ) → SlotsHold j n 0 slots → (s a x : ℕ) → s < 2 → x ≡ slot_word slots a s → FirstRow j n s a x
-unfolding slot_word
-first_word j n slots t s a x h e = go (dec_lt a slot_count)
-  where
-    go : Dec (a < slot_count) → FirstRow j n s a x
-    go (yes b) =
-        let q : x ≡ get_or slots (first_at a s) 0 = rw (lt-ltb a slot_count b) at e in
-        record { within = omega (arith, t.first-in s a h b); passed = λ k l. t.passed s a h b k (omega arith) (omega arith) }
-    go (no b) =
-        let q : x ≡ 0 = rw (le-ltb a slot_count (omega arith)) at e in
-        record { within = omega arith; passed = λ k l. absurd (omega arith) }
+-- an account number past the slots has that of no rows
+outside : (slots : List Slot) → length slots ≡ slot_count → (a : ℕ) → slot_count ≤ a → slot_at slots a ≡ no_slot
+outside slots z a h = get_or-eq_default slots no_slot {n = a} (omega (arith, z))
 
-pub looks-up-by : (t : Tables) (cells slots : List ℕ) → Indexed t cells slots → (e : Instruction) (b d : Bool) (x y : ℕ)
-    → x ≡ slot_word slots e.account 0 → y ≡ slot_word slots e.account 1
+none-first : (s : Side) → first_of s no_slot ≡ 0
+none-first Sources = refl
+none-first Debits = refl
+
+pub first-row : (j : List ℤ) (n : ℕ) (slots : List Slot) → SlotsHold j n 0 slots → (s : Side) (a : ℕ) → FirstRow j n s a (first_of s (slot_at slots a))
+first-row j n slots t s a = go (dec_lt a slot_count)
+  where
+    go : Dec (a < slot_count) → FirstRow j n s a (first_of s (slot_at slots a))
+    go (yes b) = record { within = t.first-in s a b; passed = λ k l. t.passed s a b k (omega arith) l }
+    go (no b) =
+        rw (outside slots t.sized a (omega arith), none-first s)
+        (record { within = omega arith; passed = λ k l. absurd (omega arith) })
+
+pub looks-up-by : (t : Tables) (i : Index) → Indexed t i → (e : Instruction) (b d : Bool) (x : Slot) → x ≡ slot_at i.slots e.account
     → (e.kind ≡ event_toll → b ≡ exists (toll_of e.a) (book_of t).rows) → (e.kind ≡ event_topup_result → d ≡ topup_due (book_of t) e.account)
-    → LooksUp t e (record { duplicate = b; due = d; source = x; debit = y })
-looks-up-by t cells slots w e b d x y p q f g =
-    let m = first_word t.journal (rows_used t) slots w.slots-of.hold 0 e.account x (omega arith) p in
-    let n = first_word t.journal (rows_used t) slots w.slots-of.hold 1 e.account y (omega arith) q in
-    record {
+    → LooksUp t e (record { duplicate = b; due = d; source = x.source; debit = x.debit })
+looks-up-by t i w e b d x p f g =
+    let m = first-row t.journal (rows_used t) i.slots w.slots-of.hold Sources e.account in
+    let n = first-row t.journal (rows_used t) i.slots w.slots-of.hold Debits e.account in
+    rw p
+    (record {
       duplicate = f;
       due = g;
       source_in = m.within;
       debit-in = n.within;
       sources = rw (side-sources e.account) at m.passed;
       debits = rw (side-debits e.account) at n.passed;
-    }
+    })
 
 -- ---- a top-up
 
 -- the money of a slot is the account's unused money, and an account number without a slot has none
-pub slot-money : (t : Tables) → sound_tables t ≡ true → (slots : List ℕ) → SlotsOf t.journal (rows_used t) slots → (n m : ℕ)
-    → m ≡ slot_word slots n money_place → m ≡ money n (book_of t).rows
-unfolding slot_word
-slot-money t s slots w n m e = rw (sound-rows t s) (go (dec_lt n slot_count))
+pub slot-money : (t : Tables) → sound_tables t ≡ true → (slots : List Slot) → SlotsOf t.journal (rows_used t) slots → (n : ℕ)
+    → (slot_at slots n).money ≡ money n (book_of t).rows
+slot-money t s slots w n = rw (sound-rows t s) (go (dec_lt n slot_count))
   where
-    go : Dec (n < slot_count) → m ≡ money n (rows_of t.journal (rows_used t))
-    go (yes b) = (rw (lt-ltb n slot_count b) at e) ∙ w.moneys n b
+    go : Dec (n < slot_count) → (slot_at slots n).money ≡ money n (rows_of t.journal (rows_used t))
+    go (yes b) = w.moneys n b
     go (no b) =
-        (rw (le-ltb n slot_count (omega arith)) at e)
-        ∙ sym (money-outside t.journal (rows_used t) (sound-indexable t s).rows n (omega arith))
+        rw (outside slots w.hold.sized n (omega arith))
+        (sym (money-outside t.journal (rows_used t) (sound-indexable t s).rows n (omega arith)))

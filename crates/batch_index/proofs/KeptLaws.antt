@@ -1,8 +1,8 @@
 -- Every event keeps what the index knows: it indexes the same rows of the tables after it.
-use mathlib.Core.Path.{◌≡◌, refl, sym, ap, ◌∙◌}
+use mathlib.Core.Path.{◌≡◌, sym, ap, ◌∙◌}
 use mathlib.Core.Logic.{◌≢◌}
 use mathlib.Core.Bool.{Bool, true, false, cond, true≢false}
-use Prim.Native.Nat.{ℕ, zero, suc, ◌≤◌, ◌<◌}
+use Prim.Native.Nat.{ℕ, ◌≤◌, ◌<◌}
 use native.Mathlib.Omega.{arith}
 use mathlib.Core.List.{List}
 use lib.Dec.{ltb}
@@ -29,20 +29,25 @@ use Rattle.preservation.proofs.SoundKept.{post-keeps-sound}
 use Rattle.preservation.proofs.RowsKept.{RowKept, post-keeps-rows}
 use Rattle.posting.specs.Posts.{Posts}
 use Rattle.sound_passages.specs.Trees.{TreesOf}
-use Rattle.batch_index.specs.Index.{on_side, of_side, money_place, slot_word, may_pay_held, SlotsHold, MoneysUpTo, Indexed, IndexedBefore}
+use Rattle.batch_index.specs.declared.slots.Side.{Side}
+use Rattle.batch_index.specs.declared.slots.Side.TheVariants.{Sources, Debits}
+use Rattle.batch_index.specs.declared.slots.Slot.{Slot}
+use Rattle.batch_index.specs.declared.Index.{Index}
+use Rattle.batch_index.specs.Slots.{on_side, of_side, slot_at, SlotsHold, MoneysUpTo}
+use Rattle.batch_index.specs.Index.{may_pay_held, Indexed, IndexedBefore}
 use Rattle.batch_index.proofs.IndexLaws.{slot-money}
 use Rattle.batch_index.proofs.MoneyLaws.{post-money}
 
 -- ---- a row
 
-module _ (s a : ℕ) (x y : Row) (k : RowKept x y) where
+module _ (s : Side) (a : ℕ) (x y : Row) (k : RowKept x y) where
   side-kept : of_side s a y ≡ of_side s a x
   unfolding of_side
   side-kept = rw (go s, k.account)
     where
-      go : (s : ℕ) → on_side s y ≡ on_side s x
-      go zero = unfold on_side in rw k.kind
-      go (suc n) = unfold on_side in rw k.kind
+      go : (s : Side) → on_side s y ≡ on_side s x
+      go Sources = unfold on_side in rw k.kind
+      go Debits = unfold on_side in rw k.kind
 
   remaining-kept : only (of_side s a) remaining y ≤ only (of_side s a) remaining x
   unfolding only
@@ -65,12 +70,12 @@ module _ (j i : List ℤ) (n : ℕ) (kept : (k : ℕ) → k < n → RowKept (row
     clean = λ k m l h a b e. g.clean k m l h (sym (kept k (omega arith)).kind ∙ a) (sym (kept m h).kind ∙ b) (sym (kept k (omega arith)).reference ∙ e ∙ (kept m h).reference);
   }
 
-  hold-kept : (slots : List ℕ) → SlotsHold j n 0 slots → SlotsHold i n 0 slots
+  hold-kept : (slots : List Slot) → SlotsHold j n 0 slots → SlotsHold i n 0 slots
   hold-kept slots t = record {
     sized = t.sized;
     first-in = t.first-in;
-    passed = λ s a h b k l q.
-        omega (arith, t.passed s a h b k l q, remaining-kept s a (row_at j k) (row_at i k) (kept k (omega (arith, t.first-in s a h b))));
+    passed = λ s a b k l q.
+        omega (arith, t.passed s a b k l q, remaining-kept s a (row_at j k) (row_at i k) (kept k (omega (arith, t.first-in s a b))));
     bounded = t.bounded;
   }
 
@@ -115,7 +120,7 @@ module _ (t : Tables) (s : sound_tables t ≡ true) (e : Instruction) where
       sym (sound-rows (tables_of after) (sound_tables-tables_of after after-sound))
       ∙ ap (λ (b : Book). b.rows) (book_of-tables_of after (near after after-sound))
 
-  module _ (cells slots : List ℕ) (x : Indexed t cells slots) (o : may_pay_held e slots ≡ false) where
+  module _ (i : Index) (x : Indexed t i) (o : may_pay_held e i.slots ≡ false) where
     no-tick : e.kind ≢ event_tick
     unfolding may_pay_held
     no-tick k = true≢false (sym (eq-eqb e.kind event_tick k) ∙ or_left (e.kind is event_tick) _ o)
@@ -123,30 +128,26 @@ module _ (t : Tables) (s : sound_tables t ≡ true) (e : Instruction) where
     no-money : e.kind ≡ event_decision → money e.account (book_of t).rows ≡ 0
     unfolding may_pay_held
     no-money k =
-        let q : ltb 0 (slot_word slots e.account money_place) ≡ false =
+        let q : ltb 0 (slot_at i.slots e.account).money ≡ false =
         and_then (e.kind is event_decision) _ (eq-eqb e.kind event_decision k) (or_right (e.kind is event_tick) _ o) in
-        omega (
-          arith,
-          ltb-false 0 (slot_word slots e.account money_place) q,
-          slot-money t s slots x.slots-of e.account (slot_word slots e.account money_place) refl,
-        )
+        omega (arith, ltb-false 0 (slot_at i.slots e.account).money q, slot-money t s i.slots x.slots-of e.account)
 
     -- each account's money once the rows that the event added are added to it
-    moneys-posted : MoneysUpTo (rows_of (tables_of after).journal (rows_used (tables_of after))) (rows_used t) slots
+    moneys-posted : MoneysUpTo (rows_of (tables_of after).journal (rows_used (tables_of after))) (rows_used t) i.slots
     moneys-posted a b =
         rw (rows-posted, x.slots-of.moneys a b, ← sound-rows t s, ← length-sound-rows t s)
         (post-money (book_of t) e (facts-sound (book_of t) (sound-book t s)) no-tick no-money a)
 
   -- the index of the rows before an event, on the tables after it
-  pub index-posted : (cells slots : List ℕ) → Indexed t cells slots → IndexedBefore (tables_of after) (rows_used t) e cells slots
-  index-posted cells slots x = record {
-    trees = trees-kept t.journal (tables_of after).journal (rows_used t) row-posted cells x.trees;
-    hold = hold-kept t.journal (tables_of after).journal (rows_used t) row-posted slots x.slots-of.hold;
-    moneys = moneys-posted cells slots x;
+  pub index-posted : (i : Index) → Indexed t i → IndexedBefore (tables_of after) (rows_used t) e i
+  index-posted i x = record {
+    trees = trees-kept t.journal (tables_of after).journal (rows_used t) row-posted i.cells x.trees;
+    hold = hold-kept t.journal (tables_of after).journal (rows_used t) row-posted i.slots x.slots-of.hold;
+    moneys = moneys-posted i x;
   }
 
--- what update_index asks of the tables after an event that was posted
-pub update-asked : (t u : Tables) (e : Instruction) (r : Answer) (before : ℕ) → before ≡ rows_used t → sound_tables t ≡ true → Posts t u e r → (cells slots : List ℕ)
-    → Indexed t cells slots → (sound_tables u ≡ true) × (before ≤ rows_used u) × IndexedBefore u before e cells slots
-update-asked t u e r before b s p cells slots x =
-    rw (p.tables, b) (sound_tables-tables_of (post (book_of t) e).book (after-sound t s e), used-posted t s e, index-posted t s e cells slots x)
+-- what update asks of the tables after an event that was posted
+pub update-asked : (t u : Tables) (e : Instruction) (r : Answer) (before : ℕ) → before ≡ rows_used t → sound_tables t ≡ true → Posts t u e r → (i : Index)
+    → Indexed t i → (sound_tables u ≡ true) × (before ≤ rows_used u) × IndexedBefore u before e i
+update-asked t u e r before b s p i x =
+    rw (p.tables, b) (sound_tables-tables_of (post (book_of t) e).book (after-sound t s e), used-posted t s e, index-posted t s e i x)

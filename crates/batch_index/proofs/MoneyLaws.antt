@@ -18,7 +18,7 @@ use Rattle.lists.proofs.TestLaws.{and_right, or_left, or_right, cond_either}
 use Rattle.lists.proofs.SumLaws.{sum_by-snoc, sum_by-set-same, sum_by-at-le, sum_by-zero-at, sum_by-map}
 use Rattle.rules.specs.Rows.{Row, Test, kind_toll, kind_payment, blank, row_no, with_mark, remaining, source, debit, unsettled, held_toll, held, source_of, payable}
 use Rattle.rules.specs.Settlement.{money, debt, moved}
-use Rattle.rules.specs.Book.{Instruction, Book, row, settled}
+use Rattle.rules.specs.Book.{Instruction, Book, settled}
 use Rattle.rules.specs.Events.{open_account, post_toll, post_payment, return_check, hold_toll, uphold, reject, decide, pay_topup, decline_topup, topup_result, request_close, add_list}
 use Rattle.rules.specs.Soundness.{sound}
 use Rattle.rules.specs.SoundFacts.{Sound}

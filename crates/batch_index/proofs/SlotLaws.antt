@@ -8,9 +8,10 @@ use native.Mathlib.Decide.{ℕ_discrete, dec_lt}
 use mathlib.Core.List.{List, ◌∷◌}
 use lib.Dec.{ltb}
 use lib.IntN.{ℤ}
-use lib.ListN.{length, get_or, set, drop, take, length-set, take-append-drop, drop_of_length-le}
+use lib.ListN.{length, set, drop, take, replicate, length-set, length-replicate, take-append-drop, drop_of_length-le}
 use lib.Seq.{get_or-set_same, get_or-set_other, drop-cons}
 use borrow.Author.Tests.{eq-eqb, ne_eqb, ltb-false}
+use Rattle.std.proofs.lemmas.List.{get_or-replicate}
 use Rattle.lists.specs.Tests.{◌is◌}
 use Rattle.lists.specs.Lists.{sum_by, only}
 use Rattle.lists.proofs.ListLaws.{length-tabulate, tabulate-at}
@@ -21,8 +22,11 @@ use Rattle.rules.specs.Rows.{Row, Test, blank, source, remaining, source_of}
 use Rattle.rules.specs.Settlement.{money}
 use Rattle.account_sums.specs.Tallies.{Countable}
 use Rattle.batch_index.specs.Money.{money_with, money_after}
-use Rattle.batch_index.specs.Index.{of_side, side_of, first_at, money_at, SlotsHold, MoneysOf, MoneysUpTo, Reset, NextOpen, SlotsOf, index_size}
-use Rattle.batch_index.proofs.SideLaws.{side-low, side-other}
+use Rattle.batch_index.specs.declared.slots.Side.{Side}
+use Rattle.batch_index.specs.declared.slots.Side.TheVariants.{Sources, Debits}
+use Rattle.batch_index.specs.declared.slots.Slot.{Slot}
+use Rattle.batch_index.specs.Slots.{of_side, side_of, first_of, with_first, no_slot, slot_at, SlotsHold, MoneysOf, MoneysUpTo, NextOpen, SlotsOf}
+use Rattle.batch_index.proofs.SideLaws.{source-side, debit-side, side-other}
 
 -- ---- the money of a journal's rows
 
@@ -67,92 +71,74 @@ module _ (j : List ℤ) (n : ℕ) where
         let q : k < n = omega (arith, rows-length) in
         rw (tabulate-at (row_at j) n k blank q, ne_eqb (row_at j k).account a (λ w. omega (arith, c.account k q))))
 
--- ---- a word is put
+-- ---- a slot is put
 
-module _ (slots : List ℕ) (z : length slots ≡ index_size) where
-  money-same : (a v : ℕ) → a < slot_count → get_or (set slots (money_at a) v) (money_at a) 0 ≡ v
-  money-same a v b = get_or-set_same slots (money_at a) v 0 (omega (arith, z))
+module _ (slots : List Slot) (z : length slots ≡ slot_count) (a : ℕ) (x : Slot) (b : a < slot_count) where
+  slot-same : slot_at (set slots a x) a ≡ x
+  slot-same = get_or-set_same slots a x no_slot (omega (arith, z))
 
-  money-other : (a m v : ℕ) → m ≢ a → get_or (set slots (money_at a) v) (money_at m) 0 ≡ get_or slots (money_at m) 0
-  money-other a m v ne = get_or-set_other slots (money_at a) (money_at m) v 0 (λ w. ne (omega arith))
+  slot-other : (m : ℕ) → m ≢ a → slot_at (set slots a x) m ≡ slot_at slots m
+  slot-other m n = get_or-set_other slots a m x no_slot n
 
-  -- the money stays where a first row is put
-  first-money : (s a m v : ℕ) → s < 2 → get_or (set slots (first_at a s) v) (money_at m) 0 ≡ get_or slots (money_at m) 0
-  first-money s a m v h = get_or-set_other slots (first_at a s) (money_at m) v 0 (λ w. omega arith)
+  -- what holds of the slot put and of each slot before holds of each
+  slot-each : (P : ℕ → Slot → Type 0) → P a x → ((m : ℕ) → m < slot_count → P m (slot_at slots m)) → (m : ℕ) → m < slot_count → P m (slot_at (set slots a x) m)
+  slot-each P p q m d = elim (ℕ_discrete m a) [
+    | yes w ↦ rw (w, slot-same) p
+    | no w ↦ rw (slot-other m w) (q m d)
+  ]
 
-module _ (j : List ℤ) (n i : ℕ) (slots : List ℕ) (t : SlotsHold j n i slots) where
-  -- the first row of a side is put: nothing is left on that side from row i up to it
-  module _ (s a v : ℕ) (h : s < 2) (b : a < slot_count) where
-    put : (P : ℕ → ℕ → ℕ → Type 0) (u m : ℕ) → u < 2 → P s a v → P u m (get_or slots (first_at m u) 0) → P u m (get_or (set slots (first_at a s) v) (first_at m u) 0)
-    put P u m g p q = go (ℕ_discrete (first_at m u) (first_at a s))
-      where
-        go : Dec (first_at m u ≡ first_at a s) → P u m (get_or (set slots (first_at a s) v) (first_at m u) 0)
-        go (yes w) =
-            let x : m ≡ a = omega arith in
-            let y : u ≡ s = omega arith in
-            let d : first_at a s < length slots = omega (arith, t.sized) in
-            rw (x, y, get_or-set_same slots (first_at a s) v 0 d) p
-        go (no w) = rw (get_or-set_other slots (first_at a s) (first_at m u) v 0 w) q
-
-    pub first-put : v ≤ n → ((k : ℕ) → i ≤ k → k < v → only (of_side s a) remaining (row_at j k) ≡ 0) → SlotsHold j n i (set slots (first_at a s) v)
-    first-put l z = record {
-      sized = length-set slots (first_at a s) v ∙ t.sized;
-      first-in = λ u m g d. put (λ p q x. x ≤ n) u m g l (t.first-in u m g d);
-      passed = λ u m g d. put (λ p q x. (k : ℕ) → i ≤ k → k < x → only (of_side p q) remaining (row_at j k) ≡ 0) u m g z (t.passed u m g d);
-      bounded = λ m d. rw (first-money slots t.sized s a m v h) (t.bounded m d);
-    }
-
-  -- an account's money is put
-  pub money-put : (a v : ℕ) → a < slot_count → v ≤ n * highest_refund → SlotsHold j n i (set slots (money_at a) v)
-  money-put a v b l = record {
-    sized = length-set slots (money_at a) v ∙ t.sized;
-    first-in = λ u m g d. rw (get_or-set_other slots (money_at a) (first_at m u) v 0 (λ w. omega arith)) (t.first-in u m g d);
-    passed = λ u m g d. rw (get_or-set_other slots (money_at a) (first_at m u) v 0 (λ w. omega arith)) (t.passed u m g d);
-    bounded = λ m d. elim (ℕ_discrete m a) [
-      | yes w ↦ rw (w, money-same slots t.sized a v b) l
-      | no w ↦ rw (money-other slots t.sized a m v w) (t.bounded m d)
-    ];
-  }
+-- before its first rows nothing is left from row i on
+slot-put : (j : List ℤ) (n i : ℕ) (slots : List Slot) → SlotsHold j n i slots → (a : ℕ) (x : Slot) → a < slot_count
+    → ((s : Side) → first_of s x ≤ n)
+    → ((s : Side) (k : ℕ) → i ≤ k → k < first_of s x → only (of_side s a) remaining (row_at j k) ≡ 0)
+    → x.money ≤ n * highest_refund
+    → SlotsHold j n i (set slots a x)
+slot-put j n i slots t a x b f p m = record {
+  sized = length-set slots a x ∙ t.sized;
+  first-in = λ s. slot-each slots t.sized a x b (λ q y. first_of s y ≤ n) (f s) (t.first-in s);
+  passed = λ s. slot-each slots t.sized a x b (λ q y. (k : ℕ) → i ≤ k → k < first_of s y → only (of_side s q) remaining (row_at j k) ≡ 0) (p s) (t.passed s);
+  bounded = slot-each slots t.sized a x b (λ q y. y.money ≤ n * highest_refund) m t.bounded;
+}
 
 -- ---- a row is noted, from the last to the first
 
 -- a row earlier, of which nothing is left on a side whose first row is later
-slots-hold-earlier : (j : List ℤ) (n i : ℕ) (slots : List ℕ) → SlotsHold j n (i + 1) slots
-    → ((s a : ℕ) → s < 2 → a < slot_count → i < get_or slots (first_at a s) 0 → only (of_side s a) remaining (row_at j i) ≡ 0) → SlotsHold j n i slots
+slots-hold-earlier : (j : List ℤ) (n i : ℕ) (slots : List Slot) → SlotsHold j n (i + 1) slots
+    → ((s : Side) (a : ℕ) → a < slot_count → i < first_of s (slot_at slots a) → only (of_side s a) remaining (row_at j i) ≡ 0) → SlotsHold j n i slots
 slots-hold-earlier j n i slots t z = record {
   sized = t.sized;
   first-in = t.first-in;
-  passed = λ s a h b k l q. elim (ℕ_discrete k i) [
-    | yes e ↦ rw e (z s a h b (rw e at q))
-    | no e ↦ t.passed s a h b k (omega arith) q
+  passed = λ s a b k l q. elim (ℕ_discrete k i) [
+    | yes e ↦ rw e (z s a b (rw e at q))
+    | no e ↦ t.passed s a b k (omega arith) q
   ];
   bounded = t.bounded;
 }
 
 -- row i is noted: r is the row
-module _ (j : List ℤ) (n i : ℕ) (slots : List ℕ) (t : SlotsHold j n (i + 1) slots) (ms : MoneysOf (drop (i + 1) (rows_of j n)) slots)
+module _ (j : List ℤ) (n i : ℕ) (slots : List Slot) (t : SlotsHold j n (i + 1) slots) (ms : MoneysOf (drop (i + 1) (rows_of j n)) slots)
     (c : Countable j n) (l : i < n) (r : Row) (e : r ≡ row_at j i) where
   pub note-account : r.account < slot_count
   note-account = rw e (omega (arith, c.account i l))
 
+  abbrev old : Slot
+  old = slot_at slots r.account
+
   pub note-closed : (m : ℕ) → m ≡ remaining r → m ≡ 0 → SlotsHold j n i slots × MoneysOf (drop i (rows_of j n)) slots
   note-closed m q z =
       let w : remaining (row_at j i) ≡ 0 = rw (← e) (sym q ∙ z) in (
-        slots-hold-earlier j n i slots t (λ s a h b k. omega (arith, only-le (of_side s a) remaining (row_at j i))),
+        slots-hold-earlier j n i slots t (λ s a b k. omega (arith, only-le (of_side s a) remaining (row_at j i))),
         λ a b. omega (arith, ms a b, money-from j n a i l, only-le (source_of a) remaining (row_at j i)),
       )
 
   -- it becomes the first row of its side
-  note-first : (side : ℕ) → side ≡ side_of r → SlotsHold j n i (set slots (first_at r.account side) i)
-  note-first side q =
-      let h : side < 2 = rw q (side-low r) in
-      slots-hold-earlier j n i (set slots (first_at r.account side) i)
-      (first-put j n (i + 1) slots t side r.account i h note-account (omega arith) (λ k a b. absurd (omega arith)))
-      (λ s a g b k. rw (← e) (side-other remaining s a r g (rw e (c.kind i l)) (λ x y.
-      let u : side ≡ s = q ∙ y in
-      let d : first_at r.account side < length slots = omega (arith, t.sized, note-account) in
-      let v : i < get_or (set slots (first_at r.account side) i) (first_at r.account side) 0 = rw (← x, ← u) at k in
-      omega (arith, get_or-set_same slots (first_at r.account side) i 0 d))))
+  note-first : (x : Slot) → first_of (side_of r) x ≡ i → SlotsHold j n (i + 1) (set slots r.account x) → SlotsHold j n i (set slots r.account x)
+  note-first x f w =
+      slots-hold-earlier j n i (set slots r.account x) w
+      (λ s a b k. rw (← e) (side-other remaining s a r (λ p q.
+      let u : i < first_of (side_of r) (slot_at (set slots r.account x) r.account) = rw (← p, ← q) at k in
+      let v : i < first_of (side_of r) x = rw (slot-same slots t.sized r.account x note-account) at u in
+      omega (arith, f))))
 
   -- what it adds to an account's money
   source-adds : (a : ℕ) → source r ≡ true → r.account ≡ a → only (source_of a) remaining (row_at j i) ≡ remaining r
@@ -167,166 +153,152 @@ module _ (j : List ℤ) (n i : ℕ) (slots : List ℕ) (t : SlotsHold j n (i + 1
   unfolding only source_of
   debit-adds a f = rw (← e, f, and-false (r.account is a))
 
-  pub note-debit : source r ≡ false
-      → SlotsHold j n i (set slots (first_at r.account 1) i) × MoneysOf (drop i (rows_of j n)) (set slots (first_at r.account 1) i)
-  unfolding side_of
-  note-debit f = (note-first 1 (rw f), moneys)
+  -- the money of the row's account, and of the others
+  moneys-noted : (x : Slot) → x.money ≡ money r.account (drop i (rows_of j n)) → ((a : ℕ) → r.account ≢ a → only (source_of a) remaining (row_at j i) ≡ 0)
+      → MoneysOf (drop i (rows_of j n)) (set slots r.account x)
+  moneys-noted x m z a b = elim (ℕ_discrete a r.account) [
+    | yes w ↦ rw (w, slot-same slots t.sized r.account x note-account) m
+    | no w ↦ rw (slot-other slots t.sized r.account x note-account a w) (omega (arith, ms a b, money-from j n a i l, z a (λ y. w (sym y))))
+  ]
+
+  -- a debit
+  abbrev noted-debit : Slot
+  noted-debit = record { source = old.source; debit = i; money = old.money }
+
+  pub note-debit : source r ≡ false → SlotsHold j n i (set slots r.account noted-debit) × MoneysOf (drop i (rows_of j n)) (set slots r.account noted-debit)
+  note-debit f = (
+    note-first noted-debit (rw (debit-side r f) refl) (slot-put j n (i + 1) slots t r.account noted-debit note-account firsts passed (t.bounded r.account note-account)),
+    moneys-noted noted-debit (omega (arith, ms r.account note-account, money-from j n r.account i l, debit-adds r.account f)) (λ a q. other-adds a q),
+  )
     where
-      moneys : MoneysOf (drop i (rows_of j n)) (set slots (first_at r.account 1) i)
-      moneys a b =
-          first-money slots t.sized 1 r.account a i (omega arith)
-          ∙ omega (arith, ms a b, money-from j n a i l, debit-adds a f)
+      firsts : (s : Side) → first_of s noted-debit ≤ n
+      firsts Sources = t.first-in Sources r.account note-account
+      firsts Debits = omega arith
+
+      passed : (s : Side) (k : ℕ) → i + 1 ≤ k → k < first_of s noted-debit → only (of_side s r.account) remaining (row_at j k) ≡ 0
+      passed Sources k a b = t.passed Sources r.account note-account k a b
+      passed Debits k a b = absurd (omega arith)
 
   -- a source: what is left of it joins the account's money
-  module _ (f : source r ≡ true) where
-    abbrev first : List ℕ
-    first = set slots (first_at r.account 0) i
+  module _ (f : source r ≡ true) (v : ℕ) (w : v ≡ remaining r) where
+    abbrev noted-source : Slot
+    noted-source = record { source = i; debit = old.debit; money = old.money + v }
 
-    first-hold : SlotsHold j n i first
-    unfolding side_of
-    first-hold = note-first 0 (rw f)
+    money-noted : old.money + v ≡ money r.account (drop i (rows_of j n))
+    money-noted = omega (arith, w, ms r.account note-account, money-from j n r.account i l, source-adds r.account f refl)
 
-    money-noted : (m : ℕ) → m ≡ get_or first (money_at r.account) 0 → m + remaining r ≡ money r.account (drop i (rows_of j n))
-    money-noted m q =
-        omega (
-          arith,
-          first-money slots t.sized 0 r.account r.account i (omega arith),
-          ms r.account note-account,
-          money-from j n r.account i l,
-          source-adds r.account f refl,
-        )
+    pub note-fits : old.money + v < 2 ^ 64
+    note-fits = omega (arith, money-noted, money-small j n c r.account i, c.few)
 
-    pub note-fits : (m v : ℕ) → m ≡ get_or first (money_at r.account) 0 → v ≡ remaining r → m + v < 2 ^ 64
-    note-fits m v q w = omega (arith, money-noted m q, money-small j n c r.account i, c.few)
-
-    pub note-source : (m v : ℕ) → m ≡ get_or first (money_at r.account) 0 → v ≡ remaining r
-        → SlotsHold j n i (set first (money_at r.account) (m + v))
-        × MoneysOf (drop i (rows_of j n)) (set first (money_at r.account) (m + v))
-    note-source m v q w = (
-      money-put j n i first first-hold r.account (m + v) note-account (omega (arith, money-noted m q, money-small j n c r.account i)),
-      λ a b. moneys a b (ℕ_discrete a r.account),
+    pub note-source : SlotsHold j n i (set slots r.account noted-source) × MoneysOf (drop i (rows_of j n)) (set slots r.account noted-source)
+    note-source = (
+      note-first noted-source (rw (source-side r f) refl)
+          (slot-put j n (i + 1) slots t r.account noted-source note-account firsts passed (omega (arith, money-noted, money-small j n c r.account i))),
+      moneys-noted noted-source money-noted (λ a q. other-adds a q),
     )
       where
-        moneys : (a : ℕ) → a < slot_count → Dec (a ≡ r.account)
-            → get_or (set first (money_at r.account) (m + v)) (money_at a) 0 ≡ money a (drop i (rows_of j n))
-        moneys a b (yes x) = rw (x, money-same first first-hold.sized r.account (m + v) note-account, w) (money-noted m q)
-        moneys a b (no x) =
-            money-other first first-hold.sized r.account a (m + v) x
-            ∙ omega (
-              arith,
-              first-money slots t.sized 0 r.account a i (omega arith),
-              ms a b,
-              money-from j n a i l,
-              other-adds a (λ y. x (sym y)),
-            )
+        firsts : (s : Side) → first_of s noted-source ≤ n
+        firsts Sources = omega arith
+        firsts Debits = t.first-in Debits r.account note-account
 
--- every first row at the end and no money: no row is noted yet
-pub reset-holds : (j : List ℤ) (n : ℕ) (slots : List ℕ) → Reset n slots → SlotsHold j n n slots × MoneysOf (drop n (rows_of j n)) slots
-reset-holds j n slots r = (
+        passed : (s : Side) (k : ℕ) → i + 1 ≤ k → k < first_of s noted-source → only (of_side s r.account) remaining (row_at j k) ≡ 0
+        passed Sources k a b = absurd (omega arith)
+        passed Debits k a b = t.passed Debits r.account note-account k a b
+
+-- ---- every first row at the end and no money: no row is noted yet
+
+abbrev pub end_slot : ℕ → Slot
+end_slot n = record { source = n; debit = n; money = 0 }
+
+pub end-holds : (j : List ℤ) (n : ℕ) → SlotsHold j n n (replicate slot_count (end_slot n)) × MoneysOf (drop n (rows_of j n)) (replicate slot_count (end_slot n))
+end-holds j n = (
   record {
-    sized = r.size;
-    first-in = λ s a h b. omega (arith, r.firsts s a h b);
-    passed = λ s a h b k l q. absurd (omega (arith, r.firsts s a h b));
-    bounded = λ a b. omega (arith, r.moneys a b);
+    sized = length-replicate slot_count (end_slot n);
+    first-in = λ s a b. rw (at a b) (firsts s);
+    passed = λ s a b k l q. absurd (omega (arith, firsts s, rw (at a b) at q));
+    bounded = λ a b. rw (at a b) (omega arith);
   },
-  λ a b. r.moneys a b ∙ sym (money-end j n a),
+  λ a b. rw (at a b) (sym (money-end j n a)),
 )
+  where
+    at : (a : ℕ) → a < slot_count → slot_at (replicate slot_count (end_slot n)) a ≡ end_slot n
+    at a b = get_or-replicate slot_count a (end_slot n) no_slot b
+
+    firsts : (s : Side) → first_of s (end_slot n) ≤ n
+    firsts Sources = omega arith
+    firsts Debits = omega arith
 
 -- ---- a row is added
 
-module _ (j : List ℤ) (n i : ℕ) (slots : List ℕ) (t : SlotsHold j i 0 slots) (ms : MoneysUpTo (rows_of j n) i slots) (c : Countable j n)
-    (l : i < n) (r : Row) (e : r ≡ row_at j i) (m : ℕ) (q : m ≡ get_or slots (money_at r.account) 0) where
+module _ (j : List ℤ) (n i : ℕ) (slots : List Slot) (t : SlotsHold j i 0 slots) (ms : MoneysUpTo (rows_of j n) i slots) (c : Countable j n)
+    (l : i < n) (r : Row) (e : r ≡ row_at j i) where
+  abbrev slot : Slot
+  slot = slot_at slots r.account
+
   pub added-account : r.account < slot_count
   added-account = rw e (omega (arith, c.account i l))
 
   left-small : remaining r ≤ highest_refund
   left-small = let h : r.amount ≤ highest_refund = rw e (c.amount i l) in omega arith
 
-  pub add-fits : m + remaining r < 2 ^ 64
+  pub add-fits : slot.money + remaining r < 2 ^ 64
   add-fits = omega (arith, t.bounded r.account added-account, left-small, c.few)
 
-  module _ (v : ℕ) (w : v ≡ money_with r.account m r) where
-    added-small : v ≤ m + highest_refund
+  module _ (v : ℕ) (w : v ≡ money_with r.account slot.money r) where
+    abbrev with-row : Slot
+    with-row = record { source = slot.source; debit = slot.debit; money = v }
+
+    added-small : v ≤ slot.money + highest_refund
     unfolding money_with
     added-small = rw w (go (r.account is r.account) (source r))
       where
-        go : (x y : Bool) → cond x (cond y (m + remaining r) (m - r.amount)) m ≤ m + highest_refund
+        go : (x y : Bool) → cond x (cond y (slot.money + remaining r) (slot.money - r.amount)) slot.money ≤ slot.money + highest_refund
         go true true = omega (arith, left-small)
         go true false = omega arith
         go false y = omega arith
 
-    pub row-added : SlotsHold j (i + 1) 0 (set slots (money_at r.account) v)
-        × MoneysUpTo (rows_of j n) (i + 1) (set slots (money_at r.account) v)
+    pub row-added : SlotsHold j (i + 1) 0 (set slots r.account with-row) × MoneysUpTo (rows_of j n) (i + 1) (set slots r.account with-row)
     unfolding money_after money_with
     row-added = (
-      money-put j (i + 1) 0 slots more r.account v added-account (omega (arith, added-small, t.bounded r.account added-account)),
+      slot-put j (i + 1) 0 slots more r.account with-row added-account firsts passed (omega (arith, added-small, t.bounded r.account added-account)),
       λ a b. moneys a b (ℕ_discrete a r.account),
     )
       where
         more : SlotsHold j (i + 1) 0 slots
         more = record {
           sized = t.sized;
-          first-in = λ s a h b. omega (arith, t.first-in s a h b);
+          first-in = λ s a b. omega (arith, t.first-in s a b);
           passed = t.passed;
           bounded = λ a b. omega (arith, t.bounded a b);
         }
 
+        same : (s : Side) → first_of s with-row ≡ first_of s slot
+        same Sources = refl
+        same Debits = refl
+
+        firsts : (s : Side) → first_of s with-row ≤ i + 1
+        firsts s = rw (same s) (more.first-in s r.account added-account)
+
+        passed : (s : Side) (k : ℕ) → 0 ≤ k → k < first_of s with-row → only (of_side s r.account) remaining (row_at j k) ≡ 0
+        passed s k a b = t.passed s r.account added-account k a (rw (same s) at b)
+
         -- what is still to be added, after this row
         rest : (a : ℕ) → a < slot_count
-            → money_after a (money_with a (get_or slots (money_at a) 0) r) (drop (i + 1) (rows_of j n)) ≡ money a (rows_of j n)
+            → money_after a (money_with a (slot_at slots a).money r) (drop (i + 1) (rows_of j n)) ≡ money a (rows_of j n)
         rest a b = rw e (rw (rows-from j n i l) at (ms a b))
 
         moneys : (a : ℕ) → a < slot_count → Dec (a ≡ r.account)
-            → money_after a (get_or (set slots (money_at r.account) v) (money_at a) 0) (drop (i + 1) (rows_of j n)) ≡ money a (rows_of j n)
-        moneys a b (yes x) = rw (x, money-same slots t.sized r.account v added-account, w, q) (rest r.account added-account)
-        moneys a b (no x) = rw (money-other slots t.sized r.account a v x) (rw (ne_eqb r.account a (λ y. x (sym y))) at (rest a b))
+            → money_after a (slot_at (set slots r.account with-row) a).money (drop (i + 1) (rows_of j n)) ≡ money a (rows_of j n)
+        moneys a b (yes x) = rw (x, slot-same slots t.sized r.account with-row added-account, w) (rest r.account added-account)
+        moneys a b (no x) = rw (slot-other slots t.sized r.account with-row added-account a x) (rw (ne_eqb r.account a (λ y. x (sym y))) at (rest a b))
 
 -- all rows are added
-pub rows-added : (j : List ℤ) (n : ℕ) (slots : List ℕ) → SlotsHold j n 0 slots → MoneysUpTo (rows_of j n) n slots → SlotsOf j n slots
+pub rows-added : (j : List ℤ) (n : ℕ) (slots : List Slot) → SlotsHold j n 0 slots → MoneysUpTo (rows_of j n) n slots → SlotsOf j n slots
 unfolding money_after
 rows-added j n slots t ms = record {
   hold = t;
   moneys = λ a b. rw (drop_of_length-le (rows_of j n) {i = n} (omega (arith, rows-length j n))) at (ms a b);
 }
-
--- ---- every first row at the end
-
--- the accounts before n
-pub record Resetting (used : ℕ) (slots : List ℕ) (n : ℕ) : Type 0 where
-  pub size : length slots ≡ index_size
-  pub firsts : (s a : ℕ) → s < 2 → a < n → get_or slots (first_at a s) 0 ≡ used
-  pub moneys : (a : ℕ) → a < n → get_or slots (money_at a) 0 ≡ 0
-
-pub resetting-none : (used : ℕ) (slots : List ℕ) → length slots ≡ index_size → Resetting used slots 0
-resetting-none used slots z = record { size = z; firsts = λ s a h b. absurd (omega arith); moneys = λ a b. absurd (omega arith) }
-
-pub resetting-more : (used : ℕ) (slots : List ℕ) (n : ℕ) → n < slot_count → Resetting used slots n
-    → Resetting used (set (set (set slots (first_at n 0) used) (first_at n 1) used) (money_at n) 0) (n + 1)
-resetting-more used slots n b t =
-    let xs : List ℕ = set slots (first_at n 0) used in
-    let ys : List ℕ = set xs (first_at n 1) used in
-    let x : length xs ≡ index_size = length-set slots (first_at n 0) used ∙ t.size in
-    let y : length ys ≡ index_size = length-set xs (first_at n 1) used ∙ x in
-    record {
-      size = length-set ys (money_at n) 0 ∙ y;
-      firsts = λ s a h k.
-          get_or-set_other ys (money_at n) (first_at a s) 0 0 (λ w. omega arith)
-          ∙ elim (ℕ_discrete (first_at a s) (first_at n 1)) [
-            | yes w ↦ rw w (get_or-set_same xs (first_at n 1) used 0 (omega arith))
-            | no w ↦ get_or-set_other xs (first_at n 1) (first_at a s) used 0 w ∙ elim (ℕ_discrete (first_at a s) (first_at n 0)) [
-              | yes v ↦ rw v (get_or-set_same slots (first_at n 0) used 0 (omega (arith, t.size)))
-              | no v ↦ get_or-set_other slots (first_at n 0) (first_at a s) used 0 v ∙ t.firsts s a h (omega arith)
-            ]
-          ];
-      moneys = λ a k. elim (ℕ_discrete a n) [
-        | yes w ↦ rw w (money-same ys y n 0 b)
-        | no w ↦ money-other ys y n a 0 w ∙ first-money xs x 1 n a used (omega arith)
-            ∙ first-money slots t.size 0 n a used (omega arith) ∙ t.moneys a (omega arith)
-      ];
-    }
-
-pub resetting-all : (used : ℕ) (slots : List ℕ) → Resetting used slots slot_count → Reset used slots
-resetting-all used slots t = record { size = t.size; firsts = t.firsts; moneys = t.moneys }
 
 -- ---- the walk forward
 
@@ -338,15 +310,33 @@ module _ (p : Test) (j : List ℤ) (used i : ℕ) where
     | no q ↦ f m l (omega arith)
   ]
 
+-- a first row that moves is that of one side, and leaves the money
+moved-first : (P : ℕ → Type 0) (s u : Side) (v : ℕ) (x : Slot) → (u ≡ s → P v) → P (first_of u x) → P (first_of u (with_first s v x))
+moved-first P Sources Sources v x p q = p refl
+moved-first P Sources Debits v x p q = q
+moved-first P Debits Sources v x p q = q
+moved-first P Debits Debits v x p q = p refl
+
+moved-money : (s : Side) (v : ℕ) (x : Slot) → (with_first s v x).money ≡ x.money
+moved-money Sources v x = refl
+moved-money Debits v x = refl
+
 -- the first row moves to the next open one
-pub first-moved : (j : List ℤ) (n : ℕ) (slots : List ℕ) → SlotsOf j n slots → (s a v : ℕ) → s < 2 → a < slot_count
-    → NextOpen (of_side s a) j n (get_or slots (first_at a s) 0) v → SlotsOf j n (set slots (first_at a s) v)
-first-moved j n slots x s a v h b o =
-    let t = x.hold in
+pub first-moved : (j : List ℤ) (n : ℕ) (slots : List Slot) → SlotsOf j n slots → (s : Side) (a v : ℕ) → a < slot_count
+    → NextOpen (of_side s a) j n (first_of s (slot_at slots a)) v → SlotsOf j n (set slots a (with_first s v (slot_at slots a)))
+first-moved j n slots w s a v b o =
+    let x : Slot = slot_at slots a in
+    let t : SlotsHold j n 0 slots = w.hold in
+    let kept : (with_first s v x).money ≡ x.money = moved-money s v x in
     record {
-      hold = first-put j n 0 slots t s a v h b o.within (λ k l q. elim (dec_lt k (get_or slots (first_at a s) 0)) [
-        | yes w ↦ t.passed s a h b k l w
-        | no w ↦ o.passed k (omega arith) q
-      ]);
-      moneys = λ m d. first-money slots t.sized s a m v h ∙ x.moneys m d;
+      hold = slot-put j n 0 slots t a (with_first s v x) b
+          (λ u. moved-first (λ k. k ≤ n) s u v x (λ e. o.within) (t.first-in u a b))
+          (λ u. moved-first (λ f. (k : ℕ) → 0 ≤ k → k < f → only (of_side u a) remaining (row_at j k) ≡ 0) s u v x
+          (λ e k l q. rw e (elim (dec_lt k (first_of s x)) [
+            | yes h ↦ t.passed s a b k l h
+            | no h ↦ o.passed k (omega arith) q
+          ]))
+          (t.passed u a b))
+          (rw kept (t.bounded a b));
+      moneys = slot-each slots t.sized a (with_first s v x) b (λ m y. y.money ≡ money m (rows_of j n)) (kept ∙ w.moneys a b) w.moneys;
     }

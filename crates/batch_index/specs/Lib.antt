@@ -1,2 +1,3 @@
 pub mod Money
+pub mod Slots
 pub mod Index

@@ -5,11 +5,14 @@ use Prim.Native.Nat.{ℕ, ◌+◌, ◌*◌, ◌≤◌, ◌<◌}
 use native.Mathlib.Omega.{arith}
 use native.Mathlib.Numerals.{add-one}
 use mathlib.Core.List.{List, [], ◌∷◌, ◌++◌, map}
-use lib.ListN.{length, get_or, take, replicate, length-replicate, length-map, get_or-map}
+use lib.ListN.{length, get_or, take, length-map, get_or-map}
 use lib.Seq.{take-suc, take_all, length-take-le}
 use lib.IntN.{ℤ, pos}
 use lib.Dec.{ltb}
 use borrow.Author.Tests.{ltb-false, not-false}
+use Rattle.records.specs.declared.refusals.Refusal.{Refusal}
+use Rattle.records.specs.Outcomes.{number_of}
+use Rattle.records.proofs.OutcomeLaws.{number_of-not_0}
 use Rattle.records.specs.Numbers.{answer_unsound, answer_malformed}
 use Rattle.records.specs.Layout.{answer_width}
 use Rattle.records.specs.Encoding.{instruction_of, answer_words}
@@ -34,9 +37,9 @@ use Rattle.call_batch.specs.BatchCalls.{RecordPosted}
 -- ---- batch_refusals
 
 -- refused: nothing is written
-pub batch-refused : (t : Tables) (es : List Event) (w : List ℤ) (n : ℕ) → n ≡ first (batch_refusals t es w) → n is 0 ≡ false → Gives (batch_call t es w) (pos n) t w
-batch-refused t es w n q z =
-    let r = batch_call-refused t es w (rw q at z) in
+pub batch-refused : (t : Tables) (es : List Event) (w : List ℤ) (f : Refusal) → number_of f ≡ first (batch_refusals t es w) → Gives (batch_call t es w) (pos (number_of f)) t w
+batch-refused t es w f q =
+    let r = batch_call-refused t es w (rw q at (number_of-not_0 f)) in
     record { number = rw r (ap pos q); tables = rw r; answers = rw r }
 
 -- not refused: sound tables, and words for every answer
@@ -57,10 +60,6 @@ taken t es w q =
 -- what stands past the end of a list of events
 abbrev pub no_event : Event
 no_event = record { kind = pos 0; account = pos 0; a = pos 0; b = pos 0; c = pos 0; d = pos 0; e = pos 0; f = pos 0; g = pos 0 }
-
--- the same, of a batch of so many events
-pub counted-sound : (t : Tables) (count : ℕ) (w : List ℤ) → ((es : List Event) → length es ≡ count → 0 ≡ first (batch_refusals t es w)) → sound_tables t ≡ true
-counted-sound t count w q = let es : List Event = replicate count no_event in (taken t es w (q es (length-replicate count no_event))).sound
 
 -- ---- events in order
 

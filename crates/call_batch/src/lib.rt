@@ -2,50 +2,25 @@
 // answer written.
 #![tactic(auto)]
 
-ghost use Rattle.std.specs.Prelude.{◌≡◌, true};
+ghost use Rattle.std.specs.Prelude.{◌≡◌, true, pos};
+ghost use Rattle.records.specs.Outcomes.{number_by, answer_of};
 ghost use Rattle.rules.specs.Tables.{sound_tables};
+ghost use Rattle.rules.specs.Calls.{Gives, batch_call};
 ghost use Rattle.posting.specs.Posts.{Posts};
-ghost use Rattle.batch_index.specs.Index.{Indexed, Empty};
+ghost use Rattle.batch_index.specs.Index.{Indexed};
 ghost use Rattle.call_words.specs.Answers.{AnswerIn};
-ghost use Rattle.call_batch.specs.BatchCalls.{Begins, RecordPosted};
+ghost use Rattle.call_batch.specs.BatchCalls.{RecordPosted};
 ghost use Rattle.rules.specs.Lent.{lent, at_entry, at_exit};
 
-use batch_index::{SLOT_WORDS, look_up_indexed, start_index, update_index};
-use call_refusals::batch::batch_refusal;
-use call_words::{event_of, write_answer};
+use batch_index::Index;
+use call_refusals::batch::check_batch;
+use call_words::write_answer;
 use event_refusals::admit;
 use events::post_admitted;
-use posting::answers::refused;
 use records::layout::USED_PLACE;
-use records::{Answer, Event, Instruction};
-use sound_passages::passages::CELLS;
+use records::refusals::Refusal;
+use records::{Answer, Event, Instruction, Posting};
 use tables::words::get;
-
-// Begins a batch: the number of its refusal, or 0, and then the two arrays, all 0 before, hold the index of the journal.
-pub fn begin_batch(
-    header: &[i64],
-    accounts: &[i64],
-    journal: &[i64],
-    count: usize,
-    answers: &[i64],
-    cells: &mut [u16; CELLS],
-    slots: &mut [u64; SLOT_WORDS],
-) -> u64
-    requires { Empty cells.old slots.old }
-    ensures { Begins (at_entry header.now accounts.now journal.now)
-        count
-        answers.now
-        cells.new
-        slots.new
-        result }
-{
-    let n = batch_refusal(header, accounts, journal, count, answers);
-    if n != 0 {
-        return n;
-    }
-    start_index(header, accounts, journal, cells, slots);
-    0
-}
 
 // One event of the batch: only where it is admitted is it looked up in the index and posted, and the index brought up to the journal.
 fn post_indexed(
@@ -53,54 +28,72 @@ fn post_indexed(
     accounts: &mut [i64],
     journal: &mut [i64],
     e: Instruction,
-    cells: &mut [u16; CELLS],
-    slots: &mut [u64; SLOT_WORDS],
-) -> Answer
+    index: &mut Index,
+) -> Result<Posting, Refusal>
     requires { (sound_tables (lent header.old accounts.old journal.old) ≡ true)
-        × Indexed (lent header.old accounts.old journal.old) cells.old slots.old }
+        × Indexed (lent header.old accounts.old journal.old) index.old }
     ensures { Posts
         (at_entry header.old accounts.old journal.old)
         (at_exit header.new accounts.new journal.new)
         e
-        result
+        (answer_of result)
         × Indexed
         (at_exit header.new accounts.new journal.new)
-        cells.new
-        slots.new }
+        index.new }
 {
-    let m = admit(header, accounts, journal, e);
-    if m.number != 0 {
-        return refused(m.number);
-    }
+    let x = admit(header, accounts, journal, e)?;
     let before = get(header, USED_PLACE) as usize;
-    let k = look_up_indexed(header, accounts, journal, cells, slots, e);
-    let r = post_admitted(header, accounts, journal, e, m.account, k);
-    update_index(header, accounts, journal, before, e, cells, slots);
-    r
+    let k = index.look_up(header, accounts, journal, e);
+    let outcome = post_admitted(header, accounts, journal, e, x, k);
+    index.update(header, accounts, journal, before, e);
+    outcome
 }
 
 // One record of the batch: its event posted, answer i written, and the index brought up to the journal.
-pub fn post_record(
+fn post_record(
     header: &mut [i64],
     accounts: &mut [i64],
     journal: &mut [i64],
     answers: &mut [i64],
     i: usize,
     x: Event,
-    cells: &mut [u16; CELLS],
-    slots: &mut [u64; SLOT_WORDS],
+    index: &mut Index,
 )
     requires { (sound_tables (lent header.old accounts.old journal.old) ≡ true)
         × AnswerIn answers.old i
-        × Indexed (lent header.old accounts.old journal.old) cells.old slots.old }
+        × Indexed (lent header.old accounts.old journal.old) index.old }
     ensures { RecordPosted (at_entry header.old accounts.old journal.old)
         (at_exit header.new accounts.new journal.new)
         answers.old
         answers.new
         i
         x
-        × Indexed (at_exit header.new accounts.new journal.new) cells.new slots.new }
+        × Indexed (at_exit header.new accounts.new journal.new) index.new }
 {
-    let r = post_indexed(header, accounts, journal, event_of(x), cells, slots);
-    write_answer(answers, i, r);
+    let outcome = post_indexed(header, accounts, journal, Instruction::from(x), index);
+    write_answer(answers, i, Answer::from(outcome));
+}
+
+// Posts the events in order, going on after a refusal; a batch that is refused writes nothing.
+pub fn batch_call(
+    header: &mut [i64],
+    accounts: &mut [i64],
+    journal: &mut [i64],
+    events: &[Event],
+    answers: &mut [i64],
+) -> Result<(), Refusal>
+    ensures { Gives (batch_call (at_entry header.old accounts.old journal.old)
+        events.now
+        answers.old)
+        (pos (number_by result))
+        (at_exit header.new accounts.new journal.new)
+        answers.new }
+{
+    check_batch(header, accounts, journal, events.len(), answers)?;
+    let mut index = Index::new();
+    index.start(header, accounts, journal);
+    for (i, event) in events.iter().enumerate() {
+        post_record(header, accounts, journal, answers, i, *event, &mut index);
+    }
+    Ok(())
 }

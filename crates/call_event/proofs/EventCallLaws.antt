@@ -8,6 +8,10 @@ use lib.ListN.{length}
 use lib.IntN.{ℤ, pos}
 use lib.Dec.{ltb}
 use borrow.Author.Tests.{ltb-false, eqb-true, le-leb, lt-leb, not-false}
+use Rattle.std.specs.Prelude.{Err}
+use Rattle.records.specs.declared.refusals.Refusal.{Refusal}
+use Rattle.records.specs.Outcomes.{number_of, answer_of}
+use Rattle.records.proofs.OutcomeLaws.{number_of-not_0}
 use Rattle.records.specs.Numbers.{answer_unsound, answer_malformed}
 use Rattle.records.specs.Layout.{event_width, answer_width}
 use Rattle.records.specs.Encoding.{instruction_from, answer_words}
@@ -61,13 +65,15 @@ taken t e w q =
 -- ---- the answer
 
 -- refused before the event: the tables stay
-pub refused-answers : (t : Tables) (e w : List ℤ) (n : ℕ) → n ≡ first (event_refusals t e w) → n is 0 ≡ false → AnswersTo t t e w (refusal_by n)
+pub refused-answers : (t : Tables) (e w : List ℤ) (r : Refusal) → number_of r ≡ first (event_refusals t e w) → AnswersTo t t e w (answer_of (Err r))
 unfolding call_answer event_call
-refused-answers t e w n q z = record {
-  answer = rw (← q, z);
-  tables = rw (← q, z, z);
-  storable = small-storable (refusal_by n) (refusal-small n (rw q (omega (arith, number-le t e w))));
-}
+refused-answers t e w r q =
+    let z = number_of-not_0 r in
+    record {
+      answer = rw (← q, z);
+      tables = rw (← q, z, z);
+      storable = small-storable (refusal_by (number_of r)) (refusal-small (number_of r) (rw q (omega (arith, number-le t e w))));
+    }
 
 -- posted: the tables are those of the book after the event, which are the same where it is refused
 pub posted-answers : (t u : Tables) (e w : List ℤ) (x : Answer) → 0 ≡ first (event_refusals t e w) → Posts t u (instruction_from e) x → AnswersTo t u e w x

@@ -7,6 +7,8 @@ use mathlib.Core.List.{List, [], ◌∷◌, ◌++◌, append-nil, append_assoc}
 use lib.IntN.{ℤ, pos}
 use lib.ListN.{length, get_or, set, take, drop, replicate, length-append, length-set, length-drop, length-replicate, replicate-append-replicate, take-append-drop, drop_of_length-le}
 use lib.Seq.{length-take-le, paste, paste-suc, length-paste, get_or-drop, take_all, take_at, drop-cons, append_snoc, set_at}
+use borrow.Rule.Slice.PartMut.{put_mid}
+use Rattle.std.proofs.lemmas.Slice.{put_mid-paste}
 use Rattle.records.specs.Layout.{header_width, day_place, used_place, header_schedule, header_first_day, header_lists, later_lists, list_width, account_width, opening_width, first_day_place, opening_schedule, opening_rates}
 use Rattle.records.specs.Encoding.{word, account_words, write_all}
 use Rattle.records.proofs.EncodingLaws.{plain}
@@ -23,45 +25,14 @@ use Rattle.rules.proofs.OpeningLaws.{OpeningWords, opening-words}
 use Rattle.sound_header.specs.Clauses.{tables_at}
 use Rattle.sound_header.proofs.LengthLaws.{lengths-known}
 
--- ---- words copied
-
--- a turn of the loop that copies
-pub copied_more : (t w : List ℤ) (i j k : ℕ) → i + k < length t → j + k < length w
-    → set (paste t i (drop j w) k) (i + k) (get_or w (j + k) (pos 0)) ≡ paste t i (drop j w) (k + 1)
-copied_more t w i j k p q =
-    let n : k + 1 ≡ suc k = omega arith in
-    rw (← get_or-drop j w k (pos 0), n)
-    (paste-suc t i (drop j w) k (pos 0) p (omega (arith, length-drop j w)))
-
--- ---- words made 0
-
--- a loop that clears from a place on: it has come to i
-abbrev pub cleared : List ℤ → ℕ → ℕ → List ℤ
-cleared t from i = take from t ++ replicate (i - from) (pos 0) ++ drop i t
-
-pub cleared-none : (t : List ℤ) (from : ℕ) → t ≡ cleared t from from
-cleared-none t from =
-    let z : from - from ≡ 0 = omega arith in
-    sym (rw (z, append-nil (take from t)) (take-append-drop from t))
-
-pub cleared_more : (t : List ℤ) (from i : ℕ) → from ≤ i → i < length t → set (cleared t from i) i (pos 0) ≡ cleared t from (i + 1)
-cleared_more t from i f h =
-    let n : i + 1 ≡ suc i = omega arith in
-    let m : i + 1 - from ≡ i - from + 1 = omega arith in
-    let p : List ℤ = take from t ++ replicate (i - from) (pos 0) in
-    let l : length p ≡ i =
-    length-append (take from t) (replicate (i - from) (pos 0)) ∙ omega (arith, length-take-le from t (omega arith), length-replicate (i - from) (pos 0)) in
-    ap (λ (r : List ℤ). set (p ++ r) i (pos 0)) (drop-cons t i (pos 0) h)
-    ∙ set_at p (get_or t i (pos 0)) (drop (suc i) t) (pos 0) i l
-    ∙ sym (append_snoc p (pos 0) (drop (suc i) t))
-    ∙ rw (m, n, ← replicate-append-replicate (i - from) 1 (pos 0)) (ap (λ (r : List ℤ). r ++ drop (suc i) t) (append_assoc (take from t) (replicate (i - from) (pos 0)) (pos 0 ∷ [])))
-
-pub cleared-all : (t : List ℤ) (from i : ℕ) → length t ≤ i → i ≤ from + (length t - from) → from ≤ i → cleared t from i ≡ take from t ++ replicate (length t - from) (pos 0)
-cleared-all t from i h b f =
-    let n : i - from ≡ length t - from = omega arith in
-    rw (drop_of_length-le t {i = i} h, n) (append-nil (take from t ++ replicate (length t - from) (pos 0)))
-
 -- ---- the header
+
+-- as many words are copied as have their places
+pub copied-fits : (h w : List ℤ) (a b : ℤ) → length h ≡ header_width → length w ≡ opening_width
+    → length (take 10 (drop 2 (set (set h 0 a) 1 b))) ≡ length (take (length w - 1) (drop 1 w))
+copied-fits h w a b l n =
+    length-take-le 10 (drop 2 (set (set h 0 a) 1 b)) (omega (arith, length-drop 2 (set (set h 0 a) 1 b), length-set (set h 0 a) 1 b, length-set h 0 a))
+    ∙ sym (ap (λ (x : List ℤ). length x) (take_all (length w - 1) (drop 1 w) (omega (arith, length-drop 1 w))) ∙ length-drop 1 w ∙ omega arith)
 
 -- two words stored, ten copied behind them, and one more: nothing is left of the first thirteen
 thirteen : (a b d : ℤ) (h s : List ℤ) → length h ≡ header_width → length s ≡ 10 → take 13 (set (paste (set (set h 0 a) 1 b) 2 s 10) 12 d) ≡ a ∷ b ∷ (s ++ (d ∷ []))
@@ -137,6 +108,30 @@ module _ (w : List ℤ) (e : opening_fits w ≡ true) where
       rw (n, thirteen day-word (pos 0) day-word h (drop opening_schedule w) l (length-drop opening_schedule w ∙ omega (arith, words-given)))
       (header-words t)
 
+  -- the header as each step leaves it: the words stored, those from the opening's schedule on copied, the first day stored again
+  abbrev pub stored : List ℤ → List ℤ → ℤ → List ℤ
+  stored h n d = set (put_mid header_schedule 10 (set (set h day_place d) used_place (pos 0)) n) header_first_day d
+
+  pub stored-copied : (h n : List ℤ) (d : ℤ) → d ≡ day-word → n ≡ drop opening_schedule w → stored h n d ≡ copied h
+  stored-copied h n d q r =
+      rw (q, r)
+      (ap (λ (x : List ℤ). set x header_first_day day-word)
+      (put_mid-paste header_schedule 10 (set (set h day_place day-word) used_place (pos 0)) (drop opening_schedule w) (drop opening_schedule w) 10 refl refl (omega (arith, length-drop opening_schedule w, words-given))))
+
+  -- the words after it all 0
+  pub header-written : (h n z : List ℤ) (d : ℤ) → length h ≡ header_width → d ≡ day-word → n ≡ take (length w - opening_schedule) (drop opening_schedule w)
+      → z ≡ replicate (length (take (length (stored h n d) - header_lists) (drop header_lists (stored h n d)))) (pos 0) → (t : Tables)
+      → put_mid header_lists (length (stored h n d) - header_lists) (stored h n d) z ≡ header_words (opened_book t w)
+  header-written h n z d l q r v t =
+      let k = stored-copied h n d q (r ∙ take_all (length w - opening_schedule) (drop opening_schedule w) (omega (arith, length-drop opening_schedule w))) in
+      let m = length-copied h l in
+      let rest : List ℤ = drop header_lists (copied h) in
+      let count : ℕ = length (copied h) - header_lists in
+      let o : length rest ≡ count = length-drop header_lists (copied h) in
+      let p : drop count rest ≡ [] = drop_of_length-le rest (omega (arith, o)) in
+      let u : length (take count rest) ≡ count = ap (λ (x : List ℤ). length x) (take_all count rest (omega (arith, o))) ∙ o in
+      rw (v, k, u, p, append-nil (replicate count (pos 0))) (header-opened h l t)
+
 -- ---- tables all 0
 
 accounts-cleared : (n : ℕ) → write_all account_words (replicate n unused) ≡ replicate (n * account_width) (pos 0)
@@ -163,15 +158,13 @@ module _ (h a j w : List ℤ) where
   pub opened : lengths_fit t ≡ true → opening_fits w ≡ true
       → Gives (open_call t w)
       (pos 0)
-      (tables_at (header_words (opened_book t w)) (replicate (length a - 0) (pos 0)) (replicate (length j - 0) (pos 0)))
+      (tables_at (header_words (opened_book t w)) (replicate (length a) (pos 0)) (replicate (length j) (pos 0)))
       []
   unfolding open_call opening_refusals first
   opened l f = record { number = rw (l, f); tables = rw (l, f) opened-tables; answers = refl }
     where
-      opened-tables : tables_at (header_words (opened_book t w)) (replicate (length a - 0) (pos 0)) (replicate (length j - 0) (pos 0)) ≡ tables_of (opened_book t w)
+      opened-tables : tables_at (header_words (opened_book t w)) (replicate (length a) (pos 0)) (replicate (length j) (pos 0)) ≡ tables_of (opened_book t w)
       opened-tables = unfold tables_of opened_book opening write_all in
           (let s = lengths-known h a j l in
-          let m : length a - 0 ≡ length a = omega arith in
-          let n : length j - 0 ≡ length j = omega arith in
           let r : room_in t - 0 ≡ room_in t = omega arith in
-          rw (accounts-cleared (accounts_in t), s.whole_accounts, r, s.whole_rows, m, n))
+          rw (accounts-cleared (accounts_in t), s.whole_accounts, r, s.whole_rows))

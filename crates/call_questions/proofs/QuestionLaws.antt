@@ -9,6 +9,9 @@ use lib.IntN.{ℤ, pos}
 use lib.ListN.{length, take, drop}
 use lib.Dec.{leb}
 use borrow.Author.Tests.{leb-true, ne_eqb, not-false}
+use Rattle.records.specs.declared.refusals.Refusal.{Refusal}
+use Rattle.records.specs.Outcomes.{number_of}
+use Rattle.records.proofs.OutcomeLaws.{number_of-not_0}
 use Rattle.records.specs.Numbers.{answer_unsound, answer_unknown}
 use Rattle.records.specs.Layout.{row_width}
 use Rattle.records.specs.Encoding.{nat_of, accounts_of}
@@ -47,13 +50,13 @@ module _ (t : Tables) (n : ℕ) where
 -- ---- a question about an account
 
 module _ (f : Book → ℕ → ℤ) (t : Tables) (a : ℤ) (n : ℕ) (e : n ≡ nat_of a) where
-  pub question-refused : (r : ℕ) → r ≡ first (question_refusals t n) → r ≢ 0 → Replies (question f t a) (pos r) (pos 0)
+  pub question-refused : (r : Refusal) → number_of r ≡ first (question_refusals t n) → Replies (question f t a) (pos (number_of r)) (pos 0)
   unfolding question
-  question-refused r q z = rw (← e, ← q) (record { number = refl; value = rw (ne_eqb r 0 z) })
+  question-refused r q = rw (← e, ← q) (record { number = refl; value = rw (number_of-not_0 r) })
 
-  pub question-answered : (r : ℕ) → r ≡ first (question_refusals t n) → r ≡ 0 → (v : ℤ) → v ≡ f (book_of t) n → Replies (question f t a) (pos 0) v
+  pub question-answered : 0 ≡ first (question_refusals t n) → (v : ℤ) → v ≡ f (book_of t) n → Replies (question f t a) (pos 0) v
   unfolding question
-  question-answered r q z v w = rw (← e, ← q, z, w) (record { number = refl; value = refl })
+  question-answered q v w = rw (← e, ← q, w) (record { number = refl; value = refl })
 
 -- ---- balance
 

@@ -1,1 +1,2 @@
 pub mod RowParts
+pub mod Values

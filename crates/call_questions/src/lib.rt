@@ -4,6 +4,8 @@
 
 ghost use Rattle.std.specs.Prelude.{◌≡◌, pos, ◌&&◌};
 ghost use Rattle.lists.specs.Tests.{◌from◌to◌, first};
+ghost use Rattle.records.specs.Outcomes.{number_by};
+ghost use Rattle.call_questions.specs.Values.{value_of, flag_of};
 ghost use Rattle.rules.specs.Tables.{rows_used, sound_tables};
 ghost use Rattle.rules.specs.Calls.{Replies, question_refusals, balance_call, topup_due_call};
 ghost use Rattle.call_questions.specs.RowParts.{RowPart};
@@ -12,73 +14,59 @@ ghost use Rattle.rules.specs.Lent.{at_entry};
 use balances::sums_of;
 use records::codes::STATE_UNUSED;
 use records::layout::{ACCOUNT_WIDTH, ROW_WIDTH, USED_PLACE};
-use records::numbers::{UNKNOWN, UNSOUND};
+use records::refusals::Refusal;
+use records::words::natural;
 use soundness::sound;
 use table_accounts::account_numbered;
-use tables::words::{get, minus, natural};
+use tables::words::{get, minus};
 
-// What a question about an account is answered: the number, and the value, 0 where the number isn't.
-#[derive(Clone, Copy)]
-pub struct Reply {
-    pub number: u64,
-    pub value: i64,
-}
-
-// Why a question about account n is refused, 0 where it is not.
-fn question_refusal(header: &[i64], accounts: &[i64], journal: &[i64], n: u64) -> u64
-    ensures { result ≡ first (question_refusals (at_entry header.now accounts.now journal.now)
+// Why a question about account n is refused, if it is.
+fn check_question(header: &[i64], accounts: &[i64], journal: &[i64], n: u64) -> Result<(), Refusal>
+    ensures { number_by result ≡ first (question_refusals (at_entry header.now accounts.now journal.now)
         n) }
 {
     if !sound(header, accounts, journal) {
-        return UNSOUND;
+        return Err(Refusal::Unsound);
     }
     let x = account_numbered(accounts, accounts.len() / ACCOUNT_WIDTH, n);
     if x.state == STATE_UNUSED {
-        return UNKNOWN;
+        return Err(Refusal::Unknown);
     }
-    0
+    Ok(())
 }
 
 // The account's balance: its sources less its debits, held ones included.
-pub fn balance(header: &[i64], accounts: &[i64], journal: &[i64], account: i64) -> Reply
+pub fn balance(
+    header: &[i64],
+    accounts: &[i64],
+    journal: &[i64],
+    account: i64,
+) -> Result<i64, Refusal>
     ensures { Replies (balance_call (at_entry header.now accounts.now journal.now) account)
-        (pos result.number)
-        result.value }
+        (pos (number_by result))
+        (value_of result) }
 {
     let n = natural(account);
-    let number = question_refusal(header, accounts, journal, n);
-    if number != 0 {
-        return Reply { number, value: 0 };
-    }
+    check_question(header, accounts, journal, n)?;
     let used = get(header, USED_PLACE) as usize;
     let s = sums_of(journal, used, n);
-    Reply {
-        number: 0,
-        value: minus(s.sources, s.debits),
-    }
+    Ok(minus(s.sources, s.debits))
 }
 
-// Whether the account's top-up is due: 1 yes, 0 no.
-pub fn topup_due(header: &[i64], accounts: &[i64], journal: &[i64], account: i64) -> Reply
+// Whether the account's top-up is due.
+pub fn topup_due(
+    header: &[i64],
+    accounts: &[i64],
+    journal: &[i64],
+    account: i64,
+) -> Result<bool, Refusal>
     ensures { Replies (topup_due_call (at_entry header.now accounts.now journal.now) account)
-        (pos result.number)
-        result.value }
+        (pos (number_by result))
+        (flag_of result) }
 {
     let n = natural(account);
-    let number = question_refusal(header, accounts, journal, n);
-    if number != 0 {
-        return Reply { number, value: 0 };
-    }
-    if balances::topup_due(header, accounts, journal, n) {
-        return Reply {
-            number: 0,
-            value: 1,
-        };
-    }
-    Reply {
-        number: 0,
-        value: 0,
-    }
+    check_question(header, accounts, journal, n)?;
+    Ok(balances::topup_due(header, accounts, journal, n))
 }
 
 // Whether the book is sound and row n, counted from 1, is used.

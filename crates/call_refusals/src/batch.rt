@@ -1,33 +1,34 @@
 // Why a batch is refused.
 ghost use Rattle.std.specs.Prelude.{◌≡◌, List, length};
 ghost use Rattle.lists.specs.Tests.{first};
+ghost use Rattle.records.specs.Outcomes.{number_by};
 ghost use Rattle.rules.specs.Calls.{Event, batch_refusals};
 ghost use Rattle.rules.specs.Lent.{at_entry};
 
 use records::layout::ANSWER_WIDTH;
 use records::limits::MOST_EVENTS;
-use records::numbers::{MALFORMED, UNSOUND};
+use records::refusals::Refusal;
 use soundness::sound;
 
-// 0 where a batch of so many events is not: 1 the book is not sound, 2 too many events, or fewer than five answer words for each.
-pub fn batch_refusal(
+// A batch of so many events: the book is not sound, too many events, or fewer than five answer words for each.
+pub fn check_batch(
     header: &[i64],
     accounts: &[i64],
     journal: &[i64],
     count: usize,
     answers: &[i64],
-) -> u64
-    ensures { (es : List Event) → length es ≡ count → result
+) -> Result<(), Refusal>
+    ensures { (es : List Event) → length es ≡ count → number_by result
         ≡ first (batch_refusals (at_entry header.now accounts.now journal.now) es answers.now) }
 {
     if !sound(header, accounts, journal) {
-        return UNSOUND;
+        return Err(Refusal::Unsound);
     }
     if MOST_EVENTS < count {
-        return MALFORMED;
+        return Err(Refusal::Malformed);
     }
     if answers.len() < count * ANSWER_WIDTH {
-        return MALFORMED;
+        return Err(Refusal::Malformed);
     }
-    0
+    Ok(())
 }

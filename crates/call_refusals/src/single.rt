@@ -1,28 +1,29 @@
 // Why a single event is refused before it is read.
 ghost use Rattle.std.specs.Prelude.{◌≡◌};
 ghost use Rattle.lists.specs.Tests.{first};
+ghost use Rattle.records.specs.Outcomes.{number_by};
 ghost use Rattle.rules.specs.Calls.{event_refusals};
 ghost use Rattle.rules.specs.Lent.{at_entry};
 
 use records::layout::{ANSWER_WIDTH, EVENT_WIDTH};
-use records::numbers::{MALFORMED, UNSOUND};
+use records::refusals::Refusal;
 use soundness::sound;
 
-// 0 where it is not: 1 the book is not sound, 2 another length than nine words, or an answer table of fewer than five.
-pub fn event_refusal(
+// The book is not sound, another length than nine words, or an answer table of fewer than five.
+pub fn check_event(
     header: &[i64],
     accounts: &[i64],
     journal: &[i64],
     event: &[i64],
     answer: &[i64],
-) -> u64
-    ensures { result ≡ first (event_refusals (at_entry header.now accounts.now journal.now) event.now answer.now) }
+) -> Result<(), Refusal>
+    ensures { number_by result ≡ first (event_refusals (at_entry header.now accounts.now journal.now) event.now answer.now) }
 {
     if !sound(header, accounts, journal) {
-        return UNSOUND;
+        return Err(Refusal::Unsound);
     }
     if (event.len() != EVENT_WIDTH) | (answer.len() < ANSWER_WIDTH) {
-        return MALFORMED;
+        return Err(Refusal::Malformed);
     }
-    0
+    Ok(())
 }

@@ -1,9 +1,9 @@
-// An event read from words or from a record, and an answer written to its five words.
+// An event read from its nine words, and an answer written to its five.
 #![tactic(auto)]
 
 ghost use Rattle.std.specs.Prelude.{◌≡◌, ◌*◌, ◌≤◌, length};
 ghost use Rattle.records.specs.Layout.{event_width, answer_width};
-ghost use Rattle.records.specs.Encoding.{instruction_from, instruction_of, answer_words};
+ghost use Rattle.records.specs.Encoding.{instruction_from, answer_words};
 ghost use Rattle.tables.specs.Changes.{put_all};
 ghost use Rattle.call_words.specs.Answers.{AnswerIn, StorableAnswer};
 
@@ -11,8 +11,8 @@ use records::layout::{
     A_PLACE, ANSWER_WIDTH, B_PLACE, C_PLACE, D_PLACE, E_PLACE, EVENT_ACCOUNT_PLACE,
     EVENT_KIND_PLACE, F_PLACE, G_PLACE,
 };
-use records::{Answer, Event, Instruction};
-use tables::words::{get, natural, put};
+use records::{Answer, Instruction};
+use tables::words::{get, put};
 
 // The places of an answer's words, from its first.
 
@@ -41,23 +41,6 @@ pub fn read_event(event: &[i64]) -> Instruction
         e: get(event, E_PLACE),
         f: get(event, F_PLACE),
         g: get(event, G_PLACE),
-    }
-}
-
-// An event record of a batch, its words as numbers.
-pub fn event_of(x: Event) -> Instruction
-    ensures { result ≡ instruction_of x }
-{
-    Instruction {
-        kind: natural(x.kind),
-        account: natural(x.account),
-        a: natural(x.a),
-        b: natural(x.b),
-        c: natural(x.c),
-        d: natural(x.d),
-        e: natural(x.e),
-        f: natural(x.f),
-        g: natural(x.g),
     }
 }
 

@@ -20,7 +20,7 @@ fn month_start(m: u64) -> u64
     requires { m < 1201 }
     ensures { result ≡ month_start m }
 {
-    MONTH_STARTS[m as usize] as u64
+    u64::from(MONTH_STARTS[m as usize])
 }
 
 // The month whose first is nearest, by the Gregorian mean of 4,800 months in 146,097 days: the day's own month or the one after.

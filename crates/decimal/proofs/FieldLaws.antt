@@ -1,18 +1,20 @@
 -- The fields of a line, read from comma to comma.
 use mathlib.Core.Path.{◌≡◌, refl, sym, ap, ◌∙◌}
-use mathlib.Core.Bool.{Bool, true, false, cond, ◌&&◌, and-true}
+use mathlib.Core.Bool.{Bool, true, false, cond, ◌&&◌}
 use mathlib.Core.List.{List, [], ◌∷◌, ◌++◌, append-nil}
-use Prim.Native.Nat.{ℕ, zero, suc, ◌+◌, ◌-◌, ◌≤◌, ◌<◌}
+use Prim.Native.Nat.{ℕ, suc, ◌+◌, ◌≤◌, ◌<◌}
 use native.Mathlib.Omega.{arith}
 use native.Mathlib.Numerals.{add-one}
-use native.Mathlib.Decide.{ℕ_discrete}
 use lib.Dec.{eqb}
-use borrow.Author.Tests.{eqb-true, ne_eqb}
-use lib.IntN.{ℤ}
+use borrow.Author.Tests.{eq-eqb, ne_eqb}
+use lib.IntN.{ℤ, pos}
 use lib.ListN.{length, take, drop, set, length-set}
-use lib.Seq.{slice, length-slice, take-take, drop-drop, take-suc-set, drop-set-lt, take-nil, append_snoc}
+use lib.Seq.{take-suc-set, take_all, append_snoc}
+use Rattle.std.specs.Prelude.{Option, Some, None, is_some, unwrap_or, MatchOption}
+use Rattle.std.specs.Option.{option_copied}
+use Rattle.std.specs.Borrow.{Bor}
 use Rattle.decimal.specs.Bytes.{index_of}
-use Rattle.decimal.specs.Decimal.{number_of, in_first, fields_of, all_numbers, numbers_in}
+use Rattle.decimal.specs.Decimal.{number_of, in_first, fields_of, all_numbers, numbers_in, is_numbers, numbers_of}
 use Rattle.decimal.proofs.PartLaws.{parts_cut, parts_last}
 
 -- ---- a field and the rest
@@ -31,12 +33,6 @@ fields-last (b ∷ bs) e = parts_last 44 fields_of fields-step (λ d. refl) (b �
 pub fields-cut : (bs : List ℕ) (k : ℕ) → index_of 44 bs ≡ k → k < length bs → fields_of bs ≡ take k bs ∷ fields_of (drop (suc k) bs)
 fields-cut bs k e h = rw (append-nil bs, append-nil (drop (suc k) bs)) at (parts_cut 44 fields_of fields-step bs k [] e h)
 
--- the first elements from a place on
-pub take-of-drop : (a k : ℕ) (xs : List ℕ) → take k (drop a xs) ≡ drop a (take (a + k) xs)
-take-of-drop zero k xs = let z : 0 + k ≡ k = omega arith in rw z refl
-take-of-drop (suc a) k [] = let z : suc a + k ≡ suc (a + k) = omega arith in rw (z, take-nil k) refl
-take-of-drop (suc a) k (x ∷ xs) = let z : suc a + k ≡ suc (a + k) = omega arith in rw z (take-of-drop a k xs)
-
 -- a line has a field at least
 pub fields-some : (bs : List ℕ) → 1 ≤ length (fields_of bs)
 unfolding fields_of in_first
@@ -48,89 +44,70 @@ fields-some (b ∷ bs) = go (eqb b 44) (fields_of bs)
     go false [] = omega arith
     go false (f ∷ fs) = omega arith
 
--- the field that ends at a comma
-pub cut_at : (line : List ℕ) (end from stop : ℕ) → stop ≡ from + index_of 44 (slice from end line) → stop < end → end ≤ length line
-    → fields_of (slice from end line) ≡ slice from stop line ∷ fields_of (slice (stop + 1) end line)
-cut_at line end from stop e h l =
-    let k = index_of 44 (slice from end line) in
-    let n : length (slice from end line) ≡ end - from = length-slice from end line l in
-    let s : from + suc k ≡ stop + 1 = omega (arith, add-one k) in
-    fields-cut (slice from end line) k refl (omega (arith, n))
-    ∙ rw (drop-drop (suc k) from (take end line), s, take-of-drop from k (take end line), ← e, take-take stop end line (omega arith)) refl
-
--- the last field
-pub last-at : (line : List ℕ) (end from stop : ℕ) → stop ≡ from + index_of 44 (slice from end line) → stop ≡ end → from ≤ end → end ≤ length line
-    → fields_of (slice from end line) ≡ slice from stop line ∷ []
-last-at line end from stop e q h l =
-    fields-last (slice from end line) (omega (arith, length-slice from end line l)) ∙ rw q refl
-
 -- ---- the walk
 
--- i fields are read: the first i values hold their numbers, the later values are the old ones, and the rest is still to read
-pub record Fields (whole rest : List (List ℕ)) (old values : List ℤ) (i : ℕ) : Type 0 where
-  pub size : length values ≡ length old
-  pub counted : length whole ≡ i + length rest
-  pub numbers : all_numbers whole ≡ all_numbers rest
-  pub held : numbers_in whole ≡ take i values ++ numbers_in rest
-  pub kept : drop i values ≡ drop i old
+-- the fields that are left: none after the last
+abbrev pub fields_left : Option (List ℕ) → List (List ℕ)
+fields_left None = []
+fields_left (Some bs) = fields_of bs
 
-pub fields-start : (whole : List (List ℕ)) (old : List ℤ) → Fields whole whole old old 0
-fields-start whole old = record { size = refl; counted = omega arith; numbers = refl; held = refl; kept = refl }
+-- the first field, and those that are left after it
+pub fields_next : (line f : List ℕ) (o : Option (Bor (List ℕ)))
+    → MatchOption o (fields_of line ≡ f ∷ []) (λ after. fields_of line ≡ f ∷ fields_of after.now)
+    → fields_of line ≡ f ∷ fields_left (option_copied o)
+fields_next line f None e = e
+fields_next line f (Some after) e = e
 
-pub drop-further : (i n : ℕ) (xs ys : List ℤ) → drop i xs ≡ drop i ys → i ≤ n → drop n xs ≡ drop n ys
-drop-further i n xs ys e h =
-    let s : i + (n - i) ≡ n = omega arith in
-    rw (← s, ← drop-drop (n - i) i xs, ← drop-drop (n - i) i ys, e) refl
+-- i fields are read: the first i of n values hold their numbers, and the others are left
+pub record Fields (whole left : List (List ℕ)) (values : List ℤ) (n i : ℕ) : Type 0 where
+  pub size : length values ≡ n
+  pub counted : length whole ≡ i + length left
+  pub numbers : all_numbers whole ≡ all_numbers left
+  pub held : numbers_in whole ≡ take i values ++ numbers_in left
 
-module _ (whole rest : List (List ℕ)) (f : List ℕ) (old values : List ℤ) (i : ℕ) (r : Fields whole (f ∷ rest) old values i) where
-  -- one field more
-  pub fields-more : (z : ℤ) → i < length values → (number_of f).ok ≡ true → z ≡ (number_of f).value → Fields whole rest old (set values i z) (i + 1)
-  unfolding all_numbers numbers_in
-  fields-more z h ok e =
-      let s : i + 1 ≡ suc i = add-one i in
-      rw s (record {
-        size = length-set values i z ∙ r.size;
-        counted = omega (arith, r.counted);
-        numbers = r.numbers ∙ ap (λ (b : Bool). b && all_numbers rest) ok;
-        held = r.held ∙ ap (λ (x : ℤ). take i values ++ x ∷ numbers_in rest) (sym e) ∙ sym (append_snoc (take i values) z (numbers_in rest)) ∙ ap (λ (xs : List ℤ). xs ++ numbers_in rest) (sym (take-suc-set values i z h));
-        kept = drop-set-lt (suc i) values i z (omega arith) ∙ drop-further i (suc i) values old r.kept (omega arith);
-      })
+-- one field more
+pub fields-more : (whole left : List (List ℕ)) (f : List ℕ) (values : List ℤ) (n i : ℕ) (z : ℤ)
+    → Fields whole (f ∷ left) values n i → i < n → Some z ≡ number_of f
+    → Fields whole left (set values i z) n (i + 1)
+unfolding all_numbers numbers_in
+fields-more whole left f values n i z r h e =
+    rw (add-one i) (record {
+      size = length-set values i z ∙ r.size;
+      counted = omega (arith, r.counted);
+      numbers = r.numbers ∙ ap (λ (o : Option ℤ). is_some o && all_numbers left) (sym e);
+      held =
+          r.held
+          ∙ ap (λ (o : Option ℤ). take i values ++ unwrap_or o (pos 0) ∷ numbers_in left) (sym e)
+          ∙ sym (append_snoc (take i values) z (numbers_in left))
+          ∙ ap (λ (xs : List ℤ). xs ++ numbers_in left) (sym (take-suc-set values i z (omega (arith, r.size))));
+    })
+
+module _ (line : List ℕ) (left : List (List ℕ)) (values : List ℤ) (n i : ℕ) (r : Fields (fields_of line) left values n i) where
+  -- another count of fields
+  pub fields-other : (length (fields_of line) ≡ n → ⊥) → is_numbers n line ≡ false
+  unfolding is_numbers
+  fields-other h = ap (λ (b : Bool). b && all_numbers (fields_of line)) (ne_eqb (length (fields_of line)) n h)
 
   -- a field that states no number
-  pub fields-bad : (n : ℕ) → (number_of f).ok ≡ false → false ≡ eqb (length whole) n && all_numbers whole
-  unfolding all_numbers
-  fields-bad n e = go (eqb (length whole) n) (r.numbers ∙ ap (λ (b : Bool). b && all_numbers rest) e)
+  pub fields-bad : all_numbers left ≡ false → is_numbers n line ≡ false
+  unfolding is_numbers
+  fields-bad e = go (eqb (length (fields_of line)) n) (r.numbers ∙ e)
     where
-      go : (t : Bool) → all_numbers whole ≡ false → false ≡ t && all_numbers whole
-      go true q = sym q
+      go : (t : Bool) → all_numbers (fields_of line) ≡ false → (t && all_numbers (fields_of line)) ≡ false
+      go true q = q
       go false q = refl
 
--- nothing is left to read
-module _ (whole : List (List ℕ)) (old values : List ℤ) (n : ℕ) (r : Fields whole [] old values n) where
-  pub fields-end : (count : ℕ) → eqb n count ≡ eqb (length whole) count && all_numbers whole
-  unfolding all_numbers
-  fields-end count =
-      let l : length whole ≡ n = omega (arith, r.counted) in
-      rw (l, r.numbers) (sym (and-true (eqb n count)))
+-- the next one
+pub numbers-bad : (f : List ℕ) (left : List (List ℕ)) → None ≡ number_of f → all_numbers (f ∷ left) ≡ false
+unfolding all_numbers
+numbers-bad f left e = ap (λ (o : Option ℤ). is_some o && all_numbers left) (sym e)
 
-  pub fields-held : (count : ℕ) → eqb n count ≡ true → take count values ≡ numbers_in whole
-  unfolding numbers_in
-  fields-held count e = sym (r.held ∙ append-nil (take n values) ∙ ap (λ (k : ℕ). take k values) (eqb-true n count e))
+-- none is left
+module _ (line : List ℕ) (values : List ℤ) (n : ℕ) (r : Fields (fields_of line) [] values n n) where
+  pub fields-all : is_numbers n line ≡ true
+  unfolding is_numbers all_numbers
+  fields-all = rw (eq-eqb (length (fields_of line)) n (omega (arith, r.counted))) r.numbers
 
--- as many as asked are read, and more are left
-pub fields-over : (whole rest : List (List ℕ)) (old values : List ℤ) (n : ℕ) → Fields whole rest old values n → 1 ≤ length rest
-    → false ≡ eqb (length whole) n && all_numbers whole
-fields-over whole rest old values n r h =
-    rw (ne_eqb (length whole) n (λ q. omega (arith, r.counted))) refl
-
--- ---- a field that states no number
-
--- the field up to there, the last one or not, states no number
-pub bad-at : (line : List ℕ) (end from stop : ℕ) (whole : List (List ℕ)) (old values : List ℤ) (i n : ℕ)
-    → stop ≡ from + index_of 44 (slice from end line) → stop ≤ end → from ≤ end → end ≤ length line
-    → Fields whole (fields_of (slice from end line)) old values i → (number_of (slice from stop line)).ok ≡ false → false ≡ eqb (length whole) n && all_numbers whole
-bad-at line end from stop whole old values i n e h k l r bad =
-    elim (ℕ_discrete stop end) [
-      | yes q ↦ fields-bad whole [] (slice from stop line) old values i (rw (last-at line end from stop e q k l) at r) n bad
-      | no q ↦ fields-bad whole (fields_of (slice (stop + 1) end line)) (slice from stop line) old values i (rw (cut_at line end from stop e (omega arith) l) at r) n bad
-    ]
+  pub fields-held : values ≡ numbers_of line
+  unfolding numbers_of numbers_in
+  fields-held = sym (r.held ∙ append-nil (take n values) ∙ take_all n values (omega (arith, r.size)))

@@ -1,26 +1,41 @@
--- The search for a byte in a part of a list: what is left of the part, from a place on.
+-- The first byte c of a list, as a search for it gives it.
 use mathlib.Core.Path.{◌≡◌, refl}
-use mathlib.Core.List.{List}
-use Prim.Native.Nat.{ℕ, ◌+◌, ◌≤◌, ◌<◌}
+use mathlib.Core.Bool.{Bool, true, false, not, cond}
+use mathlib.Core.List.{List, [], ◌∷◌}
+use Prim.Native.Nat.{ℕ, suc, ◌+◌, ◌≤◌}
 use native.Mathlib.Omega.{arith}
-use native.Mathlib.Numerals.{add-one}
-use borrow.Author.Tests.{eq-eqb, ne_eqb}
-use lib.ListN.{length, get_or}
-use lib.Seq.{slice, slice-cons, slice_empty}
+use lib.Dec.{eqb}
+use borrow.Author.Tests.{lt-ltb, le-ltb}
+use lib.ListN.{length}
+use Rattle.std.specs.Prelude.{Some, None, unwrap_or}
+use Rattle.std.specs.List.{position_or_len}
+use Rattle.std.proofs.lemmas.Bool.{cases_lt}
+use Rattle.std.proofs.Common.{inl, inr}
+use lib.Dec.{ltb}
 use Rattle.decimal.specs.Bytes.{index_of, index_after}
 
-module _ (c : ℕ) (bs : List ℕ) (i to : ℕ) where
-  -- the byte is the first one left
-  pub find-here : i < to → to ≤ length bs → get_or bs i 0 ≡ c → index_of c (slice i to bs) ≡ 0
-  unfolding index_of index_after
-  find-here h k e = rw (slice-cons i to bs 0 h k, eq-eqb (get_or bs i 0) c e) refl
+pub index_of-le : (c : ℕ) (bs : List ℕ) → index_of c bs ≤ length bs
+unfolding index_of index_after
+index_of-le c [] = omega arith
+index_of-le c (b ∷ bs) = go (eqb b c) (index_of-le c bs)
+  where
+    go : (t : Bool) → index_of c bs ≤ length bs → index_after t (index_of c bs) ≤ suc (length bs)
+    go true h = omega arith
+    go false h = omega arith
 
-  -- the first one left is another
-  pub find-on : i < to → to ≤ length bs → (get_or bs i 0 ≡ c → ⊥) → i + index_of c (slice i to bs) ≡ (i + 1) + index_of c (slice (i + 1) to bs)
-  unfolding index_of index_after
-  find-on h k n = rw (slice-cons i to bs 0 h k, ne_eqb (get_or bs i 0) c n, add-one i) (omega arith)
+pub position-index_of : (c : ℕ) (bs : List ℕ) → position_or_len (λ x. eqb x c) bs ≡ index_of c bs
+unfolding index_of index_after
+position-index_of c [] = refl
+position-index_of c (b ∷ bs) = go (eqb b c) (position-index_of c bs)
+  where
+    go : (t : Bool) → position_or_len (λ x. eqb x c) bs ≡ index_of c bs
+        → cond (not t) (1 + position_or_len (λ x. eqb x c) bs) 0 ≡ index_after t (index_of c bs)
+    go true e = refl
+    go false e = omega arith
 
--- none is left
-pub find-none : (c : ℕ) (bs : List ℕ) (to : ℕ) → index_of c (slice to to bs) ≡ 0
-unfolding index_of
-find-none c bs to = rw (slice_empty to bs) refl
+-- the length stands for no place
+pub place-or-length : (k n : ℕ) → k ≤ n → unwrap_or (cond (ltb k n) (Some k) None) n ≡ k
+place-or-length k n h = elim (cases_lt k n) [
+  | inl less ↦ rw (lt-ltb k n less) refl
+  | inr same ↦ rw (le-ltb k n same) (omega arith)
+]

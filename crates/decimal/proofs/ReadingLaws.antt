@@ -1,132 +1,189 @@
 -- The numbers of a line, read byte by byte.
 use mathlib.Core.Path.{◌≡◌, refl, sym, ap, ◌∙◌}
-use mathlib.Core.Bool.{Bool, true, false, ◌&&◌}
+use mathlib.Core.Bool.{Bool, true, false, cond, ◌&&◌}
 use mathlib.Core.List.{List, [], ◌∷◌}
-use Prim.Native.Nat.{ℕ, suc, ◌+◌, ◌-◌, ◌*◌, ◌^◌, ◌≤◌, ◌<◌}
+use Prim.Native.Nat.{ℕ, zero, suc, ◌+◌, ◌-◌, ◌*◌, ◌^◌, ◌≤◌, ◌<◌}
 use native.Mathlib.Nat.{pow-suc, pow-le-pow_right}
 use native.Mathlib.Omega.{arith}
 use native.Mathlib.Numerals.{add-one}
-use lib.Dec.{ltb}
-use borrow.Author.Tests.{lt-ltb, le-ltb, le-leb, lt-leb, ne_eqb}
-use lib.IntN.{pos}
-use lib.ListN.{length, get_or}
-use lib.Seq.{slice, slice_empty, slice-cons, length-slice}
-use Rattle.decimal.specs.Decimal.{digit_value, all_digits, value_after, magnitude, number, none, plain, minus, number_of, negated}
+use borrow.Author.Tests.{lt-ltb, le-ltb, le-leb, lt-leb}
+use lib.IntN.{ℤ, pos, negsuc}
+use lib.ListN.{length, get_or, take, drop}
+use lib.Seq.{drop-cons, drop-length}
+use Rattle.std.specs.Prelude.{Option, Some, None, is_some, unwrap_or, option_and_then}
+use Rattle.std.specs.Prelude.{FitsSigned, ◌+ℤ◌, ◌-ℤ◌}
+use Rattle.std.specs.Int.{w64}
+use Rattle.std.specs.Option.{SomeIff}
+use Rattle.std.specs.Cmp.Lexicographic.{pointwise}
+use lib.Dec.{eqb}
+use Rattle.std.proofs.lemmas.Bool.{cases_lt}
+use Rattle.std.proofs.Common.{inl, inr}
+use Rattle.decimal.specs.Decimal.{digit_value, all_digits, value_after, magnitude, held_plain, held_minus, plain, minus, number_of, negated}
 
 -- ---- a digit
 
-pub digit-early : (b : ℕ) → b < 48 → 10 ≡ digit_value b
-unfolding digit_value
-digit-early b h = rw (lt-leb 48 b h) refl
-
-pub digit-late : (b : ℕ) → 57 < b → 10 ≡ digit_value b
-unfolding digit_value
-digit-late b h = rw (le-leb 48 b (omega arith), lt-leb b 57 h) refl
-
-pub digit-within : (b : ℕ) → 48 ≤ b → b ≤ 57 → b - 48 ≡ digit_value b
+pub digit-within : (b : ℕ) → 48 ≤ b → b ≤ 57 → Some (b - 48) ≡ digit_value b
 unfolding digit_value
 digit-within b h k = rw (le-leb 48 b h, le-leb b 57 k) refl
 
+pub digit-early : (b : ℕ) → b < 48 → None ≡ digit_value b
+unfolding digit_value
+digit-early b h = rw (lt-leb 48 b h) refl
+
+pub digit-late : (b : ℕ) → 57 < b → None ≡ digit_value b
+unfolding digit_value
+digit-late b h = rw (le-leb 48 b (omega arith), lt-leb b 57 h) refl
+
+-- a digit's value is below 10
+pub digit-small : (b d : ℕ) → Some d ≡ digit_value b → d < 10
+digit-small b d e = elim (cases_lt b 48) [
+  | inl early ↦ let none = digit-early b early in absurd (cc)
+  | inr from ↦ elim (cases_lt 57 b) [
+    | inl late ↦ let none = digit-late b late in absurd (cc)
+    | inr to ↦ let same : d ≡ b - 48 = cc (digit-within b from to) in omega arith
+  ]
+]
+
 -- ---- digits
 
-pub magnitude-empty : (bs : List ℕ) → length bs ≡ 0 → 2 ^ 63 + 1 ≡ magnitude bs
-unfolding magnitude
-magnitude-empty bs h = rw h refl
-
-pub magnitude-long : (bs : List ℕ) → 19 < length bs → 2 ^ 63 + 1 ≡ magnitude bs
+pub magnitude-long : (bs : List ℕ) → 19 < length bs → magnitude bs ≡ None
 unfolding magnitude
 magnitude-long bs h = rw (le-leb 1 (length bs) (omega arith), lt-leb (length bs) 19 h) refl
 
-pub magnitude-other : (bs : List ℕ) → 1 ≤ length bs → length bs ≤ 19 → all_digits bs ≡ false → 2 ^ 63 + 1 ≡ magnitude bs
+pub magnitude-empty : (bs : List ℕ) → length bs ≡ 0 → magnitude bs ≡ None
+unfolding magnitude
+magnitude-empty bs h = rw h refl
+
+pub magnitude-other : (bs : List ℕ) → 1 ≤ length bs → length bs ≤ 19 → all_digits bs ≡ false → magnitude bs ≡ None
 unfolding magnitude
 magnitude-other bs h k e = rw (le-leb 1 (length bs) h, le-leb (length bs) 19 k, e) refl
 
-pub magnitude-digits : (bs : List ℕ) → 1 ≤ length bs → length bs ≤ 19 → all_digits bs ≡ true → value_after 0 bs ≡ magnitude bs
+pub magnitude-digits : (bs : List ℕ) → 1 ≤ length bs → length bs ≤ 19 → all_digits bs ≡ true → magnitude bs ≡ Some (value_after 0 bs)
 unfolding magnitude
 magnitude-digits bs h k e = rw (le-leb 1 (length bs) h, le-leb (length bs) 19 k, e) refl
 
--- the digits up to place i have the value v; those from there on are still to read
-pub record Reading (line : List ℕ) (from to v i : ℕ) : Type 0 where
-  pub begun : from ≤ i
-  pub within : i ≤ to
-  pub below : v < 10 ^ (i - from)
-  pub digits : all_digits (slice from to line) ≡ all_digits (slice i to line)
-  pub value : value_after 0 (slice from to line) ≡ value_after v (slice i to line)
-
-pub reading-start : (line : List ℕ) (from to : ℕ) → from ≤ to → Reading line from to 0 from
-reading-start line from to h =
-    let z : from - from ≡ 0 = omega arith in
-    record { begun = omega arith; within = h; below = rw z (omega arith); digits = refl; value = refl }
+-- the first i bytes are digits of the value v; those from there on are still to read
+pub record Reading (bs : List ℕ) (v i : ℕ) : Type 0 where
+  pub below : v < 10 ^ i
+  pub digits : all_digits bs ≡ all_digits (drop i bs)
+  pub value : value_after 0 bs ≡ value_after v (drop i bs)
 
 -- 19 digits stay below 10 ^ 19, so 64 bits hold them
-pub reading-room : (line : List ℕ) (from to v i : ℕ) → Reading line from to v i → i < to → to - from ≤ 19 → v < 10 ^ 18
-reading-room line from to v i r h k =
+pub reading-room : (bs : List ℕ) (v i : ℕ) → Reading bs v i → i < length bs → length bs ≤ 19 → v < 10 ^ 18
+reading-room bs v i r h k =
     let one : 0 < 10 = omega arith in
-    let few : i - from ≤ 18 = omega (arith, r.begun) in
-    let q : 10 ^ (i - from) ≤ 10 ^ 18 = pow-le-pow_right one few in
+    let few : i ≤ 18 = omega arith in
+    let q : 10 ^ i ≤ 10 ^ 18 = pow-le-pow_right one few in
     omega (arith, r.below)
 
-module _ (line : List ℕ) (from to v i d : ℕ) (r : Reading line from to v i) (h : i < to) (k : to ≤ length line) (e : d ≡ digit_value (get_or line i 0)) where
-  here : slice i to line ≡ get_or line i 0 ∷ slice (suc i) to line
-  here = slice-cons i to line 0 h k
+module _ (bs : List ℕ) (v i : ℕ) (r : Reading bs v i) (h : i < length bs) where
+  here : drop i bs ≡ get_or bs i 0 ∷ drop (suc i) bs
+  here = drop-cons bs i 0 h
 
-  pub reading-more : d < 10 → Reading line from to (v * 10 + d) (i + 1)
+  pub reading-more : (d : ℕ) → Some d ≡ digit_value (get_or bs i 0) → Reading bs (v * 10 + d) (i + 1)
   unfolding all_digits value_after
-  reading-more digit =
-      let s : i + 1 ≡ suc i = add-one i in
-      let n : suc i - from ≡ suc (i - from) = omega (arith, r.begun) in
-      rw s (record {
-        begun = omega (arith, r.begun);
-        within = omega arith;
-        below = rw (n, pow-suc 10 (i - from)) (omega (arith, r.below));
-        digits = r.digits ∙ ap all_digits here ∙ ap (λ (b : Bool). b && all_digits (slice (suc i) to line)) (ap (λ (x : ℕ). ltb x 10) (sym e) ∙ lt-ltb d 10 digit);
-        value = r.value ∙ ap (value_after v) here ∙ ap (λ (x : ℕ). value_after (v * 10 + x) (slice (suc i) to line)) (sym e);
+  reading-more d e =
+      let small = digit-small _ d e in
+      rw (add-one i) (record {
+        below = rw (pow-suc 10 i) (omega (arith, r.below));
+        digits = r.digits ∙ ap all_digits here ∙ ap (λ (o : Option ℕ). is_some o && all_digits (drop (suc i) bs)) (sym e);
+        value = r.value ∙ ap (value_after v) here ∙ ap (λ (o : Option ℕ). value_after (v * 10 + unwrap_or o 0) (drop (suc i) bs)) (sym e);
       })
 
   -- another byte
-  pub reading-stop : 10 ≤ d → all_digits (slice from to line) ≡ false
+  pub reading-stop : length bs ≤ 19 → None ≡ digit_value (get_or bs i 0) → None ≡ magnitude bs
   unfolding all_digits
-  reading-stop other =
-      r.digits ∙ ap all_digits here ∙ ap (λ (b : Bool). b && all_digits (slice (suc i) to line)) (ap (λ (x : ℕ). ltb x 10) (sym e) ∙ le-ltb d 10 other)
+  reading-stop few e =
+      sym (magnitude-other bs (omega arith) few (r.digits ∙ ap all_digits here ∙ ap (λ (o : Option ℕ). is_some o && all_digits (drop (suc i) bs)) (sym e)))
 
 -- all is read
-pub reading-all : (line : List ℕ) (from to v i : ℕ) → Reading line from to v i → to ≤ i → from < to → to - from ≤ 19 → to ≤ length line
-    → v ≡ magnitude (slice from to line)
+pub reading-all : (bs : List ℕ) (v i : ℕ) → Reading bs v i → i ≡ length bs → 0 < length bs → length bs ≤ 19 → Some v ≡ magnitude bs
 unfolding all_digits value_after
-reading-all line from to v i r h some few k =
-    let e : i ≡ to = omega (arith, r.within) in
-    let l : length (slice from to line) ≡ to - from = length-slice from to line k in
-    let rest : slice i to line ≡ [] = ap (λ (j : ℕ). slice j to line) e ∙ slice_empty to line in
-    sym (r.value ∙ ap (value_after v) rest)
-    ∙ magnitude-digits (slice from to line) (omega (arith, l)) (omega (arith, l)) (r.digits ∙ ap all_digits rest)
+reading-all bs v i r e some few =
+    let rest : drop i bs ≡ [] = rw e (drop-length bs) in
+    sym (magnitude-digits bs some few (r.digits ∙ ap all_digits rest) ∙ ap Some (r.value ∙ ap (value_after v) rest))
 
 -- ---- numbers
 
-pub minus-past : (bs : List ℕ) → 2 ^ 63 < magnitude bs → none ≡ minus bs
-unfolding minus
-minus-past bs h = rw (lt-leb (magnitude bs) (2 ^ 63) h) refl
+pub minus-past : (n : ℕ) → 2 ^ 63 < n → held_minus n ≡ None
+unfolding held_minus
+minus-past n h = rw (lt-leb n (2 ^ 63) h) refl
 
-pub minus_is : (bs : List ℕ) → magnitude bs ≤ 2 ^ 63 → number (negated (magnitude bs)) ≡ minus bs
-unfolding minus
-minus_is bs h = rw (le-leb (magnitude bs) (2 ^ 63) h) refl
+pub minus-is : (n : ℕ) → n ≤ 2 ^ 63 → held_minus n ≡ Some (negated n)
+unfolding held_minus
+minus-is n h = rw (le-leb n (2 ^ 63) h) refl
 
-pub plain-past : (bs : List ℕ) → 2 ^ 63 ≤ magnitude bs → none ≡ plain bs
-unfolding plain
-plain-past bs h = rw (le-ltb (magnitude bs) (2 ^ 63) h) refl
+pub plain-past : (n : ℕ) → 2 ^ 63 ≤ n → held_plain n ≡ None
+unfolding held_plain
+plain-past n h = rw (le-ltb n (2 ^ 63) h) refl
 
-pub plain-is : (bs : List ℕ) → magnitude bs < 2 ^ 63 → number (pos (magnitude bs)) ≡ plain bs
-unfolding plain
-plain-is bs h = rw (lt-ltb (magnitude bs) (2 ^ 63) h) refl
+pub plain-is : (n : ℕ) → n < 2 ^ 63 → held_plain n ≡ Some (pos n)
+unfolding held_plain
+plain-is n h = rw (lt-ltb n (2 ^ 63) h) refl
 
-module _ (line : List ℕ) (from to : ℕ) where
-  pub number-none : from ≡ to → none ≡ number_of (slice from to line)
-  unfolding number_of
-  number-none e = rw (e, slice_empty to line) refl
+-- the number of digits that have a value, or that have none
+module _ (bs : List ℕ) where
+  pub plain-of : (o : Option ℕ) → o ≡ magnitude bs → option_and_then held_plain o ≡ plain bs
+  unfolding plain
+  plain-of o e = ap (option_and_then held_plain) e
 
-  pub number-minus : from < to → to ≤ length line → get_or line from 0 ≡ 45 → minus (slice (from + 1) to line) ≡ number_of (slice from to line)
-  unfolding number_of
-  number-minus h k e = rw (slice-cons from to line 0 h k, e, add-one from) refl
+  pub minus-of : (o : Option ℕ) → o ≡ magnitude bs → option_and_then held_minus o ≡ minus bs
+  unfolding minus
+  minus-of o e = ap (option_and_then held_minus) e
 
-  pub number-plain : from < to → to ≤ length line → (get_or line from 0 ≡ 45 → ⊥) → plain (slice from to line) ≡ number_of (slice from to line)
-  unfolding number_of
-  number-plain h k e = rw (slice-cons from to line 0 h k, ne_eqb (get_or line from 0) 45 e) refl
+-- 0 less a number is minus it
+pub less-negated : (n : ℕ) → pos 0 -ℤ pos n ≡ negated n
+unfolding negated
+less-negated zero = refl
+less-negated (suc n) =
+    let one : suc n - 1 ≡ n = omega arith in
+    rw (le-leb 1 (suc n) (omega arith)) (ap negsuc one)
+
+negated-fits : (n : ℕ) → n ≤ 2 ^ 63 → FitsSigned w64 (negated n)
+unfolding negated
+negated-fits zero h = record { sfits = omega arith }
+negated-fits (suc n) h = record { sfits = omega arith }
+
+fits-negated : (n : ℕ) → FitsSigned w64 (negated n) → n ≤ 2 ^ 63
+unfolding negated
+fits-negated zero h = omega arith
+fits-negated (suc n) h = omega arith
+
+-- a signed number is held exactly where it fits
+pub plain-held : (n : ℕ) (r : Option ℤ) → SomeIff r (FitsSigned w64 (pos 0 +ℤ pos n)) (pos 0 +ℤ pos n) → r ≡ held_plain n
+plain-held n None h = elim (cases_lt n (2 ^ 63)) [
+  | inl fits ↦ absurd (h (record { sfits = omega arith }))
+  | inr past ↦ sym (plain-past n past)
+]
+plain-held n (Some x) h =
+    let same : 0 + n ≡ n = omega arith in
+    ap Some (h.1 ∙ ap pos same) ∙ sym (plain-is n (omega (arith, h.0)))
+
+pub minus-held : (n : ℕ) (r : Option ℤ) → SomeIff r (FitsSigned w64 (pos 0 -ℤ pos n)) (pos 0 -ℤ pos n) → r ≡ held_minus n
+minus-held n None h = elim (cases_lt (2 ^ 63) n) [
+  | inl past ↦ sym (minus-past n past)
+  | inr fits ↦ absurd (h (rw (less-negated n) (negated-fits n fits)))
+]
+minus-held n (Some x) h = ap Some (h.1 ∙ less-negated n) ∙ sym (minus-is n (fits-negated n (rw (less-negated n) at h.0)))
+
+-- ---- a field
+
+-- a minus first
+pub number-minus : (f digits : List ℕ) → pointwise eqb (take 1 f) (45 ∷ []) ≡ true → digits ≡ drop 1 f → minus digits ≡ number_of f
+unfolding number_of
+number-minus [] digits h e = absurd (cc)
+number-minus (b ∷ bs) digits h e = go (eqb b 45) h
+  where
+    go : (t : Bool) → (t && true) ≡ true → minus digits ≡ cond t (minus bs) (plain (b ∷ bs))
+    go true q = ap minus e
+    go false q = absurd (cc)
+
+-- none first, or no byte
+pub number-plain : (f : List ℕ) → pointwise eqb (take 1 f) (45 ∷ []) ≡ false → plain f ≡ number_of f
+unfolding number_of plain magnitude
+number-plain [] h = refl
+number-plain (b ∷ bs) h = go (eqb b 45) h
+  where
+    go : (t : Bool) → (t && true) ≡ false → option_and_then held_plain (magnitude (b ∷ bs)) ≡ cond t (minus bs) (option_and_then held_plain (magnitude (b ∷ bs)))
+    go true q = absurd (cc)
+    go false q = refl

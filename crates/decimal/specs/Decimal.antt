@@ -1,10 +1,10 @@
 -- The texts of numbers and dates as bytes, and the numbers that a line states. The sentences quoted are of document 01, "Questions, dates,
 -- listing".
-use Rattle.std.specs.Prelude.{ℕ, zero, suc, ◌+◌, ◌-◌, ◌*◌, ◌/◌, ◌%◌, ◌^◌, Bool, true, false, cond, ◌&&◌, List, [], ◌∷◌, ◌++◌, ℤ, pos, negsuc, eqb, leb, ltb, length, take, drop}
+use Rattle.std.specs.Prelude.{ℕ, zero, suc, ◌+◌, ◌-◌, ◌*◌, ◌/◌, ◌%◌, ◌^◌, Bool, true, cond, ◌&&◌, List, [], ◌∷◌, ◌++◌}
+use Rattle.std.specs.Prelude.{ℤ, pos, negsuc, eqb, leb, ltb, length, Option, Some, None, is_some, unwrap_or, option_and_then}
 use Rattle.lists.specs.Tests.{◌from◌to◌}
 use Rattle.dates.specs.declared.Date.{Date}
 use Rattle.dates.specs.Gregorian.{date_of}
-use Rattle.decimal.specs.declared.Number.{Number}
 
 -- ---- signed numbers as natural ones
 
@@ -47,48 +47,44 @@ text_of_date d =
 unfoldable pub date_text : ℕ → List ℕ
 date_text day = text_of_date (date_of day)
 
--- the bytes with a text at a place; every other byte stays
-unfoldable pub written : List ℕ → ℕ → List ℕ → List ℕ
-written b at t = take at b ++ t ++ drop (at + length t) b
-
 -- ---- reading: "signed 64-bit numbers (perhaps a minus, 1 to 19 digits)". So 007 is 7 and -0 is 0; a plus, a blank or a 20th digit is no
 -- number
 
--- the value of a digit's byte, 10 for any other byte
-unfoldable pub digit_value : ℕ → ℕ
-digit_value b = cond (b from 48 to 57) (b - 48) 10
+-- the value of a digit's byte
+unfoldable pub digit_value : ℕ → Option ℕ
+digit_value b = cond (b from 48 to 57) (Some (b - 48)) None
 
 -- every byte is a digit
 unfoldable pub all_digits : List ℕ → Bool
 all_digits [] = true
-all_digits (b ∷ bs) = ltb (digit_value b) 10 && all_digits bs
+all_digits (b ∷ bs) = is_some (digit_value b) && all_digits bs
 
 -- the value of digits that come after others of value v
 unfoldable pub value_after : ℕ → List ℕ → ℕ
 value_after v [] = v
-value_after v (b ∷ bs) = value_after (v * 10 + digit_value b) bs
+value_after v (b ∷ bs) = value_after (v * 10 + unwrap_or (digit_value b) 0) bs
 
--- the value of 1 to 19 digits; any other bytes are past every limit
-unfoldable pub magnitude : List ℕ → ℕ
-magnitude bs = cond ((length bs from 1 to 19) && all_digits bs) (value_after 0 bs) (2 ^ 63 + 1)
+-- the value of 1 to 19 digits
+unfoldable pub magnitude : List ℕ → Option ℕ
+magnitude bs = cond ((length bs from 1 to 19) && all_digits bs) (Some (value_after 0 bs)) None
 
--- a field that states a number, and one that states none
-abbrev pub number : ℤ → Number
-number z = record { ok = true; value = z }
+-- a number, and minus it, where signed 64 bits hold them
+unfoldable pub held_plain : ℕ → Option ℤ
+held_plain n = cond (ltb n (2 ^ 63)) (Some (pos n)) None
 
-abbrev pub none : Number
-none = record { ok = false; value = pos 0 }
+unfoldable pub held_minus : ℕ → Option ℤ
+held_minus n = cond (leb n (2 ^ 63)) (Some (negated n)) None
 
 -- the number that digits state, without and with a minus before them, where signed 64 bits hold it
-unfoldable pub plain : List ℕ → Number
-plain bs = cond (ltb (magnitude bs) (2 ^ 63)) (number (pos (magnitude bs))) none
+unfoldable pub plain : List ℕ → Option ℤ
+plain bs = option_and_then held_plain (magnitude bs)
 
-unfoldable pub minus : List ℕ → Number
-minus bs = cond (leb (magnitude bs) (2 ^ 63)) (number (negated (magnitude bs))) none
+unfoldable pub minus : List ℕ → Option ℤ
+minus bs = option_and_then held_minus (magnitude bs)
 
 -- the number that a field states
-unfoldable pub number_of : List ℕ → Number
-number_of [] = none
+unfoldable pub number_of : List ℕ → Option ℤ
+number_of [] = None
 number_of (b ∷ bs) = cond (eqb b 45) (minus bs) (plain (b ∷ bs))
 
 -- ---- a line: "its exact count of signed 64-bit numbers", with commas between them as in the example
@@ -106,7 +102,7 @@ fields_of (b ∷ bs) = cond (eqb b 44) ([] ∷ fields_of bs) (in_first b (fields
 -- each field states a number
 unfoldable pub all_numbers : List (List ℕ) → Bool
 all_numbers [] = true
-all_numbers (f ∷ fs) = (number_of f).ok && all_numbers fs
+all_numbers (f ∷ fs) = is_some (number_of f) && all_numbers fs
 
 -- the line is exactly so many numbers
 unfoldable pub is_numbers : ℕ → List ℕ → Bool
@@ -115,7 +111,7 @@ is_numbers n bs = eqb (length (fields_of bs)) n && all_numbers (fields_of bs)
 -- the number that each field states
 unfoldable pub numbers_in : List (List ℕ) → List ℤ
 numbers_in [] = []
-numbers_in (f ∷ fs) = (number_of f).value ∷ numbers_in fs
+numbers_in (f ∷ fs) = unwrap_or (number_of f) (pos 0) ∷ numbers_in fs
 
 -- the numbers of a line
 unfoldable pub numbers_of : List ℕ → List ℤ

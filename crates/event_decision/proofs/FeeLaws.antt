@@ -14,6 +14,9 @@ use Rattle.lists.proofs.ListLaws.{length-tabulate, tabulate-at}
 use Rattle.lists.proofs.SumLaws.{sum_by-more, sum_by-small}
 use Rattle.records.specs.Limits.{highest_refund}
 use Rattle.rules.specs.Rows.{Row, blank, row_no, with_settled, remaining, settle_whole, fee_naming}
+use Rattle.tables.specs.Changes.{RowIn}
+use Rattle.row_passes.specs.Passes.{RowLeft}
+use Rattle.settlement.specs.Settling.{Journal}
 use Rattle.posting.specs.Posts.{Amounts}
 use Rattle.event_decision.specs.Decision.{part, toll_and_fees, fee_settled}
 
@@ -89,6 +92,10 @@ module _ (n : ℕ) (r x : Row) (e : x ≡ r) where
 
   pub fee-whole : fee_naming n x ≡ true → with_settled x.amount r ≡ fee_settled n r
   fee-whole f = let z : fee_naming n r ≡ true = rw e at f in rw (z, e)
+
+-- each row still has an amount that can be written after the fees before it have been settled
+pub amount-left : (t u : List ℤ) (used i : ℕ) → Journal t used → RowLeft t u used i → RowIn u i × ((row_at u i).amount < 2 ^ 63)
+amount-left t u used i j l = (omega (arith, l.inside, l.size, j.room), rw l.same (j.amounts i l.inside))
 
 -- a row is as before, or settled whole
 pub same-or-whole : (b : Bool) (r : Row) → (cond b (settle_whole r) r ≡ r) ⊎ (remaining (cond b (settle_whole r) r) ≡ 0)

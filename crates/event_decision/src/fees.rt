@@ -10,6 +10,7 @@ ghost use Rattle.event_decision.specs.Decision.{part, toll_and_fees, fee_settled
 
 use records::Row;
 use records::codes::KIND_FEE;
+use row_passes::change_rows;
 use row_tests::remaining_of;
 use table_rows::{put_settled, read_row, row_numbered};
 
@@ -24,10 +25,7 @@ fn is_fee_of(r: Row, n: u64) -> bool
 fn part_of(r: Row, whole: bool) -> u64
     ensures { result ≡ part whole r }
 {
-    if whole {
-        return r.amount;
-    }
-    remaining_of(r)
+    if whole { r.amount } else { remaining_of(r) }
 }
 
 // The same of a fee of toll n, and 0 of any other row.
@@ -35,9 +33,10 @@ fn fee_part(r: Row, n: u64, whole: bool) -> u64
     ensures { result ≡ only (fee_naming n) (part whole) r }
 {
     if is_fee_of(r, n) {
-        return part_of(r, whole);
+        part_of(r, whole)
+    } else {
+        0
     }
-    0
 }
 
 // Toll n and its fees: their whole amounts, or what remains of them.
@@ -46,10 +45,8 @@ pub fn with_fees(journal: &[i64], used: usize, n: u64, whole: bool) -> u64
     ensures { result ≡ toll_and_fees (rows_of journal.now used) n (part whole) }
 {
     let mut sum = part_of(row_numbered(journal, used, n), whole);
-    let mut i = 0;
-    while i < used {
+    for i in 0..used {
         sum += fee_part(read_row(journal, i), n, whole);
-        i += 1;
     }
     sum
 }
@@ -71,9 +68,5 @@ pub fn settle_fees(journal: &mut [i64], used: usize, n: u64)
     requires { Journal journal.old used }
     ensures { RowsMapped (fee_settled n) journal.old journal.new used }
 {
-    let mut i = 0;
-    while i < used {
-        settle_fee(journal, i, n);
-        i += 1;
-    }
+    change_rows(journal, used, |rows, i| settle_fee(rows, i, n));
 }

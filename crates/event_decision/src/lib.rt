@@ -6,6 +6,7 @@ pub mod fees; // fees.rt: the fees of a toll, summed and settled
 ghost use Rattle.std.specs.Prelude.{◌≡◌, true};
 ghost use Rattle.records.specs.Encoding.{rows_of};
 ghost use Rattle.rules.specs.Refusals.{answer_number};
+ghost use Rattle.records.specs.Outcomes.{number_by, answer_of};
 ghost use Rattle.rules.specs.Tables.{book_of, sound_tables};
 ghost use Rattle.event_lookups.specs.Lookups.{LooksUp};
 ghost use Rattle.posting.specs.Posts.{Amounts, Posts};
@@ -16,12 +17,12 @@ ghost use Rattle.rules.specs.Lent.{lent, at_entry, at_exit};
 
 use self::fees::{settle_fees, with_fees};
 use event_lookups::Lookup;
-use posting::answers::{posted, refused};
+use posting::answers::posted;
 use posting::rows::{add_row, new_row, released};
 use records::codes::{DISPUTE_UPHELD, KIND_CREDIT, KIND_TOLL};
 use records::layout::{DAY_PLACE, ROW_WIDTH, USED_PLACE};
-use records::numbers::{FULL, NO_ROW, UNTIMELY};
-use records::{Answer, Instruction, Row};
+use records::refusals::Refusal;
+use records::{Instruction, Posting, Row};
 use row_tests::held_toll;
 use settlement::settle_from;
 use table_rows::{row_numbered, write_row};
@@ -30,25 +31,30 @@ use tables::words::get;
 // The verdict that upholds the dispute.
 const YES: u64 = 1;
 
-// Why an admitted event 6 is refused, 0 where it is not.
-fn decision_refusal(header: &[i64], accounts: &[i64], journal: &[i64], e: Instruction) -> u64
+// Why an admitted event 6 is refused, if it is.
+fn check_decision(
+    header: &[i64],
+    accounts: &[i64],
+    journal: &[i64],
+    e: Instruction,
+) -> Result<(), Refusal>
     requires { (sound_tables (lent header.now accounts.now journal.now) ≡ true)
         × (e.kind ≡ event_decision)
         × Admitted (lent header.now accounts.now journal.now) e }
-    ensures { result ≡ answer_number (book_of (at_entry header.now accounts.now journal.now)) e }
+    ensures { number_by result ≡ answer_number (book_of (at_entry header.now accounts.now journal.now)) e }
 {
     let used = get(header, USED_PLACE) as usize;
     let r = row_numbered(journal, used, e.a);
     if !((r.kind == KIND_TOLL) & (r.account == e.account)) {
-        return NO_ROW;
+        return Err(Refusal::NoRow);
     }
     if !held_toll(r) {
-        return UNTIMELY;
+        return Err(Refusal::Untimely);
     }
     if (e.b == YES) & (journal.len() / ROW_WIDTH <= used) {
-        return FULL;
+        return Err(Refusal::Full);
     }
-    0
+    Ok(())
 }
 
 // The credit of the toll and its fees; what is unsettled of these is used.
@@ -67,11 +73,12 @@ fn credit_for(journal: &[i64], used: usize, today: u64, e: Instruction) -> Row
 fn upheld(r: Row) -> Row
     ensures { result ≡ upheld_toll r }
 {
-    let mut free = r;
-    free.settled = r.amount;
-    free.dispute = DISPUTE_UPHELD;
-    free.hold = 0;
-    free
+    Row {
+        settled: r.amount,
+        dispute: DISPUTE_UPHELD,
+        hold: 0,
+        ..r
+    }
 }
 
 // Verdict 1: a credit of the toll and its fees settles exactly these.
@@ -104,24 +111,21 @@ pub fn decide(
     journal: &mut [i64],
     e: Instruction,
     k: Lookup,
-) -> Answer
+) -> Result<Posting, Refusal>
     requires { (sound_tables (lent header.old accounts.now journal.old) ≡ true)
         × (e.kind ≡ event_decision)
         × LooksUp (lent header.old accounts.now journal.old) e k
         × Admitted (lent header.old accounts.now journal.old) e }
-    ensures { Posts (at_entry header.old accounts.now journal.old) (at_exit header.new accounts.now journal.new) e result }
+    ensures { Posts (at_entry header.old accounts.now journal.old) (at_exit header.new accounts.now journal.new) e (answer_of result) }
 {
-    let n = decision_refusal(header, accounts, journal, e);
-    if n != 0 {
-        return refused(n);
-    }
+    check_decision(header, accounts, journal, e)?;
     let used = get(header, USED_PLACE);
     if e.b == YES {
         uphold(header, journal, e);
         settle_from(journal, used as usize + 1, e.account, k.source, k.debit);
-        return posted(used, 1, 0, 0);
+        return Ok(posted(used, 1, 0, 0));
     }
     reject(header, journal, e);
     settle_from(journal, used as usize, e.account, k.source, k.debit);
-    posted(used, 0, 0, 0)
+    Ok(posted(used, 0, 0, 0))
 }

@@ -1,8 +1,9 @@
 // Event 10: a rate list (document 02, No. 1).
 #![tactic(auto)]
 
-ghost use Rattle.std.specs.Prelude.{◌≡◌, true, ◌+◌, ◌≤◌, length, take, drop};
+ghost use Rattle.std.specs.Prelude.{◌≡◌, true, ◌+◌, ◌≤◌, length, take, drop, Ok};
 ghost use Rattle.records.specs.Codes.{event_rate_list};
+ghost use Rattle.records.specs.Outcomes.{answer_of};
 ghost use Rattle.records.specs.Layout.{list_width};
 ghost use Rattle.rules.specs.RateLists.{list_of, list_in_range};
 ghost use Rattle.rules.specs.Tables.{list_words, sound_tables};
@@ -16,7 +17,7 @@ use records::layout::{
     HEADER_LISTS, LIST_DAY_PLACE, LIST_RATES_PLACE, LIST_WIDTH, PLATE1_PLACE, PLATE2_PLACE,
     PLATE3_PLACE, TAG1_PLACE, TAG2_PLACE, TAG3_PLACE, USED_PLACE,
 };
-use records::{Answer, Instruction};
+use records::{Instruction, Posting};
 use table_lists::lists_used;
 use tables::words::{get, put};
 
@@ -41,11 +42,11 @@ fn put_last_words(header: &mut [i64], p: usize, e: Instruction)
 }
 
 // Event 10: words a to g become the first unused list. Admitted, it is not refused.
-pub fn add_list(header: &mut [i64], accounts: &[i64], journal: &[i64], e: Instruction) -> Answer
+pub fn add_list(header: &mut [i64], accounts: &[i64], journal: &[i64], e: Instruction) -> Posting
     requires { (sound_tables (lent header.old accounts.now journal.now) ≡ true)
         × (e.kind ≡ event_rate_list)
         × Admitted (lent header.old accounts.now journal.now) e }
-    ensures { Posts (at_entry header.old accounts.now journal.now) (at_exit header.new accounts.now journal.now) e result }
+    ensures { Posts (at_entry header.old accounts.now journal.now) (at_exit header.new accounts.now journal.now) e (answer_of (Ok result)) }
 {
     let used = get(header, USED_PLACE);
     let p = HEADER_LISTS + lists_used(header) * LIST_WIDTH;

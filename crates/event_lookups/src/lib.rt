@@ -34,14 +34,12 @@ fn passage_found(journal: &[i64], used: usize, passage: u64) -> bool
     requires { used * row_width ≤ length journal.now }
     ensures { result ≡ exists (λ r. toll r && r.reference is passage) (rows_of journal.now used) }
 {
-    let mut i = 0;
-    while i < used {
+    for i in 0..used {
         if reference_at(journal, i) == passage {
             if kind_at(journal, i) == KIND_TOLL {
                 return true;
             }
         }
-        i += 1;
     }
     false
 }

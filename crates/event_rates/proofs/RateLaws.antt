@@ -1,11 +1,13 @@
 -- The rates of a header's lists: where they start, class by class, tag before plate.
 use mathlib.Core.Path.{◌≡◌, refl, sym, ap, ◌∙◌}
+use mathlib.Core.Bool.{false}
 use mathlib.Core.Logic.{◌≢◌}
 use Prim.Native.Nat.{ℕ, zero, suc, ◌+◌, ◌*◌, ◌-◌, ◌≤◌, ◌<◌}
 use native.Mathlib.Omega.{arith}
 use mathlib.Core.List.{List, [], ◌∷◌}
 use lib.IntN.{ℤ}
 use lib.ListN.{get_or}
+use Rattle.lists.specs.Tests.{◌is◌}
 use Rattle.records.specs.Layout.{header_lists, header_rates, later_lists, list_width, list_rates_place, rates_width}
 use Rattle.records.specs.Encoding.{word}
 use Rattle.rules.specs.Schedule.{Rates, rate}
@@ -13,6 +15,9 @@ use Rattle.rules.specs.RateLists.{RateList, list_no, in_force}
 use Rattle.rules.specs.Tables.{rates_from, first_list_in, list_from, lists_used, lists_in}
 use Rattle.table_lists.specs.HeaderLists.{OnDay}
 use Rattle.table_lists.proofs.OnDayLaws.{later-list}
+use Rattle.event_rates.specs.declared.Class.{Class}
+use Rattle.event_rates.specs.declared.Class.TheVariants.{One, Two, Three}
+use Rattle.event_rates.specs.Classes.{class_number}
 use Rattle.event_rates.specs.Places.{RatesAt}
 
 -- ---- where they start
@@ -54,3 +59,15 @@ pub rate-on : (h : List ℤ) (day n p class mode : ℕ) → OnDay h day n → Ra
 rate-on h day n p class mode o r a b c d =
     rate-place h p class mode a b c d
     ∙ ap (λ (x : Rates). rate x class mode) (r.rates h o.within ∙ sym (ap (λ (x : RateList). x.rates) o.list))
+
+-- ---- the numbers of the classes
+
+pub class_number-from_1 : (k : Class) → (1 ≤ class_number k) × (class_number k ≤ 3)
+class_number-from_1 One = (omega arith, omega arith)
+class_number-from_1 Two = (omega arith, omega arith)
+class_number-from_1 Three = (omega arith, omega arith)
+
+pub class_number-not_0 : (k : Class) → class_number k is 0 ≡ false
+class_number-not_0 One = refl
+class_number-not_0 Two = refl
+class_number-not_0 Three = refl

@@ -7,6 +7,7 @@ ghost use Rattle.rules.specs.Schedule.{class, rate};
 ghost use Rattle.rules.specs.RateLists.{in_force};
 ghost use Rattle.rules.specs.Tables.{lists_in};
 ghost use Rattle.table_lists.specs.HeaderLists.{ListsStand};
+ghost use Rattle.event_rates.specs.Classes.{class_number, class_by};
 ghost use Rattle.event_rates.specs.Places.{RatesAt};
 
 use records::layout::{HEADER_LISTS, HEADER_RATES, LIST_RATES_PLACE, LIST_WIDTH};
@@ -14,37 +15,47 @@ use records::limits::LOW_HEIGHT;
 use table_lists::list_on;
 use tables::words::get;
 
-const CLASS_1: u64 = 1;
+// The classes, with their numbers.
+#[derive(Clone, Copy, Debug, PartialEq, Eq)]
+pub enum Class {
+    One = 1,
+    Two = 2,
+    Three = 3,
+}
 
-const CLASS_2: u64 = 2;
+impl Class {
+    fn number(self) -> u64
+        ensures { result ≡ class_number self }
+    {
+        self as u64
+    }
+}
 
-const CLASS_3: u64 = 3;
-
-// The class by GEN-CLA, as the printed page has it: its cases in their order, a test each; 0 where none holds.
-pub fn class_of(axles: u64, height: u64) -> u64
-    ensures { result ≡ class axles height }
+// The class by GEN-CLA, as the printed page has it: its cases in their order, a test each.
+pub fn class_of(axles: u64, height: u64) -> Option<Class>
+    ensures { class_by result ≡ class axles height }
 {
     // up to 2 axles and at most 90 inches
     if (axles <= 2) & (height <= LOW_HEIGHT) {
-        return CLASS_1;
+        return Some(Class::One);
     }
     // 2 axles above 90
     if (axles == 2) & (LOW_HEIGHT < height) {
-        return CLASS_2;
+        return Some(Class::Two);
     }
     // 3 axles
     if axles == 3 {
-        return CLASS_2;
+        return Some(Class::Two);
     }
     // 4 axles
     if axles == 4 {
-        return CLASS_2;
+        return Some(Class::Two);
     }
     // 5 or more
     if 5 <= axles {
-        return CLASS_3;
+        return Some(Class::Three);
     }
-    0
+    None
 }
 
 // Where the six rates stand of the list after n others.
@@ -58,11 +69,12 @@ fn rates_place(n: usize) -> usize
     HEADER_LISTS + (n - 1) * LIST_WIDTH + LIST_RATES_PLACE
 }
 
-// The rate of a class 1 to 3 in a mode 1 (tag) or 2 (plate) by the list in force on a day: the six rates stand class by class.
-pub fn rate_of(header: &[i64], day: u64, class: u64, mode: u64) -> u64
-    requires { ListsStand header.now × (1 ≤ class) × (class ≤ 3) × (1 ≤ mode) × (mode ≤ 2) }
-    ensures { result ≡ rate (in_force (lists_in header.now) day).rates class mode }
+// The rate of a class in a mode 1 (tag) or 2 (plate) by the list in force on a day: the six rates stand class by class.
+pub fn rate_of(header: &[i64], day: u64, class: Class, mode: u64) -> u64
+    requires { ListsStand header.now × (1 ≤ mode) × (mode ≤ 2) }
+    ensures { result ≡ rate (in_force (lists_in header.now) day).rates (class_number class) mode }
 {
     let first = rates_place(list_on(header, day));
+    let class = class.number();
     get(header, first + (2 * (class - 1) + (mode - 1)) as usize)
 }

@@ -1,10 +1,10 @@
 -- What the tests of the shared refusals come to, and what an admission says of the answer.
-use mathlib.Core.Path.{◌≡◌, refl, ◌∙◌}
+use mathlib.Core.Path.{◌≡◌, refl, sym, ◌∙◌}
 use mathlib.Core.Bool.{Bool, true, false, not, cond, ◌&&◌}
 use mathlib.Core.List.{List, [], ◌∷◌}
 use Rattle.records.specs.Numbers.{answer_malformed, answer_unknown, answer_taken, answer_closed, answer_list_refused}
 use Rattle.lists.specs.Tests.{◌is◌, first}
-use Rattle.rules.specs.Book.{Instruction, Book}
+use Rattle.rules.specs.Book.{Account, Instruction, Book}
 use Rattle.rules.specs.Refusals.{well_formed, list_refused, unknown, taken, on_closed, shared_count, refusals, answer_number, shared_refusals}
 use Rattle.rules.specs.Tables.{Tables, later_list_at, lists_used, lists_in, book_of}
 use Rattle.lists.proofs.ListLaws.{length-tabulate}
@@ -13,8 +13,11 @@ use Prim.Native.Nat.{◌+◌}
 use lib.ListN.{length}
 use lib.IntN.{ℤ}
 use Rattle.rules.proofs.RefusalLaws.{answer_number-shared}
-use Rattle.event_refusals.specs.declared.Admission.{Admission}
-use Rattle.event_refusals.specs.Admissions.{Admits}
+use Rattle.std.specs.Prelude.{Ok, Err}
+use Rattle.records.specs.declared.refusals.Refusal.{Refusal}
+use Rattle.records.specs.Outcomes.{number_of}
+use Rattle.records.proofs.OutcomeLaws.{number_of-not_0}
+use Rattle.event_refusals.specs.Admissions.{Admits, Admitted, Names}
 
 -- a test that holds of one value only, without a branch
 pub cond-not : (t u : Bool) → not t && u ≡ cond t false u
@@ -32,6 +35,10 @@ pub lists-counted : (h : List ℤ) → length (lists_in h) ≡ lists_used h + 1
 unfolding lists_in
 lists-counted h = omega (arith, length-tabulate (later_list_at h) (lists_used h))
 
--- a number that is not 0 is the answer's
-pub admits-number : (t : Tables) (e : Instruction) (m : Admission) → Admits t e m → m.number is 0 ≡ false → m.number ≡ answer_number (book_of t) e
-admits-number t e m a z = a.number ∙ answer_number-shared (book_of t) e (rw a.number at z)
+-- a shared refusal that applies is the answer
+pub admits-refused : (t : Tables) (e : Instruction) (r : Refusal) → Admits t e (Err r) → number_of r ≡ answer_number (book_of t) e
+admits-refused t e r a = a.number ∙ answer_number-shared (book_of t) e (rw a.number at (number_of-not_0 r))
+
+-- an account that is admitted is the event's, and no shared refusal applies
+pub admits-admitted : (t : Tables) (e : Instruction) (x : Account) → Admits t e (Ok x) → Admitted t e × Names t e x
+admits-admitted t e x a = (sym a.number, a.account)

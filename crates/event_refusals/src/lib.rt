@@ -5,6 +5,7 @@ ghost use Rattle.std.specs.Prelude.{◌≡◌, true, length};
 ghost use Rattle.lists.specs.Tests.{first};
 ghost use Rattle.rules.specs.Book.{Book, account};
 ghost use Rattle.records.specs.Layout.{header_width};
+ghost use Rattle.records.specs.Outcomes.{number_by};
 ghost use Rattle.rules.specs.Refusals.{list_refused, unknown, taken, on_closed, shared_refusals};
 ghost use Rattle.rules.specs.Tables.{lists_in, sound_tables};
 ghost use Rattle.event_refusals.specs.Admissions.{Read, Admits};
@@ -17,17 +18,10 @@ use records::codes::{
 };
 use records::layout::ACCOUNT_WIDTH;
 use records::limits::MOST_LISTS;
-use records::numbers::{CLOSED, LIST, MALFORMED, TAKEN, UNKNOWN};
+use records::refusals::Refusal;
 use records::{Account, Instruction};
 use table_accounts::account_numbered;
 use table_lists::{last_day, lists_used};
-
-// What the shared refusals come to: the number, 0 where none applies, and the account that the event names, read once.
-#[derive(Clone, Copy)]
-pub struct Admission {
-    pub number: u64,
-    pub account: Account,
-}
 
 // 15: event 10 with a first day not after the last list's, or with no place for another list.
 fn list_refused(header: &[i64], e: Instruction) -> bool
@@ -69,42 +63,45 @@ fn account_closed(e: Instruction, x: Account) -> bool
         & (x.state == STATE_CLOSED)
 }
 
-// The number of the first shared refusal that applies, 0 where none does.
-fn shared_refusal(late: bool, count: u64, e: Instruction, x: Account) -> u64
-    ensures { (b : Book) → late ≡ list_refused b e → Read b e count x → result ≡ first (shared_refusals b e) }
+// The first shared refusal that applies.
+fn check_shared(late: bool, count: u64, e: Instruction, x: Account) -> Result<(), Refusal>
+    ensures { (b : Book) → late ≡ list_refused b e → Read b e count x → number_by result ≡ first (shared_refusals b e) }
 {
     let formed = well_formed(e);
     let unknown = account_unknown(count, e, x);
     let taken = account_taken(e, x);
     let closed = account_closed(e, x);
     if !formed {
-        return MALFORMED;
+        return Err(Refusal::Malformed);
     }
     if late {
-        return LIST;
+        return Err(Refusal::List);
     }
     if unknown {
-        return UNKNOWN;
+        return Err(Refusal::Unknown);
     }
     if taken {
-        return TAKEN;
+        return Err(Refusal::Taken);
     }
     if closed {
-        return CLOSED;
+        return Err(Refusal::Closed);
     }
-    0
+    Ok(())
 }
 
-// The account that the event names, and the shared refusal that applies to it.
-pub fn admit(header: &[i64], accounts: &[i64], journal: &[i64], e: Instruction) -> Admission
+// The account that the event names, read once, or the shared refusal that applies to it.
+pub fn admit(
+    header: &[i64],
+    accounts: &[i64],
+    journal: &[i64],
+    e: Instruction,
+) -> Result<Account, Refusal>
     requires { sound_tables (lent header.now accounts.now journal.now) ≡ true }
     ensures { Admits (at_entry header.now accounts.now journal.now) e result }
 {
     let late = list_refused(header, e);
     let count = accounts.len() / ACCOUNT_WIDTH;
     let x = account_numbered(accounts, count, e.account);
-    Admission {
-        number: shared_refusal(late, count as u64, e, x),
-        account: x,
-    }
+    check_shared(late, count as u64, e, x)?;
+    Ok(x)
 }

@@ -6,6 +6,7 @@ ghost use Rattle.records.specs.Layout.{day_place};
 ghost use Rattle.records.specs.Encoding.{word, StorableRow};
 ghost use Rattle.rules.specs.Rows.{new_row, with_reference};
 ghost use Rattle.rules.specs.Refusals.{answer_number};
+ghost use Rattle.records.specs.Outcomes.{number_by, answer_of};
 ghost use Rattle.rules.specs.Tables.{book_of, sound_tables};
 ghost use Rattle.event_lookups.specs.Lookups.{LooksUp};
 ghost use Rattle.posting.specs.Posts.{RowRoom, RowAdded, Posts};
@@ -15,37 +16,42 @@ ghost use Rattle.records.specs.Codes.{event_returned_check};
 ghost use Rattle.rules.specs.Lent.{lent, at_entry, at_exit};
 
 use event_lookups::Lookup;
-use posting::answers::{posted, refused};
+use posting::answers::posted;
 use posting::rows::{add_row, new_row};
 use records::codes::{KIND_FEE, KIND_PAYMENT, KIND_REVERSAL, METHOD_CHECK, METHOD_CHECK_RETURNED};
 use records::layout::{DAY_PLACE, ROW_WIDTH, USED_PLACE};
 use records::limits::RETURN_FEE;
-use records::numbers::{FULL, NO_ROW, UNTIMELY};
-use records::{Account, Answer, Instruction};
+use records::refusals::Refusal;
+use records::{Account, Instruction, Posting};
 use settlement::settle_from;
 use table_accounts::write_account;
 use table_rows::{row_numbered, write_row};
 use tables::words::get;
 
-// Why an admitted event 4 is refused, 0 where it is not.
-fn return_refusal(header: &[i64], accounts: &[i64], journal: &[i64], e: Instruction) -> u64
+// Why an admitted event 4 is refused, if it is.
+fn check_return(
+    header: &[i64],
+    accounts: &[i64],
+    journal: &[i64],
+    e: Instruction,
+) -> Result<(), Refusal>
     requires { (sound_tables (lent header.now accounts.now journal.now) ≡ true)
         × (e.kind ≡ event_returned_check)
         × Admitted (lent header.now accounts.now journal.now) e }
-    ensures { result ≡ answer_number (book_of (at_entry header.now accounts.now journal.now)) e }
+    ensures { number_by result ≡ answer_number (book_of (at_entry header.now accounts.now journal.now)) e }
 {
     let used = get(header, USED_PLACE) as usize;
     let r = row_numbered(journal, used, e.a);
     if (r.kind != KIND_PAYMENT) | (r.account != e.account) {
-        return NO_ROW;
+        return Err(Refusal::NoRow);
     }
     if r.mark != METHOD_CHECK {
-        return UNTIMELY;
+        return Err(Refusal::Untimely);
     }
     if journal.len() / ROW_WIDTH < used + 2 {
-        return FULL;
+        return Err(Refusal::Full);
     }
-    0
+    Ok(())
 }
 
 // Account n, which is x, counts a returned check more; closed, it is pending again.
@@ -87,23 +93,20 @@ pub fn return_check(
     e: Instruction,
     x: Account,
     k: Lookup,
-) -> Answer
+) -> Result<Posting, Refusal>
     requires { (sound_tables (lent header.old accounts.old journal.old) ≡ true)
         × (e.kind ≡ event_returned_check)
         × LooksUp (lent header.old accounts.old journal.old) e k
         × Admitted (lent header.old accounts.old journal.old) e
         × Names (lent header.old accounts.old journal.old) e x }
-    ensures { Posts (at_entry header.old accounts.old journal.old) (at_exit header.new accounts.new journal.new) e result }
+    ensures { Posts (at_entry header.old accounts.old journal.old) (at_exit header.new accounts.new journal.new) e (answer_of result) }
 {
-    let n = return_refusal(header, accounts, journal, e);
-    if n != 0 {
-        return refused(n);
-    }
+    check_return(header, accounts, journal, e)?;
     let used = get(header, USED_PLACE);
     count_return(accounts, e.account, x);
     let amount = mark_returned(journal, used as usize, e.a);
     add_naming(header, journal, e, KIND_REVERSAL, amount);
     add_naming(header, journal, e, KIND_FEE, e.b + RETURN_FEE);
     settle_from(journal, used as usize + 2, e.account, k.source, k.debit);
-    posted(used, 2, 0, 0)
+    Ok(posted(used, 2, 0, 0))
 }

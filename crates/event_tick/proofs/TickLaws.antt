@@ -25,8 +25,7 @@ use Rattle.posting_laws.proofs.RefusalLaws.{at-kind}
 use Rattle.posting.specs.Written.{Written}
 use Rattle.posting_laws.proofs.WrittenLaws.{written-book}
 use Rattle.tick_base.specs.Midway.{Midway}
-use Rattle.event_tick.specs.declared.Judged.{Judged}
-use Rattle.event_tick.specs.TickEvent.{tick_refusals, Judges}
+use Rattle.event_tick.specs.TickEvent.{tick_refusals}
 
 -- ---- the number
 
@@ -65,10 +64,6 @@ pub tick-by : (b : Book) (e : Instruction) → Sound b → e.kind ≡ event_tick
     → ltb b.room (length b.rows + fees_added b + refunds_added b) ≡ r → first ((answer_last_day, d) ∷ (answer_full, r) ∷ []) ≡ answer_number b e
 unfolding tick_refusals
 tick-by b e s k a d r q w = rw (answer-tick b e s k a, q, w)
-
--- refused, there is no plan to tell of
-pub judged-refused : (b : Book) (e : Instruction) (j : Judged) (n : ℕ) → 0 < n → j.number ≡ n → n ≡ answer_number b e → Judges b e j
-judged-refused b e j n l q w = record { number = q ∙ w; plan = λ z. absurd (omega arith) }
 
 -- ---- tables that hold a book of rows that fit
 

@@ -1,5 +1,7 @@
 -- Event 9: its refusals, and a tick that is not refused.
-use Rattle.std.specs.Prelude.{◌≡◌, true, ◌+◌, [], ◌∷◌, length, ltb}
+use Rattle.std.specs.Prelude.{◌≡◌, true, ◌+◌, [], ◌∷◌, length, ltb, Result, IfOk}
+use Rattle.records.specs.declared.refusals.Refusal.{Refusal}
+use Rattle.records.specs.Outcomes.{number_by}
 use Rattle.records.specs.Numbers.{answer_last_day, answer_full}
 use Rattle.records.specs.Codes.{event_tick}
 use Rattle.lists.specs.Tests.{◌is◌, Cases}
@@ -10,7 +12,6 @@ use Rattle.rules.specs.Tables.{Tables, book_of, sound_tables}
 use Rattle.tick_rules.specs.Ticks.{fees_added, refunds_added}
 use Rattle.tick_plan.specs.declared.Plan.{Plan}
 use Rattle.tick_plan.specs.Plans.{Planned}
-use Rattle.event_tick.specs.declared.Judged.{Judged}
 
 -- the refusals of event 9's own, out of the table of all, in checking order; 14 never applies
 unfoldable pub tick_refusals : Book → Instruction → Cases
@@ -19,10 +20,10 @@ tick_refusals b e =
     ∷ (answer_full, ltb b.room (length b.rows + fees_added b + refunds_added b))
     ∷ []
 
--- the number, and the plan where it is 0
-pub record Judges (b : Book) (e : Instruction) (j : Judged) : Type 0 where
-  pub number : j.number ≡ answer_number b e
-  pub plan : j.number ≡ 0 → Planned b j.plan
+-- j is the refusal of the tick e, or its plan
+pub record Judges (b : Book) (e : Instruction) (j : Result Plan Refusal) : Type 0 where
+  pub number : number_by j ≡ answer_number b e
+  pub plan : IfOk j (Planned b)
 
 -- sound tables whose book takes the tick e, and its plan
 pub record Accepts (t : Tables) (e : Instruction) (p : Plan) : Type 0 where

@@ -1,7 +1,8 @@
 // Event 9, the day tick: it refuses before it writes anything.
 #![tactic(auto)]
 
-ghost use Rattle.std.specs.Prelude.{◌≡◌, true};
+ghost use Rattle.std.specs.Prelude.{◌≡◌, true, Ok};
+ghost use Rattle.records.specs.Outcomes.{answer_of};
 ghost use Rattle.rules.specs.Tables.{book_of, sound_tables};
 ghost use Rattle.posting.specs.Posts.{Posts};
 ghost use Rattle.event_refusals.specs.Admissions.{Admitted};
@@ -9,52 +10,39 @@ ghost use Rattle.event_tick.specs.TickEvent.{Judges, Accepts};
 ghost use Rattle.records.specs.Codes.{event_tick};
 ghost use Rattle.rules.specs.Lent.{lent, at_entry, at_exit};
 
-use posting::answers::{posted, refused};
+use posting::answers::posted;
 use records::layout::{DAY_PLACE, ROW_WIDTH, USED_PLACE};
 use records::limits::FINAL_DAY;
-use records::numbers::{FULL, LAST_DAY};
-use records::{Answer, Instruction};
+use records::refusals::Refusal;
+use records::{Instruction, Posting};
 use tables::words::{get, put};
 use tick_close::close_accounts;
 use tick_holds::free_and_settle;
 use tick_plan::{Plan, plan_tick};
 use tick_raise::raise_tolls;
 
-// Why an admitted event 9 is refused, 0 where it is not, and the plan of a tick that is not.
-#[derive(Clone, Copy)]
-struct Judged {
-    number: u64,
-    plan: Plan,
-}
-
-// Refused before there is a plan.
-fn unplanned(number: u64) -> Judged
-    ensures { result.number ≡ number }
-{
-    let plan = Plan {
-        added: 0,
-        ending: false,
-        closing: false,
-    };
-    Judged { number, plan }
-}
-
-// The tests in checking order. 14 never is the reason: 8,192 sources of at most 1,300,000 each do not pass the ceiling.
-fn judge_tick(header: &[i64], accounts: &[i64], journal: &[i64], e: Instruction) -> Judged
+// The plan of an admitted event 9, or why it is refused. The tests in checking order. 14 never is the reason: 8,192 sources of at most
+// 1,300,000 each do not pass the ceiling.
+fn judge_tick(
+    header: &[i64],
+    accounts: &[i64],
+    journal: &[i64],
+    e: Instruction,
+) -> Result<Plan, Refusal>
     requires { (sound_tables (lent header.now accounts.now journal.now) ≡ true)
         × (e.kind ≡ event_tick)
         × Admitted (lent header.now accounts.now journal.now) e }
     ensures { Judges (book_of (at_entry header.now accounts.now journal.now)) e result }
 {
     if get(header, DAY_PLACE) == FINAL_DAY {
-        return unplanned(LAST_DAY);
+        return Err(Refusal::LastDay);
     }
     let used = get(header, USED_PLACE) as usize;
     let plan = plan_tick(header, accounts, journal);
     if journal.len() / ROW_WIDTH < used + plan.added {
-        return unplanned(FULL);
+        return Err(Refusal::Full);
     }
-    Judged { number: 0, plan }
+    Ok(plan)
 }
 
 // A tick as planned: holds end, settlement, the day rises, tolls rise, accounts close.
@@ -64,9 +52,9 @@ fn carry_out(
     journal: &mut [i64],
     e: Instruction,
     plan: Plan,
-) -> Answer
+) -> Posting
     requires { Accepts (lent header.old accounts.old journal.old) e plan }
-    ensures { Posts (at_entry header.old accounts.old journal.old) (at_exit header.new accounts.new journal.new) e result }
+    ensures { Posts (at_entry header.old accounts.old journal.old) (at_exit header.new accounts.new journal.new) e (answer_of (Ok result)) }
 {
     let used = get(header, USED_PLACE);
     free_and_settle(header, accounts, journal, plan.ending);
@@ -77,15 +65,17 @@ fn carry_out(
 }
 
 // Event 9, the day tick.
-pub fn tick(header: &mut [i64], accounts: &mut [i64], journal: &mut [i64], e: Instruction) -> Answer
+pub fn tick(
+    header: &mut [i64],
+    accounts: &mut [i64],
+    journal: &mut [i64],
+    e: Instruction,
+) -> Result<Posting, Refusal>
     requires { (sound_tables (lent header.old accounts.old journal.old) ≡ true)
         × (e.kind ≡ event_tick)
         × Admitted (lent header.old accounts.old journal.old) e }
-    ensures { Posts (at_entry header.old accounts.old journal.old) (at_exit header.new accounts.new journal.new) e result }
+    ensures { Posts (at_entry header.old accounts.old journal.old) (at_exit header.new accounts.new journal.new) e (answer_of result) }
 {
-    let j = judge_tick(header, accounts, journal, e);
-    if j.number != 0 {
-        return refused(j.number);
-    }
-    carry_out(header, accounts, journal, e, j.plan)
+    let plan = judge_tick(header, accounts, journal, e)?;
+    Ok(carry_out(header, accounts, journal, e, plan))
 }

@@ -3,7 +3,10 @@ use Rattle.std.specs.Prelude.{◌≡◌, true, false, ℕ, ◌+◌, ◌-◌, Lis
 use Rattle.rules.specs.Tables.{Tables}
 use Rattle.listing_rules.specs.Listing.{most_lines}
 use Rattle.listing_steps.specs.declared.Place.{Place}
-use Rattle.listing.specs.Turns.{State, start_place, Gets, Ends, Steps, handed, after_print}
+use Rattle.listing_steps.specs.Steps.{waits, over}
+use Rattle.listing.specs.declared.Ending.{Ending}
+use Rattle.listing.specs.declared.Ending.TheVariants.{Listed, Unended}
+use Rattle.listing.specs.Turns.{State, Starts, Gets, Ends, Steps, handed, after_print}
 
 -- so many turns that every line is counted
 abbrev pub most_turns : ℕ
@@ -16,15 +19,15 @@ turns_per_byte = 3
 -- n turns over this input lead to state s; `left` is still to be read, and `said` is what has been handed to be printed. A read gets at
 -- least one byte of what is left, however many; it gets none where nothing is left
 pub data Run (input : List ℕ) : ℕ → State → List ℕ → List ℕ → Type 0 where
-  begins : {s : State} → s.place ≡ start_place → Run input 0 s input []
+  begins : {s : State} → Starts s → Run input 0 s input []
   steps : {n : ℕ} {s : State} (q : State) {left said : List ℕ} → Run input n s left said
-      → s.place.over ≡ false → s.place.waits ≡ false → Steps s q
+      → over s.place ≡ false → waits s.place ≡ false → Steps s q
       → Run input (n + 1) (after_print q) left (said ++ handed q)
   reads : {n : ℕ} {s : State} (q : State) (got left : List ℕ) {said : List ℕ} → Run input n s (got ++ left) said
-      → s.place.over ≡ false → s.place.waits ≡ true → Gets s q got
+      → over s.place ≡ false → waits s.place ≡ true → Gets s q got
       → Run input (n + 1) (after_print q) left (said ++ handed q)
   ends : {n : ℕ} {s : State} (q : State) {said : List ℕ} → Run input n s [] said
-      → s.place.over ≡ false → s.place.waits ≡ true → Ends s q
+      → over s.place ≡ false → waits s.place ≡ true → Ends s q
       → Run input (n + 1) (after_print q) [] (said ++ handed q)
 
 -- n turns have led to s, whatever input is still to come
@@ -33,24 +36,12 @@ pub record Going (s : State) (n : ℕ) : Type 0 where
   pub said : List ℕ
   pub run : (more : List ℕ) → Run (got ++ more) n s more said
 
--- why the program ends: the listing is over
-abbrev pub run_listed : ℕ
-run_listed = 0
-
--- or a print failed
-abbrev pub run_unprinted : ℕ
-run_unprinted = 1
-
--- or its turns are used up
-abbrev pub run_unended : ℕ
-run_unended = 2
-
--- the program has ended for reason r, with these tables and buffers, after a run over the bytes that it got
-pub record Ran (t : Tables) (input out : List ℕ) (r : ℕ) : Type 0 where
+-- the program has ended for reason r, with these tables, these bytes left to take and to print, after a run over the bytes that it got
+pub record Ran (t : Tables) (input out : List ℕ) (r : Ending) : Type 0 where
   pub place : Place
   pub turns : ℕ
   pub got : List ℕ
   pub said : List ℕ
   pub run : Run got turns (record { tables = t; input = input; out = out; place = place }) [] said
-  pub listed : r ≡ run_listed → place.over ≡ true
-  pub unended : r ≡ run_unended → (turns ≡ most_turns) × (place.over ≡ false)
+  pub listed : r ≡ Listed → over place ≡ true
+  pub unended : r ≡ Unended → (turns ≡ most_turns) × (over place ≡ false)

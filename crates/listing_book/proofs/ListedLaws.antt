@@ -1,18 +1,18 @@
 -- What is listed of a sound book: lines one after the other, dates that fit.
 use mathlib.Core.Path.{◌≡◌, refl}
 use mathlib.Core.Bool.{true}
-use mathlib.Core.List.{List, [], ◌++◌}
+use mathlib.Core.List.{List, [], ◌++◌, append-nil}
 use Prim.Native.Nat.{ℕ, ◌+◌, ◌≤◌, ◌<◌}
 use native.Mathlib.Omega.{arith}
 use borrow.Author.Tests.{leb-true, eq-eqb, ne_eqb}
 use lib.IntN.{ℤ}
-use lib.ListN.{length, get_or}
+use lib.ListN.{get_or}
 use lib.Dec.{leb}
 use Rattle.lists.specs.Lists.{gather_from, gather, tabulate}
 use Rattle.lists.proofs.TestLaws.{and_left}
 use Rattle.lists.proofs.GatherLaws.{gather-tabulate}
 use Rattle.records.specs.Encoding.{row_at, rows_of, accounts_of}
-use Rattle.decimal.specs.Decimal.{text_of, text_of_date, two_digits, date_text, digits_of}
+use Rattle.decimal.specs.Decimal.{text_of, digits_of}
 use Rattle.records.specs.Limits.{final_day}
 use Rattle.rules.specs.Rows.{Row, blank}
 use Rattle.rules.specs.Book.{Account, state_unused, Book, sources, debits, minus, balance}
@@ -23,29 +23,23 @@ use Rattle.rules.proofs.StorableLaws.{between_le, day-le}
 use Rattle.rules.proofs.TableLaws.{sound-book, sound-rows, length-sound-rows}
 use Rattle.posting.proofs.BookLaws.{used-room, book-row}
 use Rattle.listing_rules.specs.Texts.{bytes_of, field, line, row_text, account_text, book_text}
-use Rattle.listing_text.specs.Puts.{Puts}
-use Rattle.listing_text.proofs.PutsLaws.{puts-puts, puts-nothing}
+use Rattle.decimal.proofs.WritingLaws.{appended}
 use Rattle.listing_book.specs.Listed.{Dated}
 
 -- ---- lines one after the other
 
 module _ {A : Type 0} (f : ℕ → A → List ℕ) (g : ℕ → A) where
   -- of none
-  pub listed-none : (b : List ℕ) (at : ℕ) → at ≤ length b → Puts b b at at (gather f (tabulate g 0))
+  pub listed-none : (b : List ℕ) → b ≡ b ++ gather f (tabulate g 0)
   unfolding gather_from tabulate
-  listed-none b at h = puts-nothing b at h
+  listed-none b = rw (append-nil b) refl
 
   -- one more
-  pub listed_more : (b c d : List ℕ) (at to end i : ℕ) (x : A) → x ≡ g i → Puts b c at to (gather f (tabulate g i)) → Puts c d to end (f (i + 1) x)
-      → Puts b d at end (gather f (tabulate g (i + 1)))
-  listed_more b c d at to end i x e p q = rw (gather-tabulate f g i) (puts-puts b c d at to end _ _ p (rw e at q))
+  pub listed_more : (b c d : List ℕ) (i : ℕ) (x : A) → x ≡ g i → c ≡ b ++ gather f (tabulate g i) → d ≡ c ++ f (i + 1) x
+      → d ≡ b ++ gather f (tabulate g (i + 1))
+  listed_more b c d i x e p q = rw (gather-tabulate f g i) (appended b c d _ _ p (rw e at q))
 
 -- ---- dates
-
--- yyyy-mm-dd
-pub length-date : (day : ℕ) → length (date_text day) ≡ 10
-unfolding date_text text_of_date two_digits
-length-date day = refl
 
 -- a row that was read has a date
 pub row-dated : (t : List ℤ) (used i : ℕ) (r : Row) → Dated t used → i < used → r ≡ row_at t i → (1 ≤ r.day) × (r.day ≤ final_day)
@@ -95,13 +89,13 @@ accounts-read t = refl
 
 module _ (t : Tables) (s : sound_tables t ≡ true) (used : ℕ) (u : used ≡ rows_used t) where
   -- names, rows, names, accounts
-  pub book-listed : (b c d e f : List ℕ) (at p q r end : ℕ) → Puts b c at p (line (bytes_of "row,account,kind,date,amount,settled"))
-      → Puts c d p q (gather row_text (rows_of t.journal used)) → Puts d e q r (line (bytes_of "account,state,balance"))
-      → ((x : Book) → x.rows ≡ rows_of t.journal used → Puts e f r end (gather (account_text x) (accounts_of t.accounts (accounts_in t))))
-      → Puts b f at end (book_text (book_of t))
+  pub book-listed : (b c d e f : List ℕ) → c ≡ b ++ line (bytes_of "row,account,kind,date,amount,settled")
+      → d ≡ c ++ gather row_text (rows_of t.journal used) → e ≡ d ++ line (bytes_of "account,state,balance")
+      → ((x : Book) → x.rows ≡ rows_of t.journal used → f ≡ e ++ gather (account_text x) (accounts_of t.accounts (accounts_in t)))
+      → f ≡ b ++ book_text (book_of t)
   unfolding book_text
-  book-listed b c d e f at p q r end names rows names2 accounts =
+  book-listed b c d e f names rows names2 accounts =
       let same : (book_of t).rows ≡ rows_of t.journal used = rw u (sound-rows t s) in
-      let two = puts-puts _ _ _ _ _ _ _ _ names (rw (← same) at rows) in
-      let three = puts-puts _ _ _ _ _ _ _ _ two names2 in
-      puts-puts _ _ _ _ _ _ _ _ three (rw (← accounts-read t) at (accounts (book_of t) same))
+      let two = appended _ _ _ _ _ names (rw (← same) at rows) in
+      let three = appended _ _ _ _ _ two names2 in
+      appended _ _ _ _ _ three (rw (← accounts-read t) at (accounts (book_of t) same))

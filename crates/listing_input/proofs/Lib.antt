@@ -1,3 +1,2 @@
--- The laws that the proofs of this crate and its users cite.
-pub mod BufferLaws
+-- The laws that the proofs of the users of this crate cite.
 pub mod TakenLaws

@@ -1,12 +1,11 @@
 -- Lines 1, 2, 3 and the event lines, each taken as the listing's definition says.
 use mathlib.Core.Path.{◌≡◌, refl, sym, ap, ◌∙◌}
-use mathlib.Core.Bool.{true, false, true≢false}
+use mathlib.Core.Bool.{Bool, true, false, not, cond, ◌&&◌, true≢false}
 use Prim.Native.Nat.{ℕ, zero, suc, ◌+◌, ◌-◌, ◌*◌, ◌≤◌}
 use native.Mathlib.Omega.{arith}
-use mathlib.Core.List.{List, []}
+use mathlib.Core.List.{List, [], ◌∷◌, ◌++◌, append-nil}
 use lib.IntN.{ℤ, pos}
-use lib.ListN.{length, take, length-replicate}
-use lib.Seq.{take_all, take-length}
+use lib.ListN.{length, length-replicate}
 use borrow.Author.Tests.{eq-eqb, ne_eqb}
 use Rattle.records.specs.Layout.{header_width, account_width, row_width, opening_width, event_width}
 use Rattle.records.specs.Encoding.{instruction_from}
@@ -22,32 +21,103 @@ use Rattle.rules.proofs.OpeningLaws.{open_call-sound, book_of-open_call}
 use Rattle.preservation.proofs.SoundKept.{post-keeps-sound}
 use Rattle.preservation.proofs.CallsKept.{book_of-sound}
 use Rattle.posting.specs.Posts.{Posts}
-use Rattle.listing_rules.specs.Texts.{bytes_of, same, opening_names, event_names, line, answer_text}
+use Rattle.listing_rules.specs.Texts.{bad_line, same, opening_names, event_names, answer_text}
 use Rattle.listing_rules.specs.Listing.{listed_accounts, listed_rows, listing_tables, opens, is_good, posted, book_by, good_text}
-use Rattle.listing_rules.specs.Sizes.{most_answer_bytes}
-use Rattle.listing_text.specs.Puts.{Puts}
-use Rattle.listing_lines.specs.declared.Line.{Line}
-use Rattle.listing_lines.specs.Lines.{Sized, Ready, line_text, Bad, Taken}
+use Rattle.listing_rules.specs.Sizes.{most_answer_bytes, most_bad_line_bytes}
+use Rattle.listing_lines.specs.Lines.{Sized, Ready, Verdict, answer_names, line_text, Judged, Carried, Taken}
+use Rattle.std.specs.Prelude.{◌≢◌, Result, Ok, Err, is_ok, is_err, IsErr}
+use Rattle.records.specs.declared.refusals.Refusal.{Refusal}
+use Rattle.records.specs.Outcomes.{number_by}
+use Rattle.records.proofs.OutcomeLaws.{number_of-not_0}
+use Rattle.std.specs.Cmp.Lexicographic.{pointwise}
+use lib.Dec.{eqb}
 
 -- ---- bad and good lines
 
-module _ (n : ℕ) (t u : Tables) (l : List ℕ) (b c : List ℕ) (at : ℕ) (r : Line) where
-  -- a bad line is printed as such
-  pub taken-bad : is_good n l ≡ false → Bad n b c at r → Taken n t u l b c at r
-  unfolding line_text
-  taken-bad e w = record {
-    good = w.good ∙ sym e;
-    text = rw e w.text;
-    short = omega (arith, w.short);
+module _ (n : ℕ) (t u : Tables) (l : List ℕ) (r : Verdict) where
+  -- a bad line
+  pub judged-bad : is_good n l ≡ false → is_ok r ≡ false → Judged n t u l r
+  judged-bad e g = record {
+    good = g ∙ sym e;
     book = λ q. absurd (true≢false (sym q ∙ e));
     ready = λ q. absurd (true≢false (sym q ∙ e));
   }
 
-  -- a good line with its text, and the book after it
-  pub taken-good : is_good n l ≡ true → r.good ≡ true → Puts b c at r.at (good_text n (book_of t) l) → r.at ≤ at + most_answer_bytes
-      → book_of u ≡ book_by n (book_of t) l → Ready (n + 1) u → Taken n t u l b c at r
+  -- a good line, and the book after it
+  pub judged-good : is_good n l ≡ true → is_ok r ≡ true → book_of u ≡ book_by n (book_of t) l → Ready (n + 1) u → Judged n t u l r
+  judged-good e g k w = record { good = g ∙ sym e; book = λ q. k; ready = λ q. w }
+
+  -- nothing is printed for it
+  pub carried-bad : (b : List ℕ) → is_good n l ≡ false → is_ok r ≡ false → Carried n t u l b b r
+  carried-bad b e g = record { judged = judged-bad e g; text = rw (e, append-nil b) refl; short = omega arith }
+
+  pub carried-good : (b c : List ℕ) → is_good n l ≡ true → Judged n t u l r → c ≡ b ++ good_text n (book_of t) l
+      → length c ≤ length b + most_answer_bytes → Carried n t u l b c r
+  carried-good b c e j p s = record { judged = j; text = rw e p; short = s }
+
+  -- nothing is printed for it either way
+  pub carried-silent : (b : List ℕ) → Judged n t u l r → [] ≡ good_text n (book_of t) l → Carried n t u l b b r
+  carried-silent b j e = record { judged = j; text = go (is_good n l); short = omega arith }
+    where
+      go : (g : Bool) → b ≡ b ++ cond g (good_text n (book_of t) l) []
+      go true = rw (← e, append-nil b) refl
+      go false = rw (append-nil b) refl
+
+  -- a bad line is printed as such
+  pub taken-bad : (b c d : List ℕ) → is_ok r ≡ false → Carried n t u l b c r → d ≡ c ++ bad_line (n + 1)
+      → length d ≤ length c + most_bad_line_bytes → Taken n t u l b d r
   unfolding line_text
-  taken-good e g p s k w = record { good = g ∙ sym e; text = rw e p; short = s; book = λ q. k; ready = λ q. w }
+  taken-bad b c d g w p s =
+      let e : is_good n l ≡ false = sym w.judged.good ∙ g in
+      let same : c ≡ b = rw (e, append-nil b) at w.text in
+      record {
+        good = w.judged.good;
+        text = rw e (rw same at p);
+        short = omega (arith, s, ap length same);
+        book = w.judged.book;
+        ready = w.judged.ready;
+      }
+
+  pub taken-good : (b c : List ℕ) → is_ok r ≡ true → Carried n t u l b c r → Taken n t u l b c r
+  unfolding line_text
+  taken-good b c g w =
+      let e : is_good n l ≡ true = sym w.judged.good ∙ g in
+      record {
+        good = w.judged.good;
+        text = rw e (rw e at w.text);
+        short = w.short;
+        book = w.judged.book;
+        ready = w.judged.ready;
+      }
+
+-- ---- names
+
+-- the test of two slices is that of the listing's definition
+pub pointwise-same : (xs ys : List ℕ) → pointwise eqb xs ys ≡ same xs ys
+unfolding same
+pointwise-same [] [] = refl
+pointwise-same [] (y ∷ ys) = refl
+pointwise-same (x ∷ xs) [] = refl
+pointwise-same (x ∷ xs) (y ∷ ys) = ap (λ (b : Bool). eqb x y && b) (pointwise-same xs ys)
+
+pub names-other : (xs ys : List ℕ) → true ≡ not (pointwise eqb xs ys) → false ≡ same xs ys
+names-other xs ys e = go (pointwise eqb xs ys) e ∙ pointwise-same xs ys
+  where
+    go : (b : Bool) → true ≡ not b → false ≡ b
+    go true q = sym q
+    go false q = refl
+
+pub names-same : (xs ys : List ℕ) → false ≡ not (pointwise eqb xs ys) → true ≡ same xs ys
+names-same xs ys e = go (pointwise eqb xs ys) e ∙ pointwise-same xs ys
+  where
+    go : (b : Bool) → false ≡ not b → true ≡ b
+    go true q = refl
+    go false q = sym q
+
+-- an error is not ok
+pub bad-verdict : (r : Verdict) → IsErr r → is_ok r ≡ false
+bad-verdict (Ok x) e = sym e
+bad-verdict (Err x) e = refl
 
 -- ---- lines 1 and 3: names
 
@@ -60,34 +130,34 @@ unfolding is_good
 third-good l = refl
 
 -- nothing is printed for line 1, the answers' names for line 3; the book stays
-module _ (t : Tables) (l : List ℕ) where
-  pub first-text : [] ≡ good_text 0 (book_of t) l
+module _ (t : Tables) (l b : List ℕ) (r : Verdict) where
+  pub carried-first : is_ok r ≡ is_good 0 l → Ready 0 t → Carried 0 t t l b b r
+  unfolding good_text book_by
+  carried-first g h = carried-silent 0 t t l r b (record {
+    good = g;
+    book = λ q. refl;
+    ready = λ q. record { sized = h.sized; sound = λ k. absurd (omega arith) };
+  }) refl
+
+  pub carried-third : (c : List ℕ) → is_ok r ≡ is_good 2 l → c ≡ b ++ cond (is_good 2 l) answer_names [] → length c ≤ length b + most_answer_bytes
+      → Ready 2 t → Carried 2 t t l b c r
+  unfolding good_text book_by
+  carried-third c g p s h = record {
+    judged = record {
+      good = g;
+      book = λ q. refl;
+      ready = λ q. record { sized = h.sized; sound = λ k. h.sound (omega arith) };
+    };
+    text = p;
+    short = s;
+  }
+
+  -- nor for line 2
+  pub carried-second : (u : Tables) → Judged 1 t u l r → Carried 1 t u l b b r
   unfolding good_text
-  first-text = refl
-
-  pub third-text : line (bytes_of "event,answer,row,rows,raised,removed") ≡ good_text 2 (book_of t) l
-  unfolding good_text
-  third-text = refl
-
-  pub first-book : book_of t ≡ book_by 0 (book_of t) l
-  unfolding book_by
-  first-book = refl
-
-  pub third-book : book_of t ≡ book_by 2 (book_of t) l
-  unfolding book_by
-  third-book = refl
-
-  pub first-ready : Ready 0 t → Ready 1 t
-  first-ready h = record { sized = h.sized; sound = λ q. absurd (omega arith) }
-
-  pub third-ready : Ready 2 t → Ready 3 t
-  third-ready h = record { sized = h.sized; sound = λ q. h.sound (omega arith) }
+  carried-second u j = carried-silent 1 t u l r b j refl
 
 -- ---- line 2: the opening
-
--- all numbers of a line are read
-pub numbers-read : (l : List ℕ) (values : List ℤ) (n : ℕ) → take n values ≡ numbers_of (take (length l) l) → length values ≡ n → values ≡ numbers_of l
-numbers-read l values n e h = sym (take_all n values (omega arith)) ∙ e ∙ ap numbers_of (take-length l)
 
 -- the listing's tables have its sizes
 listing-sized : Sized listing_tables
@@ -138,10 +208,6 @@ module _ (t u : Tables) (l : List ℕ) (w : List ℤ) (n : ℕ) (s : Sized t) (r
     pub second-sound : sound_tables u ≡ true
     second-sound = rw o.tables (open_call-sound t w zero_number)
 
-pub second-text : (t : Tables) (l : List ℕ) → [] ≡ good_text 1 (book_of t) l
-unfolding good_text
-second-text t l = refl
-
 -- ---- event lines
 
 module _ (l : List ℕ) where
@@ -181,3 +247,13 @@ module _ (n : ℕ) (t u : Tables) (l : List ℕ) (w : List ℤ) (e : Instruction
 
   pub posted-sound : sound_tables u ≡ true
   posted-sound = rw p.tables book-kept
+
+-- ---- the number of an opening
+
+pub refused-number : {A : Type 0} (r : Result A Refusal) → is_err r ≡ true → number_by r ≢ 0
+refused-number (Ok x) h = absurd (true≢false (sym h))
+refused-number (Err f) h = λ z. absurd (true≢false (sym (eq-eqb _ _ z) ∙ number_of-not_0 f))
+
+pub opened-number : {A : Type 0} (r : Result A Refusal) → is_err r ≡ false → number_by r ≡ 0
+opened-number (Ok x) h = refl
+opened-number (Err f) h = absurd (true≢false h)

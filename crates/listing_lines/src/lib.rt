@@ -1,55 +1,39 @@
-// One line of the listing's input, taken: judged, carried out on the book's tables, and its answer written to a lent buffer.
+// One line of the listing's input, taken: judged, carried out on the book's tables, and its answer written to a text.
 #![tactic(auto)]
 
-ghost use Rattle.std.specs.Prelude.{◌+◌, ◌≤◌, ◌<◌, length};
-ghost use Rattle.listing_rules.specs.Listing.{most_lines};
+ghost use Rattle.std.specs.Prelude.{◌≡◌, [], cond, ◌++◌, ◌+◌, ◌≤◌, ◌<◌, length, is_ok};
+ghost use Rattle.decimal.specs.Bytes.{text_bytes};
+ghost use Rattle.listing_rules.specs.Listing.{most_lines, is_good};
 ghost use Rattle.listing_rules.specs.Sizes.{most_answer_bytes};
-ghost use Rattle.listing_lines.specs.Lines.{Ready, Bad, Taken};
+ghost use Rattle.listing_lines.specs.Lines.{answer_names, Ready, Judged, Carried, Taken};
 ghost use Rattle.rules.specs.Lent.{lent, at_entry, at_exit};
 
 use call_opening::open_book;
 use call_words::read_event;
-use decimal::read_fields;
+use decimal::{Text, read_numbers};
 use events::post_event;
-use listing_text::{same_bytes, write_answer, write_bad_line, write_text};
+use listing_text::{write_answer, write_bad_line};
+use records::Answer;
 use records::layout::{EVENT_WIDTH, OPENING_WIDTH};
 
-// Whether a line is good, and where what is printed for it ends.
-#[derive(Clone, Copy)]
-pub struct Line {
-    pub good: bool,
-    pub at: usize,
-}
+// A line is not what a line of its number has to be.
+#[derive(Clone, Copy, PartialEq, Eq)]
+pub struct BadLine;
 
-// A bad line, n lines before it.
-fn bad_line(out: &mut [u8], at: usize, n: u64) -> Line
-    requires { (at + 30 ≤ length out.old) × (n < most_lines) }
-    ensures { Bad n out.old out.new at result }
-{
-    let end = write_bad_line(out, at, n + 1);
-    Line {
-        good: false,
-        at: end,
-    }
-}
+// "a line of names".
+const OPENING_NAMES: &[u8] = b"day,len,f2,f3,f4,r1t,r1p,r2t,r2p,r3t,r3p";
+
+// "a line of event names".
+const EVENT_NAMES: &[u8] = b"kind,account,a,b,c,d,e,f,g";
 
 // Line 1: the names of the opening's values.
-fn first_line(
-    header: &[i64],
-    accounts: &[i64],
-    journal: &[i64],
-    line: &[u8],
-    out: &mut [u8],
-    at: usize,
-) -> Line
-    requires { (at + most_answer_bytes ≤ length out.old) × Ready 0 (lent header.now accounts.now journal.now) }
-    ensures { Taken 0 (at_entry header.now accounts.now journal.now) (at_entry header.now accounts.now journal.now) line.now
-        out.old out.new at result }
+fn first_line(line: &[u8]) -> Result<(), BadLine>
+    ensures { is_ok result ≡ is_good 0 line.now }
 {
-    if !same_bytes(line, b"day,len,f2,f3,f4,r1t,r1p,r2t,r2p,r3t,r3p") {
-        return bad_line(out, at, 0);
+    if line != OPENING_NAMES {
+        return Err(BadLine);
     }
-    Line { good: true, at }
+    Ok(())
 }
 
 // Line 2: the opening's values.
@@ -58,44 +42,32 @@ fn second_line(
     accounts: &mut [i64],
     journal: &mut [i64],
     line: &[u8],
-    out: &mut [u8],
-    at: usize,
-) -> Line
-    requires { (at + most_answer_bytes ≤ length out.old) × Ready 1 (lent header.old accounts.old journal.old) }
-    ensures { Taken 1 (at_entry header.old accounts.old journal.old) (at_exit header.new accounts.new journal.new) line.now
-        out.old out.new at result }
+) -> Result<(), BadLine>
+    requires { Ready 1 (lent header.old accounts.old journal.old) }
+    ensures { Judged 1
+        (at_entry header.old accounts.old journal.old)
+        (at_exit header.new accounts.new journal.new)
+        line.now result }
 {
-    let mut values = [0i64; OPENING_WIDTH];
-    if !read_fields(line, line.len(), &mut values, OPENING_WIDTH) {
-        return bad_line(out, at, 1);
+    let values = read_numbers::<OPENING_WIDTH>(line).ok_or(BadLine)?;
+    if open_book(header, accounts, journal, &values).is_err() {
+        return Err(BadLine);
     }
-    if open_book(header, accounts, journal, &values) != 0 {
-        return bad_line(out, at, 1);
-    }
-    Line { good: true, at }
+    Ok(())
 }
 
 // Line 3: the names of an event's words. The answers' names are printed for it.
-fn third_line(
-    header: &[i64],
-    accounts: &[i64],
-    journal: &[i64],
-    line: &[u8],
-    out: &mut [u8],
-    at: usize,
-) -> Line
-    requires { (at + most_answer_bytes ≤ length out.old) × Ready 2 (lent header.now accounts.now journal.now) }
-    ensures { Taken 2 (at_entry header.now accounts.now journal.now) (at_entry header.now accounts.now journal.now) line.now
-        out.old out.new at result }
+fn third_line(line: &[u8], out: &mut Text) -> Result<(), BadLine>
+    requires { length out.old + most_answer_bytes ≤ text_bytes }
+    ensures good { is_ok result ≡ is_good 2 line.now }
+    ensures text { out.new ≡ out.old ++ cond (is_good 2 line.now) answer_names [] }
+    ensures short { length out.new ≤ length out.old + most_answer_bytes }
 {
-    if !same_bytes(line, b"kind,account,a,b,c,d,e,f,g") {
-        return bad_line(out, at, 2);
+    if line != EVENT_NAMES {
+        return Err(BadLine);
     }
-    let end = write_text(out, at, b"event,answer,row,rows,raised,removed\n");
-    Line {
-        good: true,
-        at: end,
-    }
+    out.extend_from_slice(b"event,answer,row,rows,raised,removed\n");
+    Ok(())
 }
 
 // An event line, n lines before it: posted, its answer printed.
@@ -105,24 +77,42 @@ fn event_line(
     journal: &mut [i64],
     line: &[u8],
     n: u64,
-    out: &mut [u8],
-    at: usize,
-) -> Line
-    requires { (at + most_answer_bytes ≤ length out.old) × (3 ≤ n) × (n < most_lines)
+    out: &mut Text,
+) -> Result<(), BadLine>
+    requires { (length out.old + most_answer_bytes ≤ text_bytes) × (3 ≤ n) × (n < most_lines)
         × Ready n (lent header.old accounts.old journal.old) }
-    ensures { Taken n (at_entry header.old accounts.old journal.old) (at_exit header.new accounts.new journal.new) line.now
-        out.old out.new at result }
+    ensures { Carried n
+        (at_entry header.old accounts.old journal.old)
+        (at_exit header.new accounts.new journal.new)
+        line.now out.old out.new result }
 {
-    let mut values = [0i64; EVENT_WIDTH];
-    if !read_fields(line, line.len(), &mut values, EVENT_WIDTH) {
-        return bad_line(out, at, n);
-    }
-    let e = read_event(&values);
-    let answer = post_event(header, accounts, journal, e);
-    let end = write_answer(out, at, n - 2, answer);
-    Line {
-        good: true,
-        at: end,
+    let values = read_numbers::<EVENT_WIDTH>(line).ok_or(BadLine)?;
+    let outcome = post_event(header, accounts, journal, read_event(&values));
+    write_answer(out, n - 2, Answer::from(outcome));
+    Ok(())
+}
+
+// Any line, n lines before it. Nothing is printed for a bad one.
+fn carry_out(
+    header: &mut [i64],
+    accounts: &mut [i64],
+    journal: &mut [i64],
+    line: &[u8],
+    n: u64,
+    out: &mut Text,
+) -> Result<(), BadLine>
+    requires { (length out.old + most_answer_bytes ≤ text_bytes) × (n < most_lines)
+        × Ready n (lent header.old accounts.old journal.old) }
+    ensures { Carried n
+        (at_entry header.old accounts.old journal.old)
+        (at_exit header.new accounts.new journal.new)
+        line.now out.old out.new result }
+{
+    match n {
+        0 => first_line(line),
+        1 => second_line(header, accounts, journal, line),
+        2 => third_line(line, out),
+        _ => event_line(header, accounts, journal, line, n, out),
     }
 }
 
@@ -133,18 +123,18 @@ pub fn take_line(
     journal: &mut [i64],
     line: &[u8],
     n: u64,
-    out: &mut [u8],
-    at: usize,
-) -> Line
-    requires { (at + most_answer_bytes ≤ length out.old) × (n < most_lines)
+    out: &mut Text,
+) -> Result<(), BadLine>
+    requires { (length out.old + most_answer_bytes ≤ text_bytes) × (n < most_lines)
         × Ready n (lent header.old accounts.old journal.old) }
-    ensures { Taken n (at_entry header.old accounts.old journal.old) (at_exit header.new accounts.new journal.new) line.now
-        out.old out.new at result }
+    ensures { Taken n
+        (at_entry header.old accounts.old journal.old)
+        (at_exit header.new accounts.new journal.new)
+        line.now out.old out.new result }
 {
-    match n {
-        0 => first_line(header, accounts, journal, line, out, at),
-        1 => second_line(header, accounts, journal, line, out, at),
-        2 => third_line(header, accounts, journal, line, out, at),
-        _ => event_line(header, accounts, journal, line, n, out, at),
+    let taken = carry_out(header, accounts, journal, line, n, out);
+    if taken.is_err() {
+        write_bad_line(out, n + 1);
     }
+    taken
 }

@@ -12,9 +12,9 @@ use Rattle.records.specs.Layout.{opening_width, event_width}
 use Rattle.lists.specs.Tests.{◌is◌}
 use Rattle.lists.specs.Lists.{sum_by}
 use Rattle.lists.proofs.TestLaws.{and_left, and_right}
-use Rattle.decimal.specs.declared.Number.{Number}
-use Rattle.decimal.specs.Decimal.{plain, minus, number_of, in_first, fields_of, all_numbers, is_numbers}
-use Rattle.decimal.proofs.ReadingLaws.{magnitude-long, minus-past, plain-past}
+use Rattle.std.specs.Prelude.{Option, is_some, option_and_then}
+use Rattle.decimal.specs.Decimal.{held_plain, held_minus, plain, minus, number_of, in_first, fields_of, all_numbers, is_numbers}
+use Rattle.decimal.proofs.ReadingLaws.{magnitude-long}
 use Rattle.listing_rules.specs.Texts.{bytes_of, same}
 use Rattle.listing_rules.specs.Listing.{opens, is_good}
 use Rattle.listing_rules.specs.Sizes.{most_line_bytes}
@@ -45,24 +45,24 @@ fields-width (b ∷ bs) = go (eqb b 44) (fields_of bs) (fields-width bs)
     go false (f ∷ fs) e = omega arith
 
 -- more than 20 bytes state no number
-long-number : (f : List ℕ) → 20 < length f → (number_of f).ok ≡ false
-unfolding number_of
+long-number : (f : List ℕ) → 20 < length f → is_some (number_of f) ≡ false
+unfolding number_of plain minus
 long-number [] h = absurd (omega arith)
 long-number (b ∷ bs) h = go (eqb b 45)
   where
-    go : (t : Bool) → (cond t (minus bs) (plain (b ∷ bs))).ok ≡ false
-    go true = ap (λ (x : Number). x.ok) (sym (minus-past bs (omega (arith, magnitude-long bs (omega arith)))))
-    go false = ap (λ (x : Number). x.ok) (sym (plain-past (b ∷ bs) (omega (arith, magnitude-long (b ∷ bs) (omega arith)))))
+    go : (t : Bool) → is_some (cond t (minus bs) (plain (b ∷ bs))) ≡ false
+    go true = ap (λ (o : Option ℕ). is_some (option_and_then held_minus o)) (magnitude-long bs (omega arith))
+    go false = ap (λ (o : Option ℕ). is_some (option_and_then held_plain o)) (magnitude-long (b ∷ bs) (omega arith))
 
 -- a number has at most 20 bytes
-number-width : (f : List ℕ) → (number_of f).ok ≡ true → length f ≤ 20
+number-width : (f : List ℕ) → is_some (number_of f) ≡ true → length f ≤ 20
 number-width f e = le_of_suc-le-suc (lt_of_not-le (λ h. true≢false (sym e ∙ long-number f h)))
 
 numbers-width : (fs : List (List ℕ)) → all_numbers fs ≡ true → sum_by width fs ≤ 21 * length fs
 unfolding all_numbers sum_by
 numbers-width [] e = omega arith
 numbers-width (f ∷ fs) e =
-    omega (arith, number-width f (and_left (number_of f).ok (all_numbers fs) e), numbers-width fs (and_right (number_of f).ok (all_numbers fs) e))
+    omega (arith, number-width f (and_left (is_some (number_of f)) (all_numbers fs) e), numbers-width fs (and_right (is_some (number_of f)) (all_numbers fs) e))
 
 -- so many numbers, and the commas between them
 line-width : (n : ℕ) (l : List ℕ) → is_numbers n l ≡ true → length l + 1 ≤ 21 * n

@@ -18,6 +18,10 @@ answer_fields = 6
 abbrev pub most_answer_bytes : ℕ
 most_answer_bytes = answer_fields * most_field_bytes
 
+-- a date and the comma after it
+abbrev pub most_day_bytes : ℕ
+most_day_bytes = 11
+
 -- "row,account,kind,date,amount,settled": five numbers and a date
 abbrev pub most_row_bytes : ℕ
 most_row_bytes = 116
@@ -37,3 +41,7 @@ most_book_bytes = book_names_bytes + listed_rows * most_row_bytes + listed_accou
 -- a last line's answer and the book
 abbrev pub most_end_bytes : ℕ
 most_end_bytes = most_answer_bytes + most_book_bytes
+
+-- "bad line N"
+abbrev pub most_bad_line_bytes : ℕ
+most_bad_line_bytes = 30

@@ -1,16 +1,16 @@
 -- Words read as they are, what tests tell of them, and rows of which each word is small.
-use Prim.Native.Nat.{ℕ, zero, suc, ◌-◌, ◌^◌, ◌<◌}
+use Prim.Native.Nat.{ℕ, zero, suc, ◌^◌, ◌<◌}
 use native.Mathlib.Omega.{arith}
 use mathlib.Core.Path.{◌≡◌, refl, sym, ap, ◌∙◌}
 use mathlib.Core.Bool.{Bool, true, false}
 use mathlib.Core.List.{List, [], ◌∷◌, map}
 use lib.ListN.{length, get_or}
-use lib.IntN.{ℤ, pos, negsuc, ◌-ℤ◌}
+use lib.IntN.{ℤ, pos, negsuc}
 use lib.Signed.{lt_z}
 use mir.Syntax.{w64}
-use mir.Val.{SFits}
+use mir.Val.{SFits, of_z}
 use lib.Dec.{eqb, leb}
-use borrow.Author.Tests.{ltb-true, le-ltb, eqb-true, leb-true, leb-false}
+use borrow.Author.Tests.{le-ltb, eqb-true, leb-true, leb-false}
 use Rattle.lists.specs.Tests.{◌is◌}
 use Rattle.records.specs.Encoding.{nat_of, StorableRow}
 use Rattle.rules.specs.Rows.{Row}
@@ -18,35 +18,19 @@ use Rattle.plain_rows.specs.Alike.{Alike, AlikeRow, AlikeWords}
 
 -- ---- one word
 
--- how far below -1 a negative word is
-unfoldable pub below : ℤ → ℕ
-below (pos n) = 0
-below (negsuc n) = n
-
-pub below-is : (z : ℤ) → lt_z z (pos 0) ≡ true → negsuc 0 -ℤ z ≡ pos (below z)
-unfolding below
-below-is (pos n) h = absurd (omega (arith, ltb-true n 0 h))
-below-is (negsuc n) h =
-    let e : suc n - 1 ≡ n = omega arith in
-    rw (le-ltb (suc n) 1 (omega arith), e)
-
-pub below-fits : (z : ℤ) → SFits w64 z → SFits w64 (pos (below z))
-unfolding below
-below-fits (pos n) f = record { sfits = omega arith }
-below-fits (negsuc n) f = record { sfits = f.sfits }
-
--- a negative word
-pub alike-negative : (z : ℤ) → SFits w64 z → lt_z z (pos 0) ≡ true → Alike (18446744073709551615 - below z) (nat_of z)
-unfolding nat_of
-alike-negative (pos n) f h = absurd (omega (arith, ltb-true n 0 h))
-alike-negative (negsuc n) f h =
-    let b = (below-fits (negsuc n) f).sfits in
-    record { first = λ q. absurd (omega arith); second = λ q. absurd (omega arith) }
-
--- a word that is not negative
+-- the same number
 pub alike_same : (a b : ℕ) → a ≡ b → Alike a b
 alike_same a b e = record { first = λ q. e; second = λ q. e }
 
+-- a word's bits: the number, or past every limit where it is negative
+pub alike-bits : (z : ℤ) → SFits w64 z → Alike (of_z w64 z) (nat_of z)
+unfolding nat_of
+alike-bits (pos n) f = alike_same n n refl
+alike-bits (negsuc n) f =
+    let b = f.sfits in
+    record { first = λ q. absurd (omega arith); second = λ q. absurd (omega arith) }
+
+-- a word that reads as a small number is not negative
 pub not-below : (z : ℤ) → nat_of z < 2 ^ 63 → lt_z z (pos 0) ≡ false
 unfolding nat_of
 not-below (pos n) h = le-ltb n 0 (omega arith)

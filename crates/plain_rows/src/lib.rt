@@ -4,10 +4,11 @@
 
 pub mod accounts; // accounts.rt: an account's words
 
-ghost use Rattle.std.specs.Prelude.{◌≡◌, ◌^◌, ◌<◌, length};
+ghost use Rattle.std.specs.Prelude.{◌≡◌, ◌*◌, ◌^◌, ◌<◌, length};
+ghost use Rattle.records.specs.Layout.{row_width};
 ghost use Rattle.records.specs.Encoding.{nat_of, word, row_at};
 ghost use Rattle.tables.specs.Changes.{RowIn};
-ghost use Rattle.plain_rows.specs.Alike.{Alike, AlikeRow};
+ghost use Rattle.plain_rows.specs.Alike.{Alike, AlikeRow, RowBy};
 
 use records::Row;
 use records::layout::{
@@ -15,60 +16,47 @@ use records::layout::{
     REFERENCE_PLACE, ROW_DAY_PLACE, ROW_WIDTH, SETTLED_PLACE,
 };
 
-// The highest number of 64 bits.
-const HIGHEST: u64 = 18446744073709551615;
-
-// A word's bits as a number: from 2^63 on where it is negative. Both ways are the same bits, so no test is left of it.
+// A word's bits as a number: from 2^63 on where it is negative. The same bits, so nothing is computed.
 fn bits(x: i64) -> u64
     ensures { Alike result (nat_of x) }
 {
-    if x < 0 {
-        HIGHEST - (-1 - x) as u64
-    } else {
-        x as u64
+    x.cast_unsigned()
+}
+
+// Row i, counted from 0, each word by `read`.
+pub fn row_by<F: Fn(i64) -> u64>(journal: &[i64], i: usize, read: F) -> Row
+    requires { RowIn journal.now i × F.IsAlwaysCallable read }
+    ensures { RowBy (F.post read) journal.now (i * row_width) result }
+{
+    let p = i * ROW_WIDTH;
+    Row {
+        kind: read(journal[p + KIND_PLACE]),
+        account: read(journal[p + ACCOUNT_PLACE]),
+        day: read(journal[p + ROW_DAY_PLACE]),
+        amount: read(journal[p + AMOUNT_PLACE]),
+        settled: read(journal[p + SETTLED_PLACE]),
+        mark: read(journal[p + MARK_PLACE]),
+        due: read(journal[p + DUE_PLACE]),
+        dispute: read(journal[p + DISPUTE_PLACE]),
+        hold: read(journal[p + HOLD_PLACE]),
+        reference: read(journal[p + REFERENCE_PLACE]),
     }
 }
 
-fn get_bits(t: &[i64], i: usize) -> u64
-    requires { i < length t.now }
-    ensures { Alike result (word t.now i) }
-{
-    bits(t[i])
-}
-
-// Row i, counted from 0, with its words as they are.
+// Row i, with its words as they are.
 pub fn plain_row(journal: &[i64], i: usize) -> Row
     requires { RowIn journal.now i }
     ensures { AlikeRow result (row_at journal.now i) }
 {
-    let p = i * ROW_WIDTH;
-    Row {
-        kind: get_bits(journal, p + KIND_PLACE),
-        account: get_bits(journal, p + ACCOUNT_PLACE),
-        day: get_bits(journal, p + ROW_DAY_PLACE),
-        amount: get_bits(journal, p + AMOUNT_PLACE),
-        settled: get_bits(journal, p + SETTLED_PLACE),
-        mark: get_bits(journal, p + MARK_PLACE),
-        due: get_bits(journal, p + DUE_PLACE),
-        dispute: get_bits(journal, p + DISPUTE_PLACE),
-        hold: get_bits(journal, p + HOLD_PLACE),
-        reference: get_bits(journal, p + REFERENCE_PLACE),
-    }
+    row_by(journal, i, bits)
 }
 
 // A word that is known not to be negative.
-fn small(x: i64) -> u64
-    requires { nat_of x < 2 ^ 63 }
-    ensures { result ≡ nat_of x }
-{
-    x as u64
-}
-
 fn get_small(t: &[i64], i: usize) -> u64
     requires { (i < length t.now) × (word t.now i < 2 ^ 63) }
     ensures { result ≡ word t.now i }
 {
-    small(t[i])
+    t[i] as u64
 }
 
 // One word of row i, where it is known to be small.

@@ -1,5 +1,5 @@
-// What the events share: their answers, rows added and released; and what a reader of sound tables knows.
+// What the events share: what each did, rows added and released; and what a reader of sound tables knows.
 #![tactic(auto)]
 
-pub mod answers; // answers.rt: the answer of a refused and of an accepted event
+pub mod answers; // answers.rt: what an accepted event did
 pub mod rows; // rows.rt: a row added to the journal, a row released

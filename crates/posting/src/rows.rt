@@ -20,12 +20,7 @@ pub fn new_row(kind: u64, account: u64, day: u64, amount: u64) -> Row
         account,
         day,
         amount,
-        settled: 0,
-        mark: 0,
-        due: 0,
-        dispute: 0,
-        hold: 0,
-        reference: 0,
+        ..Row::default()
     }
 }
 
@@ -44,9 +39,10 @@ pub fn released(r: Row, today: u64) -> Row
     requires { (r.hold ≤ today) × (r.due + (today - r.hold) < 2 ^ 63) }
     ensures { result ≡ release today r }
 {
-    let mut free = r;
-    free.due = r.due + (today - r.hold);
-    free.dispute = DISPUTE_ENDED;
-    free.hold = 0;
-    free
+    Row {
+        due: r.due + (today - r.hold),
+        dispute: DISPUTE_ENDED,
+        hold: 0,
+        ..r
+    }
 }

@@ -8,6 +8,10 @@ use mathlib.Core.List.{List, [], ◌∷◌, ◌++◌}
 use lib.ListN.{length, length-set, length-append}
 use lib.IntN.{ℤ}
 use borrow.Author.Tests.{eq-eqb}
+use Rattle.std.specs.Prelude.{Err}
+use Rattle.records.specs.declared.refusals.Refusal.{Refusal}
+use Rattle.records.specs.Outcomes.{number_of, answer_of}
+use Rattle.records.proofs.OutcomeLaws.{number_of-not_0}
 use Rattle.records.specs.Layout.{day_place, used_place}
 use Rattle.records.specs.Encoding.{word, row_at, rows_of, accounts_of}
 use Rattle.lists.specs.Tests.{◌is◌}
@@ -42,9 +46,9 @@ acceptance-plain b e n l k r =
 
 -- ---- refused: the tables stay
 
-pub posts-refused : (t : Tables) → sound_tables t ≡ true → (e : Instruction) (n : ℕ) → n ≡ answer_number (book_of t) e → n is 0 ≡ false → Posts t t e (refusal_by n)
-posts-refused t s e n q z =
-    let p = post-refused (book_of t) e (rw q at z) in
+pub posts-refused : (t : Tables) → sound_tables t ≡ true → (e : Instruction) (r : Refusal) → number_of r ≡ answer_number (book_of t) e → Posts t t e (answer_of (Err r))
+posts-refused t s e r q =
+    let p = post-refused (book_of t) e (rw q at (number_of-not_0 r)) in
     record { answer = rw (p, ← q); tables = rw p (sym (tables_of-book_of t s)) }
 
 -- ---- accepted: the tables hold the book after the event

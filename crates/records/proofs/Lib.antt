@@ -1,2 +1,4 @@
 pub mod EncodingLaws
 pub mod FieldLaws
+pub mod WordLaws
+pub mod OutcomeLaws

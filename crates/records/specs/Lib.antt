@@ -1,5 +1,6 @@
 pub mod Codes
 pub mod Numbers
+pub mod Outcomes
 pub mod Limits
 pub mod Updates
 pub mod AccountOperations

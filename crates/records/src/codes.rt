@@ -1,4 +1,5 @@
 // The numbers of kinds, states, methods, disputes, modes and events (documents 01 and 02), under the names of records' Codes.
+// Kept: they are words of the lent tables and of events, where a host may put any number, which the check of soundness has to judge.
 
 // ---- kinds of rows
 

@@ -3,18 +3,21 @@
 #![tactic(auto)]
 
 pub mod codes; // codes.rt: the numbers of kinds, states, methods, disputes, modes and events
-pub mod numbers; // numbers.rt: the numbers of the answers
+pub mod refusals; // refusals.rt: why an event is refused, and the answer that tells its outcome
 pub mod limits; // limits.rt: the limits of document 01
 pub mod layout; // layout.rt: the widths and places of the tables' words
+pub mod words; // words.rt: a signed word as a number
 
 ghost use Rattle.std.specs.Prelude.{◌≡◌, ◌^◌, ◌<◌};
+ghost use Rattle.records.specs.Encoding.{instruction_of};
 ghost use Rattle.records.specs.AccountOperations.{opened, check_returned, declined_on, topup_paid, close_requested_on, closed};
 
 use crate::codes::{STATE_CLOSED, STATE_OPEN, STATE_PENDING};
 use crate::limits::MOST_DECLINES;
+use crate::words::natural;
 
-// One row of the journal.
-#[derive(Clone, Copy)]
+// One row of the journal; by default none, all words 0.
+#[derive(Clone, Copy, Default)]
 pub struct Row {
     pub kind: u64,
     pub account: u64,
@@ -28,8 +31,9 @@ pub struct Row {
     pub reference: u64,
 }
 
-// One account: state, close request day, returned checks, top-up threshold, top-up amount, declines, day of last decline.
-#[derive(Clone, Copy)]
+// One account: state, close request day, returned checks, top-up threshold, top-up amount, declines, day of last decline; by default
+// unused, all words 0.
+#[derive(Clone, Copy, Default)]
 pub struct Account {
     pub state: u64,
     pub request: u64,
@@ -69,7 +73,16 @@ pub struct Instruction {
     pub g: u64,
 }
 
-// The answer to an event.
+// What an accepted event did: the first new row (0 if none), how many, how many tolls rose, 1 if the top-up was removed.
+#[derive(Clone, Copy)]
+pub struct Posting {
+    pub first: u64,
+    pub added: u64,
+    pub raised: u64,
+    pub removed: u64,
+}
+
+// The five words of the answer to an event.
 #[derive(Clone, Copy)]
 pub struct Answer {
     pub number: u64,
@@ -79,6 +92,24 @@ pub struct Answer {
     pub removed: u64,
 }
 
+impl From<Event> for Instruction {
+    ghost from_gives = { λ e i. i ≡ instruction_of e };
+
+    fn from(e: Event) -> Self {
+        Self {
+            kind: natural(e.kind),
+            account: natural(e.account),
+            a: natural(e.a),
+            b: natural(e.b),
+            c: natural(e.c),
+            d: natural(e.d),
+            e: natural(e.e),
+            f: natural(e.f),
+            g: natural(e.g),
+        }
+    }
+}
+
 impl Account {
     // Event 1: open, with a top-up threshold and amount.
     pub fn open(threshold: u64, topup: u64) -> Self
@@ -86,12 +117,9 @@ impl Account {
     {
         Self {
             state: STATE_OPEN,
-            request: 0,
-            returned: 0,
             threshold,
             topup,
-            declines: 0,
-            declined: 0,
+            ..Self::default()
         }
     }
 

@@ -16,11 +16,7 @@ use table_rows::row_numbered;
 pub fn remaining_of(r: Row) -> u64
     ensures { result ≡ remaining r }
 {
-    if r.amount <= r.settled {
-        0
-    } else {
-        r.amount - r.settled
-    }
+    r.amount.saturating_sub(r.settled)
 }
 
 // A payment or a credit.

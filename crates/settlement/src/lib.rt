@@ -48,24 +48,17 @@ fn wanted(journal: &[i64], used: usize, i: usize, account: u64) -> u64
 }
 
 // The first row from j on that wants something, or the end of the used rows.
+// Kept: the end is the place up to which no row wants anything, from which the walk goes on, and no missing value.
 fn next_debit(journal: &[i64], used: usize, j: usize, account: u64) -> usize
     requires { (used * row_width ≤ length journal.now) × (j ≤ used) }
     ensures { NextDebit journal.now used account j result }
 {
-    let mut k = j;
-    while k < used {
+    for k in j..used {
         if 0 < wanted(journal, used, k, account) {
             return k;
         }
-        k += 1;
     }
-    k
-}
-
-fn lesser(x: u64, y: u64) -> u64
-    ensures { result ≡ min x y }
-{
-    if x < y { x } else { y }
+    used
 }
 
 // Row i has m more settled.
@@ -83,21 +76,19 @@ pub fn settle_from(journal: &mut [i64], used: usize, account: u64, source: usize
     requires { Journal journal.old used × Begun journal.old used account source debit }
     ensures { Settled journal.old journal.new used account }
 {
-    let mut i = source;
     let mut j = debit;
-    'sources: while i < used {
+    'sources: for i in source..used {
         let mut x = unused(journal, i, account);
         while 0 < x {
             j = next_debit(journal, used, j, account);
             if used <= j {
                 break 'sources;
             }
-            let m = lesser(x, wanted(journal, used, j, account));
+            let m = x.min(wanted(journal, used, j, account));
             add_settled(journal, i, m);
             add_settled(journal, j, m);
-            x = x - m;
+            x -= m;
         }
-        i += 1;
     }
 }
 

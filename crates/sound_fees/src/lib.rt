@@ -10,12 +10,6 @@ use records::Row;
 use records::codes::KIND_TOLL;
 use sound_header::tests::implies;
 
-fn wide(x: u16) -> u64
-    ensures { result ≡ x }
-{
-    x as u64
-}
-
 // One more fee that names row number n, `named`: false where that is more than it may have.
 pub fn count_fee(counts: &mut [u16], n: usize, named: Row) -> bool
     requires { (n < length counts.old) × (get_or counts.old n 0 < most_rows) }
@@ -23,5 +17,5 @@ pub fn count_fee(counts: &mut [u16], n: usize, named: Row) -> bool
 {
     let c = counts[n] + 1;
     counts[n] = c;
-    implies(named.kind == KIND_TOLL, wide(c) < named.mark)
+    implies(named.kind == KIND_TOLL, u64::from(c) < named.mark)
 }

@@ -1,16 +1,13 @@
 -- The clauses of soundness on single rows, in the groups in which the code tests them.
-use Rattle.std.specs.Prelude.{◌≡◌, Bool, ℕ, ◌+◌, ◌*◌, ◌≤◌, List, [], ◌∷◌, ℤ, length, drop, eqb}
+use Rattle.std.specs.Prelude.{Bool, ℕ, ◌+◌, ◌*◌, ◌≤◌, List, [], ◌∷◌, ℤ, length, drop, eqb}
 use Rattle.lists.specs.Tests.{all_of}
 use Rattle.lists.specs.Lists.{every}
-use Rattle.records.specs.Layout.{schedule_width, rates_width, row_width, account_width}
-use Rattle.records.specs.Encoding.{rows_of, accounts_of}
-use Rattle.records.specs.Limits.{final_day, longest_stage, most_accounts, most_rows}
+use Rattle.records.specs.Layout.{schedule_width, rates_width, row_width}
 use Rattle.rules.specs.Rows.{Row}
 use Rattle.rules.specs.Book.{Account}
 use Rattle.rules.specs.Soundness.{kind_fits, amount_fits, settled_fits, mark_fits, toll_words_fit, no_reference, row_day_fits, due_fits, hold_fits, account_used, reference_fits}
 pub use Rattle.rules.specs.Tables.{tables_at}
 use Rattle.rules.specs.Tables.{zero_word}
-use Rattle.sound_header.specs.declared.frame.Frame.{Frame}
 
 -- a row by itself: the words that differ from kind to kind, and all
 unfoldable pub own_words : ℕ → ℕ → Row → Bool
@@ -26,24 +23,6 @@ row_passes xs rows today L n r = all_of (row_alone today L r ∷ account_used xs
 
 unfoldable pub rows_stand : List Account → List Row → ℕ → ℕ → Bool
 rows_stand xs rows today L = every (row_passes xs rows today L) rows
-
--- a row numbered n as the tables' accounts, rows and header have it stand
-abbrev pub passes_in : List ℤ → List ℤ → Frame → ℕ → Row → Bool
-passes_in accounts journal f n r = row_passes (accounts_of accounts f.count) (rows_of journal f.used) f.today f.stage n r
-
--- b says whether r stands, whatever the rows are and its number among them: it refers to none
-abbrev pub PassesAnywhere : List ℤ → Frame → Row → Bool → Type 0
-PassesAnywhere accounts f r b = (rows : List Row) (n : ℕ) → b ≡ row_passes (accounts_of accounts f.count) rows f.today f.stage n r
-
--- what the lengths and the header have shown before any row is read
-pub record Bounds (accounts journal : List ℤ) (f : Frame) : Type 0 where
-  pub room : f.used * row_width ≤ length journal
-  pub few : f.used ≤ most_rows
-  pub held : f.used ≤ f.space
-  pub slots : f.count * account_width ≤ length accounts
-  pub fewer : f.count ≤ most_accounts
-  pub day : f.today ≤ final_day
-  pub length : f.stage ≤ longest_stage
 
 -- ---- "later rows .. are all 0"
 

@@ -3,4 +3,3 @@
 
 pub mod tests; // tests.rt: between, implies
 pub mod header; // header.rt: lengths, day, schedule
-pub mod frame; // frame.rt: what they say of the tables

@@ -1,7 +1,7 @@
 -- What the passes over the rows leave to show.
 use mathlib.Core.Path.{◌≡◌, refl, sym, ap, ◌∙◌}
 use mathlib.Core.Logic.{◌≢◌}
-use mathlib.Core.Bool.{true, ◌&&◌, ◌||◌, and_assoc, and-true, and-false}
+use mathlib.Core.Bool.{true, false, ◌&&◌, ◌||◌, and_assoc, and-true, and-false}
 use Prim.Native.Nat.{ℕ, ◌+◌, ◌*◌, ◌≤◌, ◌<◌}
 use native.Mathlib.Omega.{arith}
 use mathlib.Core.List.{List, [], ◌∷◌, ◌++◌}
@@ -10,12 +10,14 @@ use lib.ListN.{length, get_or, take, drop, take-append-drop}
 use lib.Seq.{drop-drop, drop-length}
 use lib.Dec.{eqb}
 use borrow.Author.Tests.{eqb-true, eq-eqb, ne_eqb, lt-ltb, le-ltb, not-true}
-use Rattle.lists.specs.Tests.{◌implies◌, all_of}
+use Rattle.std.specs.Prelude.{Option, Some}
+use Rattle.std.specs.Option.{option_eq}
+use Rattle.lists.specs.Tests.{◌is◌, ◌implies◌, all_of}
 use Rattle.lists.proofs.TestLaws.{all_of-at}
 use Rattle.lists.specs.Lists.{every_from, tabulate}
 use Rattle.lists.proofs.ListLaws.{tabulate-get_d, length-tabulate}
 use Rattle.records.specs.Layout.{row_width}
-use Rattle.records.specs.Encoding.{word, row_from, row_at, rows_of, account_at, accounts_of, StorableRow}
+use Rattle.records.specs.Encoding.{word, row_from, row_at, account_at, StorableRow}
 use Rattle.records.specs.Limits.{final_day, longest_stage, most_accounts, most_rows}
 use Rattle.rules.specs.Rows.{Row, kind_toll, kind_fee, kind_reversal, kind_payment, kind_credit, row_no}
 use Rattle.rules.specs.Book.{Account}
@@ -25,38 +27,39 @@ use Rattle.rules.specs.Tables.{zero_word}
 use Rattle.tables.specs.Changes.{RowIn}
 use Rattle.plain_rows.specs.Alike.{AlikeRow}
 use Rattle.plain_rows.proofs.AlikeLaws.{alike-first, alike-test}
-use Rattle.sound_header.specs.declared.frame.Frame.{Frame}
-use Rattle.sound_header.specs.Clauses.{own_words, row_alone, row_passes, passes_in, Bounds, empty_row, rest_zero}
+use Rattle.sound_header.specs.Clauses.{own_words, row_alone, row_passes, empty_row, rest_zero}
+use Rattle.sound_journal.specs.declared.frame.Frame.{Frame}
+use Rattle.sound_journal.specs.Passing.{frame_accounts, frame_rows, passes_in}
 
 -- ---- the row that is named
 
 module _ (rows : List Row) (n : ℕ) (r : Row) (m : ℕ) where
-  pub names-later : n ≤ r.reference → m ≢ 0 → eqb 0 m ≡ names rows n r m
+  pub names-later : n ≤ r.reference → false ≡ names rows n r m
   unfolding names
-  names-later h q = rw (ne_eqb 0 m (λ e. q (sym e)), le-ltb r.reference n h)
+  names-later h = rw (le-ltb r.reference n h)
 
   module _ (named : Row) (e : named ≡ row_no rows r.reference) where
-    pub names-other : named.account ≢ r.account → m ≢ 0 → eqb 0 m ≡ names rows n r m
+    pub names-other : named.account ≢ r.account → false ≡ names rows n r m
     unfolding names
-    names-other a q = rw (← e, ne_eqb 0 m (λ e. q (sym e)), ne_eqb named.account r.account a, and-false)
+    names-other a = rw (← e, ne_eqb named.account r.account a, and-false)
 
     pub names_same : r.reference < n → named.account ≡ r.account → eqb named.kind m ≡ names rows n r m
     unfolding names
     names_same h a = rw (← e, lt-ltb r.reference n h, eq-eqb named.account r.account a, and-true)
 
 -- the clause on references, by the kind of the row that is named
-module _ (rows : List Row) (n : ℕ) (r : Row) (k : ℕ) (f : (m : ℕ) → m ≢ 0 → eqb k m ≡ names rows n r m) where
-  pub fits-fee : r.kind ≡ kind_fee → (eqb k kind_toll || eqb k kind_payment) ≡ reference_fits rows n r
+module _ (rows : List Row) (n : ℕ) (r : Row) (k : Option ℕ) (f : (m : ℕ) → option_eq eqb k (Some m) ≡ names rows n r m) where
+  pub fits-fee : r.kind ≡ kind_fee → (option_eq eqb k (Some kind_toll) || option_eq eqb k (Some kind_payment)) ≡ reference_fits rows n r
   unfolding reference_fits
-  fits-fee e = simp (e, f 1 (λ q. omega arith), f 4 (λ q. omega arith), and-true)
+  fits-fee e = simp (e, f 1, f 4, and-true)
 
-  pub fits-reversal : r.kind ≡ kind_reversal → eqb k kind_payment ≡ reference_fits rows n r
+  pub fits-reversal : r.kind ≡ kind_reversal → option_eq eqb k (Some kind_payment) ≡ reference_fits rows n r
   unfolding reference_fits
-  fits-reversal e = simp (e, f 4 (λ q. omega arith), and-true)
+  fits-reversal e = simp (e, f 4, and-true)
 
-  pub fits-credit : r.kind ≢ kind_fee → r.kind ≢ kind_reversal → (eqb r.kind kind_credit implies eqb k kind_toll) ≡ reference_fits rows n r
+  pub fits-credit : r.kind ≢ kind_fee → r.kind ≢ kind_reversal → (r.kind is kind_credit implies option_eq eqb k (Some kind_toll)) ≡ reference_fits rows n r
   unfolding reference_fits
-  fits-credit a b = rw (f 1 (λ q. omega arith), ne_eqb r.kind kind_fee a, ne_eqb r.kind kind_reversal b)
+  fits-credit a b = rw (f 1, ne_eqb r.kind kind_fee a, ne_eqb r.kind kind_reversal b)
 
 -- ---- rows that pass have small words
 
@@ -86,15 +89,17 @@ passes-small xs rows today L n d l a m r e =
     own = unfold own_words in all_of-at _ (alone 3)
 
 -- so it stands as it is read, and then it is the table's
-module _ (accounts journal : List ℤ) (f : Frame) (l : Bounds accounts journal f) (i : ℕ) (h : i < f.used) (r : Row) (a : AlikeRow r (row_at journal i)) where
-  small-here : (s : Row) → passes_in accounts journal f (i + 1) s ≡ true → StorableRow s
-  small-here = passes-small (accounts_of accounts f.count) (rows_of journal f.used) f.today f.stage (i + 1) l.day l.length (omega (arith, l.fewer, length-tabulate (account_at accounts) f.count)) (omega (arith, l.few))
+module _ (f : Frame) (i : ℕ) (h : i < f.used) (r : Row) (a : AlikeRow r (row_at f.journal.now i)) where
+  small-here : (s : Row) → passes_in f (i + 1) s ≡ true → StorableRow s
+  small-here =
+      let l = f.bounds in
+      passes-small (frame_accounts f) (frame_rows f) f.today f.stage (i + 1) l.day l.length (omega (arith, l.fewer, length-tabulate (account_at f.accounts.now) f.count)) (omega (arith, l.few))
 
-  pub passes-alike : passes_in accounts journal f (i + 1) r ≡ passes_in accounts journal f (i + 1) (row_at journal i)
-  passes-alike = alike-test (passes_in accounts journal f (i + 1)) small-here r (row_at journal i) a
+  pub passes-alike : passes_in f (i + 1) r ≡ passes_in f (i + 1) (row_at f.journal.now i)
+  passes-alike = alike-test (passes_in f (i + 1)) small-here r (row_at f.journal.now i) a
 
-  pub passes_same : passes_in accounts journal f (i + 1) r ≡ true → r ≡ row_at journal i
-  passes_same e = alike-first r (row_at journal i) a (small-here r e)
+  pub passes_same : passes_in f (i + 1) r ≡ true → r ≡ row_at f.journal.now i
+  passes_same e = alike-first r (row_at f.journal.now i) a (small-here r e)
 
 -- a toll and a payment refer to no row
 pub toll-names-none : (rows : List Row) (n : ℕ) (r : Row) → r.kind ≡ kind_toll → reference_fits rows n r ≡ true

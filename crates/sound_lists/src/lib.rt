@@ -41,13 +41,11 @@ fn lists_fit(header: &[i64], used: usize) -> bool
         return false;
     }
     let mut before = get(header, HEADER_FIRST_DAY);
-    let mut i = 0;
-    while i < used {
+    for i in 0..used {
         if !later_fits(header, i, before) {
             return false;
         }
         before = later_day(header, i);
-        i += 1;
     }
     true
 }
@@ -56,12 +54,10 @@ fn lists_fit(header: &[i64], used: usize) -> bool
 fn rest_zero(t: &[i64], from: usize) -> bool
     ensures { result ≡ every zero_word (drop from t.now) }
 {
-    let mut i = from;
-    while i < t.len() {
+    for i in from..t.len() {
         if get(t, i) != 0 {
             return false;
         }
-        i += 1;
     }
     true
 }

@@ -1,5 +1,5 @@
 -- Laws of the trees: the way down to a passage number, and how they grow by a row.
-use Prim.Native.Nat.{ℕ, ◌+◌, ◌*◌, ◌-◌, ◌/◌, ◌%◌, ◌^◌, ◌≤◌, ◌<◌}
+use Prim.Native.Nat.{ℕ, ◌+◌, ◌*◌, ◌/◌, ◌%◌, ◌^◌, ◌≤◌, ◌<◌}
 use native.Mathlib.Omega.{arith}
 use native.Mathlib.Nat.{mod-lt, div-lt_iff_lt-mul, mul-le-mul, mul-lt-mul_of_pos_right}
 use native.Mathlib.Decide.{ℕ_discrete}
@@ -13,7 +13,7 @@ use Rattle.lists.proofs.ListLaws.{zeros}
 use Rattle.records.specs.Encoding.{row_at, rows_of}
 use Rattle.records.specs.Limits.{most_rows}
 use Rattle.sound_passages.specs.Trees.{passages_differ}
-use Rattle.sound_passages.specs.Trees.{mix_of, root_of, IsToll, HasPassage, Leads, here, next, Kept, TreesOf, CellFor}
+use Rattle.sound_passages.specs.Trees.{mix_of, root_of, IsToll, HasPassage, Leads, here, next, Kept, TreesOf, FreeCell, TakenBy}
 use Rattle.sound_passages.proofs.PassageLaws.{clash-same}
 
 leads-zero : {space : ℕ} {cells : List ℕ} {j y c : ℕ} → Leads space cells j y c → get_or cells c 0 ≡ 0 → ⊥
@@ -61,24 +61,16 @@ module _ (space : ℕ) (t : List ℤ) (cells : List ℕ) (n x y c s r : ℕ) (g 
         up = λ u h l. w.up u h (next r (h c r (sym w.is ∙ e)) l);
       }
 
-  pub way-taken : HasPassage t r x → CellFor space t cells n x (32767 + s)
-  way-taken q =
-      record {
-        taken = λ j f. let v : j ≡ r = omega arith in rw v (way-row.0, way-row.1, q);
-        low = λ b. absurd (omega arith);
-        free = λ b. absurd (omega arith);
-        none = λ b. absurd (omega arith);
-        way = λ b. absurd (omega arith);
-      }
+  pub way-taken : HasPassage t r x → TakenBy t n x r
+  way-taken q = record { early = way-row.0; toll = way-row.1; passage = q }
 
-pub way-free : (space : ℕ) (t : List ℤ) (cells : List ℕ) (n x y c s : ℕ) → n ≤ space → TreesOf space t cells n → Way space t cells n x y c s → s ≡ 0 → CellFor space t cells n x c
-way-free space t cells n x y c s b g w z =
+pub way-free : (space : ℕ) (t : List ℤ) (cells : List ℕ) (n x y c s : ℕ) → Way space t cells n x y c s → s ≡ 0 → FreeCell space t cells n x c
+way-free space t cells n x y c s w z =
     record {
-      taken = λ j f. absurd (omega (arith, w.low, g.few));
-      low = λ _. w.low;
-      free = λ _. sym w.is ∙ z;
-      none = λ _ j q k e. leads-zero (w.rest j q k e) (sym w.is ∙ z);
-      way = λ _ u h e. w.up u h (here e);
+      low = w.low;
+      free = sym w.is ∙ z;
+      none = λ j q k e. leads-zero (w.rest j q k e) (sym w.is ∙ z);
+      way = λ u h e. w.up u h (here e);
     }
 
 -- ---- growth
@@ -122,9 +114,9 @@ trees-skip space t cells n g q =
 kept_on : (cells : List ℕ) (n r : ℕ) → get_or cells r 0 ≡ 0 → (k v : ℕ) → get_or cells k 0 ≡ v + 1 → get_or (set cells r (n + 1)) k 0 ≡ v + 1
 kept_on cells n r z k v e = rw (get_or-set_other cells r k (n + 1) 0 (λ w. let z' = rw (← w) at z in omega arith)) e
 
-pub trees-add : (space : ℕ) (t : List ℤ) (cells : List ℕ) (n r : ℕ) → TreesOf space t cells n → n < space → IsToll t n → r < 32768 → CellFor space t cells n (row_at t n).reference r → TreesOf space t (set cells r (n + 1)) (n + 1)
-trees-add space t cells n r g h q b s =
-    let d : r < length cells = omega (arith, g.size, s.low b) in
+pub trees-add : (space : ℕ) (t : List ℤ) (cells : List ℕ) (n r : ℕ) → TreesOf space t cells n → n < space → IsToll t n → FreeCell space t cells n (row_at t n).reference r → TreesOf space t (set cells r (n + 1)) (n + 1)
+trees-add space t cells n r g h q s =
+    let d : r < length cells = omega (arith, g.size, s.low) in
     let same : get_or (set cells r (n + 1)) r 0 ≡ n + 1 = get_or-set_same cells r (n + 1) 0 d in
     record {
       some = g.some;
@@ -132,16 +124,16 @@ trees-add space t cells n r g h q b s =
       size = length-set cells r (n + 1) ∙ g.size;
       tolls = λ c j e.
           elim (ℕ_discrete c r) [
-            | yes v ↦ let w : n ≡ j = omega (arith, rw v at e, same) in (omega arith, rw w at q, rw (v, ← w) (s.low b))
+            | yes v ↦ let w : n ≡ j = omega (arith, rw v at e, same) in (omega arith, rw w at q, rw (v, ← w) s.low)
             | no v ↦ let a = g.tolls c j (rw (get_or-set_other cells r c (n + 1) 0 v) at e) in (omega (arith, a.0), a.1, a.2)
           ];
       kept = λ j f k.
           elim (ℕ_discrete j n) [
-            | yes v ↦ rw v (s.way b _ (kept_on cells n r (s.free b)) same)
-            | no v ↦ leads-keep (kept_on cells n r (s.free b)) (g.kept j (omega arith) k)
+            | yes v ↦ rw v (s.way _ (kept_on cells n r s.free) same)
+            | no v ↦ leads-keep (kept_on cells n r s.free) (g.kept j (omega arith) k)
           ];
-      clean = clean-more t n g.clean (λ j f x y z. s.none b j f x z);
+      clean = clean-more t n g.clean (λ j f x y z. s.none j f x z);
     }
 
-pub taken-same : (space : ℕ) (t : List ℤ) (cells : List ℕ) (n r : ℕ) → IsToll t n → 32768 ≤ r → CellFor space t cells n (row_at t n).reference r → (m : ℕ) → n < m → passages_differ (rows_of t m) ≡ false
-taken-same space t cells n r q b s m f = let a = s.taken (r - 32768) (omega arith) in clash-same t m (r - 32768) n a.0 f a.1 q a.2
+pub taken-same : (t : List ℤ) (n j : ℕ) → IsToll t n → TakenBy t n (row_at t n).reference j → (m : ℕ) → n < m → passages_differ (rows_of t m) ≡ false
+taken-same t n j q a m f = clash-same t m j n a.early f a.toll q a.passage

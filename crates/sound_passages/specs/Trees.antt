@@ -1,7 +1,7 @@
 -- Digital search trees of tolls in one array, of four cells for each row that it has space for: the first half of the cells are roots, and
 -- cells 2 space + 2 r and the next are the two branches of row r, counted from 0. A cell holds a row's number, counted from 1, and 0 for
 -- none.
-use Rattle.std.specs.Prelude.{ℕ, ◌+◌, ◌*◌, ◌/◌, ◌%◌, ◌≤◌, ◌<◌, ◌≡◌, Bool, true, false, List, ℤ, length, get_or}
+use Rattle.std.specs.Prelude.{ℕ, ◌+◌, ◌*◌, ◌/◌, ◌%◌, ◌≤◌, ◌<◌, ◌≡◌, Bool, true, false, List, ℤ, length, get_or, Option, Some, None}
 use Rattle.lists.specs.Lists.{every}
 use Rattle.records.specs.Encoding.{row_at, rows_of}
 use Rattle.records.specs.Limits.{most_rows}
@@ -44,14 +44,25 @@ pub record TreesOf (space : ℕ) (t : List ℤ) (cells : List ℕ) (n : ℕ) : T
   pub kept : (j : ℕ) → j < n → IsToll t j → Kept space cells j (row_at t j).reference
   pub clean : (j k : ℕ) → j < k → k < n → IsToll t j → IsToll t k → HasPassage t j (row_at t k).reference → ⊥
 
--- where passage x goes: r is a free cell on its way, or 32768 + j for a toll j of passage x
-pub record CellFor (space : ℕ) (t : List ℤ) (cells : List ℕ) (n x r : ℕ) : Type 0 where
-  pub taken : (j : ℕ) → r ≡ 32768 + j → (j < n) × IsToll t j × HasPassage t j x
-  pub low : r < 32768 → r < 2 * space + 2 * n
-  pub free : r < 32768 → get_or cells r 0 ≡ 0
-  pub none : r < 32768 → (j : ℕ) → j < n → IsToll t j → HasPassage t j x → ⊥
-  pub way : r < 32768 → (u : List ℕ) → ((c v : ℕ) → get_or cells c 0 ≡ v + 1 → get_or u c 0 ≡ v + 1) → get_or u r 0 ≡ n + 1 → Kept space u n x
+-- c is a free cell on the way of passage x, which no toll has
+pub record FreeCell (space : ℕ) (t : List ℤ) (cells : List ℕ) (n x c : ℕ) : Type 0 where
+  pub low : c < 2 * space + 2 * n
+  pub free : get_or cells c 0 ≡ 0
+  pub none : (j : ℕ) → j < n → IsToll t j → HasPassage t j x → ⊥
+  pub way : (u : List ℕ) → ((k v : ℕ) → get_or cells k 0 ≡ v + 1 → get_or u k 0 ≡ v + 1) → get_or u c 0 ≡ n + 1 → Kept space u n x
 
+-- toll j has passage x
+pub record TakenBy (t : List ℤ) (n x j : ℕ) : Type 0 where
+  pub early : j < n
+  pub toll : IsToll t j
+  pub passage : HasPassage t j x
+
+-- where passage x goes: a free cell, or none where a toll has it
+abbrev pub CellFor : ℕ → List ℤ → List ℕ → ℕ → ℕ → Option ℕ → Type 0
+CellFor space t cells n x None = (j : ℕ) × TakenBy t n x j
+CellFor space t cells n x (Some c) = FreeCell space t cells n x c
+
+-- what b says of row n, inserted
 pub record Inserted (space : ℕ) (t : List ℤ) (cells : List ℕ) (n : ℕ) (r : Bool) : Type 0 where
   pub good : r ≡ true → TreesOf space t cells (n + 1)
   pub bad : r ≡ false → (m : ℕ) → n < m → passages_differ (rows_of t m) ≡ false

@@ -22,30 +22,24 @@ fn mix(passage: u64) -> usize
     (passage % 1073741824 * 2654435769 % 4294967296) as usize
 }
 
-fn wide(x: u16) -> usize
-    ensures { result ≡ x }
-{
-    x as usize
-}
-
-// Where passage x goes among the first n rows, in cells with space for as many or more: a free cell, or CELLS and more where a toll has it.
-pub fn cell_for(journal: &[i64], cells: &[u16], space: usize, n: usize, x: u64) -> usize
+// Where passage x goes among the first n rows, in cells with space for as many or more: a free cell, and none where a toll has it.
+pub fn cell_for(journal: &[i64], cells: &[u16], space: usize, n: usize, x: u64) -> Option<usize>
     requires { (n * row_width ≤ length journal.now) × (n ≤ space) × TreesOf space journal.now cells.now n }
     ensures { CellFor space journal.now cells.now n x result }
 {
     let mut y = mix(x);
     // A product chooses the root: a division by a number that is no constant would be slow.
     let mut c = y * space / 2147483648;
-    let mut s = wide(cells[c]);
+    let mut s = usize::from(cells[c]);
     while s != 0 {
         if reference_at(journal, s - 1) == x {
-            return CELLS - 1 + s;
+            return None;
         }
         c = 2 * space + 2 * (s - 1) + y % 2;
-        y = y / 2;
-        s = wide(cells[c]);
+        y /= 2;
+        s = usize::from(cells[c]);
     }
-    c
+    Some(c)
 }
 
 // Row n, a toll of passage x, goes to its cell: false where an earlier toll has its passage number.
@@ -57,10 +51,9 @@ pub fn insert_toll(journal: &[i64], cells: &mut [u16], space: usize, n: usize, x
         × HasPassage journal.now n x }
     ensures { Inserted space journal.now cells.new n result }
 {
-    let c = cell_for(journal, cells, space, n, x);
-    if c >= CELLS {
+    let Some(c) = cell_for(journal, cells, space, n, x) else {
         return false;
-    }
+    };
     cells[c] = (n + 1) as u16;
     true
 }

@@ -1,10 +1,9 @@
 -- An account stands as it is read, and the arrays of sums are the sums of the definitions.
-use Prim.Native.Nat.{ℕ, ◌+◌, ◌*◌, ◌^◌, ◌≤◌, ◌<◌}
+use Prim.Native.Nat.{ℕ, ◌+◌, ◌^◌, ◌≤◌, ◌<◌}
 use native.Mathlib.Omega.{arith}
-use mathlib.Core.Path.{◌≡◌, refl, ap, ◌∙◌}
+use mathlib.Core.Path.{◌≡◌, refl}
 use mathlib.Core.List.{List}
 use lib.IntN.{ℤ}
-use lib.ListN.{get_or}
 use Rattle.lists.specs.Lists.{count}
 use Rattle.lists.proofs.ListLaws.{every-ext-tabulate}
 use Rattle.records.specs.Layout.{state_place, request_place, returned_place, threshold_place, topup_place, declines_place, declined_place}
@@ -16,9 +15,9 @@ use Rattle.rules.specs.Soundness.{state_fits, unused_zero, request_fits, topup_f
 use Rattle.plain_rows.specs.Alike.{AlikeAccount}
 use Rattle.plain_rows.proofs.AlikeLaws.{alike_is, alike-most, alike-least, alike-zeros}
 use Rattle.account_sums.specs.Tallies.{return_of}
-use Rattle.account_sums.specs.Columns.{Low, Tallies}
+use Rattle.account_sums.specs.declared.Sums.{Sums}
+use Rattle.account_sums.specs.AccountSums.{sums_over, AllLow, Tallies}
 use Rattle.sound_accounts.specs.Alone.{account_alone}
-use Rattle.sound_sums.specs.declared.accounts.Sums.{Sums}
 use Rattle.sound_sums.specs.Accounts.{sums_agree, account_passes, sums_at, sums_of, all_agree, accounts_stand}
 
 -- each clause compares a word with a small number, which does not tell alike words apart
@@ -48,17 +47,13 @@ passes-alike today s x y d r w =
     )
 
 -- a count of returned checks is small
-pub returned-small : (sums : List ℕ) (n : ℕ) → Low sums most_rows → (sums_at sums n).returned < 2 ^ 63
-unfolding sums_at
-returned-small sums n low = omega (arith, low (n * 6))
+pub returned-small : (sums : List Sums) (n : ℕ) → AllLow sums most_rows → (sums_at sums n).returned < 2 ^ 63
+returned-small sums n low = omega (arith, (low n).returned)
 
-module _ (t : List ℤ) (n : ℕ) (sums : List ℕ) (w : Tallies t n sums n) where
+module _ (t : List ℤ) (n : ℕ) (sums : List Sums) (w : Tallies t n sums n) where
   sums-are : (k : ℕ) → k < slot_count → sums_at sums k ≡ sums_of (rows_of t n) k
-  unfolding sums_at sums_of count return_of Settlement.money Settlement.debt Settlement.used Settlement.paid Settlement.owed
-  sums-are k h =
-      let z : k * 6 ≡ k * 6 + 0 = omega arith in
-      let first = ap (λ (p : ℕ). get_or sums p 0) z ∙ w.returns.each k h in
-      rw (first, w.draws.each k h, w.moneys.each k h, w.payments.each k h, w.debts.each k h, w.owings.each k h)
+  unfolding sums_over sums_of count return_of Settlement.money Settlement.debt Settlement.used Settlement.paid Settlement.owed
+  sums-are k h = w.each k h
 
   pub all-stand : (today : ℕ) (accounts : List ℤ) (c : ℕ) → c ≤ 256 → all_agree today (sums_at sums) (accounts_of accounts c) ≡ accounts_stand today (rows_of t n) (accounts_of accounts c)
   unfolding accounts_stand all_agree

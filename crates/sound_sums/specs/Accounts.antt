@@ -1,5 +1,5 @@
 -- The clauses on accounts in the groups in which the code tests them.
-use Rattle.std.specs.Prelude.{Bool, ◌&&◌, ◌||◌, ℕ, ◌+◌, ◌*◌, List, [], ◌∷◌, eqb, get_or}
+use Rattle.std.specs.Prelude.{Bool, ◌&&◌, ◌||◌, ℕ, List, [], ◌∷◌, eqb, get_or}
 use Rattle.lists.specs.Tests.{◌is◌, ◌implies◌, all_of}
 use Rattle.lists.specs.Lists.{count, every}
 use Rattle.rules.specs.Rows.{Row}
@@ -7,7 +7,8 @@ use Rattle.rules.specs.Settlement.{money, debt, used, paid, owed}
 use Rattle.rules.specs.Book.{Account, state_closed}
 use Rattle.rules.specs.Soundness.{returned_of}
 use Rattle.sound_accounts.specs.Alone.{account_alone}
-use Rattle.sound_sums.specs.declared.accounts.Sums.{Sums}
+use Rattle.account_sums.specs.declared.Sums.{Sums}
+use Rattle.account_sums.specs.AccountSums.{no_sums}
 
 -- an account and the sums of its rows
 unfoldable pub sums_agree : Account → Sums → Bool
@@ -19,15 +20,8 @@ unfoldable pub account_passes : ℕ → Sums → Account → Bool
 account_passes today s x = account_alone today x && sums_agree x s
 
 -- the sums of account n, in their array and by the definitions
-unfoldable pub sums_at : List ℕ → ℕ → Sums
-sums_at sums n = record {
-  returned = get_or sums (n * 6) 0;
-  drawn = get_or sums (n * 6 + 1) 0;
-  money = get_or sums (n * 6 + 2) 0;
-  paid = get_or sums (n * 6 + 3) 0;
-  debt = get_or sums (n * 6 + 4) 0;
-  owed = get_or sums (n * 6 + 5) 0;
-}
+abbrev pub sums_at : List Sums → ℕ → Sums
+sums_at sums n = get_or sums n no_sums
 
 unfoldable pub sums_of : List Row → ℕ → Sums
 sums_of rows n = record {

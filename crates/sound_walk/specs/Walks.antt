@@ -1,58 +1,51 @@
 -- What one pass over the rows has shown of the first i of them.
-use Rattle.std.specs.Prelude.{ℕ, ◌+◌, ◌*◌, ◌≤◌, ◌<◌, ◌≡◌, Bool, true, false, ◌&&◌, List, ℤ, length}
-use Rattle.records.specs.Layout.{row_width}
-use Rattle.records.specs.Limits.{most_rows}
-use Rattle.records.specs.Encoding.{row_at, rows_of, accounts_of}
-use Rattle.rules.specs.Rows.{Row, kind_fee}
+use Rattle.std.specs.Prelude.{ℕ, ◌+◌, ◌≤◌, ◌<◌, ◌≡◌, Bool, true, false, ◌&&◌}
+use Rattle.records.specs.Encoding.{row_at}
+use Rattle.rules.specs.Rows.{Row}
 use Rattle.plain_rows.specs.Alike.{AlikeRow}
-use Rattle.sound_header.specs.declared.frame.Frame.{Frame}
-use Rattle.sound_header.specs.Clauses.{rows_stand, passes_in, Bounds}
+use Rattle.sound_header.specs.Clauses.{rows_stand}
+use Rattle.sound_journal.specs.declared.frame.Frame.{Frame}
+use Rattle.sound_journal.specs.Passing.{frame_accounts, frame_rows, passes_in}
 use Rattle.sound_passages.specs.Trees.{passages_differ, TreesOf}
 use Rattle.sound_fees.specs.Fees.{fees_few, FeesCounted}
-use Rattle.account_sums.specs.Columns.{Tallies}
+use Rattle.account_sums.specs.AccountSums.{Tallies}
+use Rattle.sound_walk.specs.declared.Arrays.{Arrays}
+
+-- the same memory, with the same space
+pub record SameArrays (a b : Arrays) : Type 0 where
+  pub space : b.space ≡ a.space
+  pub cells : b.cells.ghost_name ≡ a.cells.ghost_name
+  pub counts : b.counts.ghost_name ≡ a.counts.ghost_name
+  pub sums : b.sums.ghost_name ≡ a.sums.ghost_name
 
 -- each stands, their passage numbers differ, and the arrays hold their trees, fees and sums
-pub record Walked (accounts journal : List ℤ) (f : Frame) (cells counts sums : List ℕ) (i : ℕ) : Type 0 where
-  pub stood : (k : ℕ) → k < i → passes_in accounts journal f (k + 1) (row_at journal k) ≡ true
-  pub trees : TreesOf f.space journal cells i
-  pub fees : FeesCounted f.space journal counts i
-  pub tallies : Tallies journal f.used sums i
+pub record Walked (f : Frame) (a : Arrays) (i : ℕ) : Type 0 where
+  pub held : f.used ≤ a.space
+  pub stood : (k : ℕ) → k < i → passes_in f (k + 1) (row_at f.journal.now k) ≡ true
+  pub trees : TreesOf a.space f.journal.now a.cells.now i
+  pub fees : FeesCounted a.space f.journal.now a.counts.now i
+  pub tallies : Tallies f.journal.now f.used a.sums.now i
 
 -- a row does not stand, or has the passage number of another, or too many fees
-abbrev pub Unfit : List ℤ → List ℤ → Frame → Type 0
-Unfit accounts journal f =
-    rows_stand (accounts_of accounts f.count) (rows_of journal f.used) f.today f.stage
-    && (passages_differ (rows_of journal f.used) && fees_few (rows_of journal f.used)) ≡ false
+abbrev pub Unfit : Frame → Type 0
+Unfit f =
+    rows_stand (frame_accounts f) (frame_rows f) f.today f.stage
+    && (passages_differ (frame_rows f) && fees_few (frame_rows f)) ≡ false
 
 -- what b says of the first i rows
-pub record Walks (accounts journal : List ℤ) (f : Frame) (cells counts sums : List ℕ) (i : ℕ) (b : Bool) : Type 0 where
-  pub good : b ≡ true → Walked accounts journal f cells counts sums i
-  pub bad : b ≡ false → Unfit accounts journal f
+pub record Walks (f : Frame) (a : Arrays) (i : ℕ) (b : Bool) : Type 0 where
+  pub good : b ≡ true → Walked f a i
+  pub bad : b ≡ false → Unfit f
 
 -- ---- one row
 
 -- row i, read as r
-pub record Turn (accounts journal : List ℤ) (f : Frame) (i : ℕ) (r : Row) : Type 0 where
-  pub bounds : Bounds accounts journal f
+pub record Turn (f : Frame) (i : ℕ) (r : Row) : Type 0 where
   pub inside : i < f.used
-  pub alike : AlikeRow r (row_at journal i)
+  pub alike : AlikeRow r (row_at f.journal.now i)
 
--- it leads from these arrays to those
-abbrev pub Turns : List ℤ → List ℤ → Frame → ℕ → List ℕ → List ℕ → List ℕ → List ℕ → List ℕ → List ℕ → Bool → Type 0
-Turns accounts journal f i cells counts sums cells₁ counts₁ sums₁ b =
-    Walked accounts journal f cells counts sums i → Walks accounts journal f cells₁ counts₁ sums₁ (i + 1) b
-
--- a fee that is row i and names a row before it, and what b says of it
-pub record FeeTurn (journal : List ℤ) (f : Frame) (i : ℕ) (r : Row) : Type 0 where
-  pub room : f.used * row_width ≤ length journal
-  pub few : f.used ≤ most_rows
-  pub held : f.used ≤ f.space
+-- row i is r, and stands
+pub record Stands (f : Frame) (i : ℕ) (r : Row) : Type 0 where
   pub inside : i < f.used
-  pub same : r ≡ row_at journal i
-  pub fee : r.kind ≡ kind_fee
-  pub earlier : r.reference < i + 1
-
-pub record FeeTurns (journal : List ℤ) (f : Frame) (i : ℕ) (counts sums : List ℕ) (b : Bool) : Type 0 where
-  pub counted : b ≡ true → FeesCounted f.space journal counts (i + 1)
-  pub added : b ≡ true → Tallies journal f.used sums (i + 1)
-  pub over : b ≡ false → fees_few (rows_of journal f.used) ≡ false
+  pub same : r ≡ row_at f.journal.now i
+  pub passes : passes_in f (i + 1) r ≡ true

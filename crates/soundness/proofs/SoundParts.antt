@@ -5,17 +5,16 @@ use Prim.Native.Nat.{ℕ, ◌+◌, ◌/◌, ◌≤◌, min}
 use native.Mathlib.Omega.{arith}
 use mathlib.Core.List.{List}
 use lib.IntN.{ℤ}
-use lib.ListN.{length, replicate}
+use lib.ListN.{length}
 use lib.Dec.{leb}
 use borrow.Author.Tests.{le-leb}
-use borrow.Author.Count.{below_none}
 use Rattle.lists.specs.Tests.{all_of}
 use Rattle.lists.specs.Lists.{every}
 use Rattle.lists.proofs.TestLaws.{and_left, and_right, and_then}
 use Rattle.lists.proofs.ListLaws.{every-ext, every-and, every-tabulate, length-tabulate}
 use Rattle.records.specs.Layout.{day_place, used_place, header_schedule, stage_place, account_width, row_width}
 use Rattle.records.specs.Encoding.{word, row_at, rows_of, accounts_of}
-use Rattle.records.specs.Limits.{most_rows, final_day}
+use Rattle.records.specs.Limits.{final_day}
 use Rattle.rules.specs.Schedule.{schedule_fits}
 use Rattle.rules.specs.RateLists.{lists_fit}
 use Rattle.rules.specs.Book.{Book}
@@ -23,21 +22,22 @@ use Rattle.rules.specs.Opening.{day_fits, sizes_fit}
 use Rattle.rules.specs.Soundness.{passage_once, fees_fit, row_sound, returned_fits, used_is_paid, no_idle_money, closed_clear, account_sound, sound}
 use Rattle.rules.specs.Tables.{Tables, accounts_in, room_in, rows_used, schedule_from, book_of, whole_records, lengths_fit, used_fits, later_rows_zero, unused_lists_zero, sound_tables}
 use Rattle.rules.proofs.StorableLaws.{between_le, schedule-storable}
-use Rattle.sound_header.specs.declared.frame.Frame.{Frame}
-use Rattle.sound_header.specs.Clauses.{own_words, row_alone, row_passes, rows_stand, rest_zero, tables_at, Bounds}
+use Rattle.sound_header.specs.Clauses.{own_words, row_alone, row_passes, rows_stand, rest_zero, tables_at}
+use Rattle.sound_journal.specs.declared.frame.Frame.{Frame}
+use Rattle.sound_journal.specs.Bounds.{Bounds}
+use Rattle.sound_journal.specs.Passing.{frame_accounts, frame_rows}
 use Rattle.sound_header.proofs.LengthLaws.{lengths-known}
 use Rattle.sound_lists.specs.Standing.{lists_stand}
-use Rattle.sound_passages.specs.Trees.{passages_differ, TreesOf}
+use Rattle.sound_passages.specs.Trees.{passages_differ}
 use Rattle.sound_passages.proofs.PassageLaws.{clean-differ}
-use Rattle.sound_fees.specs.Fees.{fees_few, FeesCounted}
+use Rattle.sound_fees.specs.Fees.{fees_few}
 use Rattle.sound_fees.proofs.FeeLaws.{fees-few}
 use Rattle.soundness.specs.Book.{book_passes}
 use Rattle.sound_sums.specs.Accounts.{sums_agree, account_passes, sums_at, sums_of, all_agree, accounts_stand}
 use Rattle.sound_sums.proofs.AccountLaws.{all-stand}
 use Rattle.sound_accounts.specs.Alone.{account_alone}
-use Rattle.account_sums.proofs.ColumnLaws.{tallies-none}
+use Rattle.sound_walk.specs.declared.Arrays.{Arrays}
 use Rattle.sound_walk.specs.Walks.{Walked, Unfit}
-use Rattle.account_sums.specs.Columns.{sums_size}
 
 -- ---- rows and accounts
 
@@ -158,7 +158,7 @@ module _ (h a j : List ℤ) (used today stage : ℕ) (f : Fit h a j used today s
       schedule-fits : schedule_fits (book_of tables).schedule ≡ true
       schedule-fits = unfold book_of in f.schedule
 
-  pub fit-bounds : Bounds a j (record { count = length a / account_width; used = used; space = most_rows; today = today; stage = stage })
+  pub fit-bounds : Bounds a j (length a / account_width) used today stage
   unfolding day_fits schedule_from
   fit-bounds =
       let l = lengths-known h a j f.lengths in
@@ -166,7 +166,6 @@ module _ (h a j : List ℤ) (used today stage : ℕ) (f : Fit h a j used today s
       record {
         room = omega arith;
         few = omega arith;
-        held = omega arith;
         slots = omega arith;
         fewer = omega arith;
         day = between_le 1 final_day today f.day;
@@ -175,26 +174,13 @@ module _ (h a j : List ℤ) (used today stage : ℕ) (f : Fit h a j used today s
 
 -- ---- the rows once they are walked
 
--- arrays with space for fewer rows, but for the used ones
-pub bounds-space : (accounts journal : List ℤ) (f : Frame) → Bounds accounts journal f → (n : ℕ) → f.used ≤ n → Bounds accounts journal (record { count = f.count; used = f.used; space = n; today = f.today; stage = f.stage })
-bounds-space accounts journal f b n h = record { room = b.room; few = b.few; held = h; slots = b.slots; fewer = b.fewer; day = b.day; length = b.length }
-
--- no sums before the first row
-pub walked_none : (accounts journal : List ℤ) (f : Frame) {cells counts : List ℕ} → TreesOf f.space journal cells 0 → FeesCounted f.space journal counts 0 → Walked accounts journal f cells counts (replicate sums_size 0) 0
-walked_none accounts journal f g c = record {
-  stood = below_none _;
-  trees = g;
-  fees = c;
-  tallies = tallies-none journal f.used;
-}
-
-module _ (accounts journal : List ℤ) (f : Frame) where
+module _ (f : Frame) where
   abbrev standing : Bool
-  standing = book_passes (accounts_of accounts f.count) (rows_of journal f.used) f.today f.stage
+  standing = book_passes (frame_accounts f) (frame_rows f) f.today f.stage
 
-  pub unfit-passes : Unfit accounts journal f → false ≡ standing
+  pub unfit-passes : Unfit f → false ≡ standing
   unfolding book_passes all_of
-  unfit-passes e = sym (regroup (rows_stand (accounts_of accounts f.count) (rows_of journal f.used) f.today f.stage) (passages_differ (rows_of journal f.used)) (fees_few (rows_of journal f.used)) _ e)
+  unfit-passes e = sym (regroup (rows_stand (frame_accounts f) (frame_rows f) f.today f.stage) (passages_differ (frame_rows f)) (fees_few (frame_rows f)) _ e)
     where
       regroup : (a b c d : Bool) → a && (b && c) ≡ false → a && (b && (c && d)) ≡ false
       regroup true true true d e = absurd (true≢false e)
@@ -203,16 +189,17 @@ module _ (accounts journal : List ℤ) (f : Frame) where
       regroup false b c d e = refl
 
   -- where the rows have passed, the accounts decide
-  module _ (b : Bounds accounts journal f) {cells counts sums : List ℕ} (w : Walked accounts journal f cells counts sums f.used) where
-    rows-stand : rows_stand (accounts_of accounts f.count) (rows_of journal f.used) f.today f.stage ≡ true
+  module _ {a : Arrays} (w : Walked f a f.used) where
+    rows-stand : rows_stand (frame_accounts f) (frame_rows f) f.today f.stage ≡ true
     unfolding rows_stand
-    rows-stand = every-tabulate _ (row_at journal) f.used w.stood
+    rows-stand = every-tabulate _ (row_at f.journal.now) f.used w.stood
 
-    passages-differ : passages_differ (rows_of journal f.used) ≡ true
-    passages-differ = clean-differ journal f.used w.trees.clean
+    passages-differ : passages_differ (frame_rows f) ≡ true
+    passages-differ = clean-differ f.journal.now f.used w.trees.clean
 
-    pub sums-decide : all_agree f.today (sums_at sums) (accounts_of accounts f.count) ≡ standing
+    pub sums-decide : all_agree f.today (sums_at a.sums.now) (frame_accounts f) ≡ standing
     unfolding book_passes all_of
     sums-decide =
-        all-stand journal f.used sums w.tallies f.today accounts f.count b.fewer
-        ∙ rw (rows-stand, passages-differ, fees-few f.space journal counts f.used b.held w.fees, and-true)
+        let b = f.bounds in
+        all-stand f.journal.now f.used a.sums.now w.tallies f.today f.accounts.now f.count b.fewer
+        ∙ rw (rows-stand, passages-differ, fees-few a.space f.journal.now a.counts.now f.used w.held w.fees, and-true)

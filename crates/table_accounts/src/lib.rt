@@ -31,31 +31,17 @@ pub fn read_account(accounts: &[i64], i: usize) -> Account
     }
 }
 
-// An unused account: all words 0.
-pub fn unused_account() -> Account
-    ensures { result ≡ unused }
-{
-    Account {
-        state: 0,
-        request: 0,
-        returned: 0,
-        threshold: 0,
-        topup: 0,
-        declines: 0,
-        declined: 0,
-    }
-}
-
 // Account number n of the table's, counted from 1; unused where there is none.
+// Kept: the definitions' account is total too (Book.account_no), and what is asked of one is whether it is used.
 pub fn account_numbered(accounts: &[i64], count: usize, n: u64) -> Account
     requires { count * account_width ≤ length accounts.now }
     ensures { result ≡ account_no (accounts_of accounts.now count) n }
 {
     if n == 0 {
-        return unused_account();
+        return Account::default();
     }
     if n > count as u64 {
-        return unused_account();
+        return Account::default();
     }
     read_account(accounts, (n - 1) as usize)
 }

@@ -24,10 +24,8 @@ pub fn lists_used(header: &[i64]) -> usize
     ensures { result ≡ lists_used header.now }
 {
     let mut n = 0;
-    let mut i = 0;
-    while i < LATER_LISTS {
+    for i in 0..LATER_LISTS {
         n += (0 < later_day(header, i)) as usize;
-        i += 1;
     }
     n
 }
@@ -49,13 +47,11 @@ pub fn list_on(header: &[i64], day: u64) -> usize
     requires { ListsStand header.now }
     ensures { OnDay header.now day result }
 {
-    let mut i = 0;
-    while i < LATER_LISTS {
+    for i in 0..LATER_LISTS {
         let begins = later_day(header, i);
         if (begins == 0) | (day < begins) {
             return i;
         }
-        i += 1;
     }
-    i
+    LATER_LISTS
 }

@@ -1,17 +1,9 @@
 // One word of a table as a number, and a difference as a word: the only functions that see a signed number.
 ghost use Rattle.std.specs.Prelude.{◌≡◌, ◌^◌, ◌<◌, pos, length, set};
-ghost use Rattle.records.specs.Encoding.{nat_of, word};
+ghost use Rattle.records.specs.Encoding.{word};
 ghost use Rattle.rules.specs.Book.{minus};
 
-// What a negative word reads as: past every limit.
-const PAST_EVERY_LIMIT: u64 = 9223372036854775808;
-
-// A word as a number.
-pub fn natural(x: i64) -> u64
-    ensures { result ≡ nat_of x }
-{
-    if x < 0 { PAST_EVERY_LIMIT } else { x as u64 }
-}
+use records::words::natural;
 
 // The word at a place.
 pub fn get(t: &[i64], i: usize) -> u64

@@ -13,14 +13,14 @@ use Rattle.records.specs.Layout.{header_schedule, fee2_place}
 use Rattle.records.specs.Encoding.{word}
 use Rattle.records.specs.Limits.{hold_days, closing_days}
 use Rattle.rules.specs.Schedule.{Schedule, stage_fee}
-use Rattle.rules.specs.Rows.{Row, dispute_held, last_stage, toll, held_toll, unsettled, source, debit}
+use Rattle.rules.specs.Rows.{Row, Test, dispute_held, last_stage, toll, held_toll, unsettled, source, debit}
 use Rattle.rules.specs.Soundness.{kind_fits}
 use Rattle.rules.specs.Book.{Account, state_pending}
 use Rattle.rules.specs.Tick.{hold_ends, rises}
 use Rattle.rules.specs.Tables.{schedule_from}
 use Rattle.preservation.proofs.TickSteps.{rising}
-use Rattle.account_sums.proofs.SumsLaws.{source-no-debit, no-source-debit}
-use Rattle.tick_base.specs.Remainders.{days_over}
+use Rattle.account_sums.proofs.SumsLaws.{Share, source-no-debit, no-source-debit}
+use Rattle.tick_base.specs.Remainders.{counted, days_over}
 
 -- ---- the fees of a header
 
@@ -56,6 +56,12 @@ riser-low today r e = (rising today r e).under
 pub not-due : (today : ℕ) (r : Row) → (r.due ≡ today → ⊥) → rises today r ≡ false
 unfolding rises
 not-due today r n = rw (ne_eqb r.due today n) (and-false (toll r && not (held_toll r) && unsettled r && ltb r.mark last_stage))
+
+-- ---- counts
+
+pub share-counted : (u : Test) → Share (counted u) u (λ r. 1)
+unfolding counted
+share-counted u = record { form = λ n r. refl }
 
 -- ---- days
 

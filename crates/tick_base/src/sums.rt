@@ -1,5 +1,5 @@
 // What remains of each account's sources and debits, in one pass.
-ghost use Rattle.std.specs.Prelude.{◌+◌, ◌<◌};
+ghost use Rattle.std.specs.Prelude.{ℕ, ◌+◌, ◌<◌, List, ℤ};
 ghost use Rattle.account_sums.specs.Tallies.{Countable};
 ghost use Rattle.tick_base.specs.Remainders.{Remainders};
 
@@ -8,37 +8,46 @@ use plain_rows::{small_account, small_amount, small_settled};
 use records::codes::{KIND_CREDIT, KIND_PAYMENT};
 use table_rows::kind_at;
 
-// Row i, to its account's money or to what the account owes.
-pub fn add_remainder(
-    journal: &[i64],
-    used: usize,
-    i: usize,
-    money: &mut [u64; SLOTS],
-    owed: &mut [u64; SLOTS],
-)
-    requires { Countable journal.now used × (i < used) × Remainders journal.now money.old owed.old i }
-    ensures { Remainders journal.now money.new owed.new (i + 1) }
-{
-    let a = small_account(journal, i) as usize;
-    let left = small_amount(journal, i) - small_settled(journal, i);
-    let kind = kind_at(journal, i);
-    let source = (kind == KIND_PAYMENT) | (kind == KIND_CREDIT);
-    add(money, a, part(source, left));
-    add(owed, a, part(!source, left));
+// By account number what remains of the account's sources, its money, and of its debits, what it owes. 4 KiB of a caller's stack.
+#[derive(Drop)]
+pub struct Remains {
+    pub money: [u64; SLOTS],
+    pub owed: [u64; SLOTS],
 }
 
-pub fn add_remainders(
-    journal: &[i64],
-    used: usize,
-    money: &mut [u64; SLOTS],
-    owed: &mut [u64; SLOTS],
-)
-    requires { Countable journal.now used × Remainders journal.now money.old owed.old 0 }
-    ensures { Remainders journal.now money.new owed.new used }
-{
-    let mut i = 0;
-    while i < used {
-        add_remainder(journal, used, i, money, owed);
-        i += 1;
+impl Remains {
+    // Of no rows.
+    pub fn none() -> Remains
+        ensures { (t : List ℤ) → Remainders t result 0 }
+    {
+        Remains {
+            money: [0; SLOTS],
+            owed: [0; SLOTS],
+        }
+    }
+
+    // Row i, to its account's money or to what the account owes.
+    pub fn add_row(&mut self, journal: &[i64], i: usize)
+        requires { (used : ℕ) × Countable journal.now used × (i < used) × Remainders journal.now self.old i }
+        ensures { Remainders journal.now self.new (i + 1) }
+    {
+        let a = small_account(journal, i) as usize;
+        let left = small_amount(journal, i) - small_settled(journal, i);
+        let kind = kind_at(journal, i);
+        let source = (kind == KIND_PAYMENT) | (kind == KIND_CREDIT);
+        add(&mut self.money, a, part(source, left));
+        add(&mut self.owed, a, part(!source, left));
+    }
+
+    // Of the used rows.
+    pub fn of_rows(journal: &[i64], used: usize) -> Remains
+        requires { Countable journal.now used }
+        ensures { Remainders journal.now result used }
+    {
+        let mut sums = Remains::none();
+        for i in 0..used {
+            sums.add_row(journal, i);
+        }
+        sums
     }
 }

@@ -16,12 +16,14 @@ use Rattle.records.proofs.FieldLaws.{storable-set}
 use Rattle.records.specs.AccountOperations.{closed}
 use Rattle.rules.specs.Rows.{Row, source, with_settled}
 use Rattle.rules.specs.Book.{Account, state_closed}
-use Rattle.tables.specs.Changes.{RowChanged, AccountChanged}
+use Rattle.row_passes.specs.Passes.{RowLeft}
+use Rattle.tables.specs.Changes.{RowIn, RowChanged, AccountChanged}
 use Rattle.tables.proofs.ChangeLaws.{unchanged, changed-append}
 use Rattle.posting.specs.Posts.{tables_at, RowRoom, RowAdded}
 use Rattle.posting.specs.Written.{UsedRows}
 use Rattle.posting_laws.proofs.UsedRowsLaws.{rows_before, rows-add, rows-room}
-use Rattle.tick_close.specs.Closing.{closes_by, close_by, refunds_by, refund_of, Closable, ClosedOne, use_up_by, close_at, refund_at, refunds_to, AllClosable, ClosedTo}
+use Rattle.tick_base.specs.declared.sums.Remains.{Remains}
+use Rattle.tick_close.specs.Closing.{closes_by, close_by, refunds_by, refund_of, Closable, ClosedOne, use_up_by, Usable, UsableRows, close_at, refund_at, refunds_to, AllClosable, ClosedTo}
 
 -- ---- one row: n is the account of row i, read first
 
@@ -47,6 +49,10 @@ module _ (today : ℕ) (a : List ℤ) (owed : List ℕ) (t : List ℤ) (i n : �
     source-used u f c =
         let q : closes_by today (get_or owed (row_at t i).account 0) (account_at a ((row_at t i).account - 1)) ≡ true = rw k at g in
         rw (q, ← e, f) (rw (← e) at c)
+
+-- each row is still one of an account of the table after those before it have been used
+pub usable-left : (a t u : List ℤ) (used i : ℕ) → UsableRows a t used → RowLeft t u used i → RowIn u i × Usable a (row_at u i)
+usable-left a t u used i e l = (omega (arith, l.inside, l.size, e.room), rw l.same (e.each i l.inside))
 
 -- ---- one account
 
@@ -103,14 +109,14 @@ module _ (today money owed : ℕ) (h a j : List ℤ) (i : ℕ) where
 
 -- ---- the accounts one after the other
 
-module _ (h a j : List ℤ) (today : ℕ) (money owed : List ℕ) where
+module _ (h a j : List ℤ) (today : ℕ) (r : Remains) where
   abbrev base : List Row
   base = rows_of j (word h used_place)
 
   abbrev count : ℕ
   count = length a / account_width
 
-  pub closed_none : ClosedTo h a j h a j today money owed 0
+  pub closed_none : ClosedTo h a j h a j today r 0
   unfolding tabulate gather_from change_from
   closed_none = record {
     size = refl;
@@ -119,23 +125,23 @@ module _ (h a j : List ℤ) (today : ℕ) (money owed : List ℕ) where
     rows = rw (append-nil base) (rows_before (tables_at h a j));
   }
 
-  module _ (c : AllClosable h a j today money owed) (h' a' j' : List ℤ) (i : ℕ) (l : i < count) (m : ClosedTo h a j h' a' j' today money owed i) where
+  module _ (c : AllClosable h a j today r) (h' a' j' : List ℤ) (i : ℕ) (l : i < count) (m : ClosedTo h a j h' a' j' today r i) where
     abbrev cash : ℕ
-    cash = get_or money (i + 1) 0
+    cash = get_or r.money (i + 1) 0
 
     abbrev debt : ℕ
-    debt = get_or owed (i + 1) 0
+    debt = get_or r.owed (i + 1) 0
 
     same-account : account_at a' i ≡ account_at a i
     same-account = m.left i (omega arith)
 
     -- one refund more is one of all
-    refund-fits : refunds_by today cash debt (account_at a i) ≡ true → length (base ++ refunds_to today money owed a i) < length j / row_width
+    refund-fits : refunds_by today cash debt (account_at a i) ≡ true → length (base ++ refunds_to today r a i) < length j / row_width
     unfolding refund_at
     refund-fits e =
-        let f = length-gather-tabulate (refund_at today money owed) (account_at a) i in
-        let g = length-gather-le (refund_at today money owed) (account_at a) (i + 1) count (omega arith) in
-        omega (arith, rw e at f, length-append base (refunds_to today money owed a i), length-tabulate (row_at j) (word h used_place), c.room)
+        let f = length-gather-tabulate (refund_at today r) (account_at a) i in
+        let g = length-gather-le (refund_at today r) (account_at a) (i + 1) count (omega arith) in
+        omega (arith, rw e at f, length-append base (refunds_to today r a i), length-tabulate (row_at j) (word h used_place), c.room)
 
     pub closable-next : Closable h' a' j' i today cash debt
     closable-next = record {
@@ -144,26 +150,26 @@ module _ (h a j : List ℤ) (today : ℕ) (money owed : List ℕ) where
       holds = rw same-account (c.holds i l);
       day = c.day;
       amount = c.amounts (i + 1) (omega (arith, c.few));
-      room = λ e. rows-room (tables_at h a j) h' j' (base ++ refunds_to today money owed a i) m.rows c.header (refund-fits (rw same-account at e));
+      room = λ e. rows-room (tables_at h a j) h' j' (base ++ refunds_to today r a i) m.rows c.header (refund-fits (rw same-account at e));
     }
 
-    pub closed-more : (h'' a'' j'' : List ℤ) → ClosedOne h' h'' a' a'' j' j'' i today cash debt → ClosedTo h a j h'' a'' j'' today money owed (i + 1)
+    pub closed-more : (h'' a'' j'' : List ℤ) → ClosedOne h' h'' a' a'' j' j'' i today cash debt → ClosedTo h a j h'' a'' j'' today r (i + 1)
     closed-more h'' a'' j'' w =
         record {
           size = w.account.size ∙ m.size;
           done = changed-append account_at a' a'' i (close_by today debt (account_at a' i)) w.account ∙ next-account;
           left = λ k q. w.account.others k (λ z. omega arith) ∙ m.left k (omega arith);
-          rows = rw (gather-tabulate (refund_at today money owed) (account_at a) i, ← append_assoc base (refunds_to today money owed a i) (refund_at today money owed (i + 1) (account_at a i)))
+          rows = rw (gather-tabulate (refund_at today r) (account_at a) i, ← append_assoc base (refunds_to today r a i) (refund_at today r (i + 1) (account_at a i)))
               (go (refunds_by today cash debt (account_at a i)) refl);
         }
       where
-        next-account : accounts_of a' i ++ (close_by today debt (account_at a' i) ∷ []) ≡ change_from (close_at today owed) 1 (accounts_of a (i + 1))
-        next-account = unfold close_at in (rw (same-account, m.done, change-tabulate (close_at today owed) (account_at a) i))
+        next-account : accounts_of a' i ++ (close_by today debt (account_at a' i) ∷ []) ≡ change_from (close_at today r) 1 (accounts_of a (i + 1))
+        next-account = unfold close_at in (rw (same-account, m.done, change-tabulate (close_at today r) (account_at a) i))
 
         go : (v : Bool) → refunds_by today cash debt (account_at a i) ≡ v
-            → UsedRows (tables_at h a j) h'' j'' ((base ++ refunds_to today money owed a i) ++ refund_at today money owed (i + 1) (account_at a i))
+            → UsedRows (tables_at h a j) h'' j'' ((base ++ refunds_to today r a i) ++ refund_at today r (i + 1) (account_at a i))
         go true e = unfold refund_at in
-            (rw e (rows-add (tables_at h a j) h' j' j'' (base ++ refunds_to today money owed a i) m.rows c.header h'' (refund_of today cash (i + 1)) (w.refund (rw same-account e))))
+            (rw e (rows-add (tables_at h a j) h' j' j'' (base ++ refunds_to today r a i) m.rows c.header h'' (refund_of today cash (i + 1)) (w.refund (rw same-account e))))
         go false e =
             let same = w.none (rw same-account e) in
-            unfold refund_at in (rw (e, append-nil (base ++ refunds_to today money owed a i), same.0, same.1) m.rows)
+            unfold refund_at in (rw (e, append-nil (base ++ refunds_to today r a i), same.0, same.1) m.rows)

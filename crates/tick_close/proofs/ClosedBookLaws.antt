@@ -37,6 +37,7 @@ use Rattle.posting.specs.Written.{Written}
 use Rattle.posting.specs.Written.{UsedRows}
 use Rattle.posting_laws.proofs.UsedRowsLaws.{rows_before, rows-map, rows_then, rows_written}
 use Rattle.tick_base.specs.Midway.{Midway}
+use Rattle.tick_base.specs.declared.sums.Remains.{Remains}
 use Rattle.tick_base.specs.Remainders.{Remainders, days_over}
 use Rattle.tick_base.proofs.MidwayLaws.{midway-header, midway-rows, midway-length, midway-few, midway-room, midway-count, midway-each, midway-countable}
 use Rattle.tick_close.specs.Closing.{closes_by, close_by, refunds_by, use_up_by, UsableRows, close_at, refund_at, refunds_to, AllClosable, ClosedTo}
@@ -96,24 +97,24 @@ module _ (t : Tables) (m : Midway (word t.header day_place) t) where
 
   -- ---- the arrays decide as the book does
 
-  module _ (moneys owings : List ℕ) (r : Remainders t.journal moneys owings (rows_used t)) where
-    money-read : (n : ℕ) → n ≤ most_accounts → get_or moneys n 0 ≡ money n b.rows
+  module _ (s : Remains) (r : Remainders t.journal s (rows_used t)) where
+    money-read : (n : ℕ) → n ≤ most_accounts → get_or s.money n 0 ≡ money n b.rows
     unfolding money
     money-read n l = r.moneys.each n (omega arith) ∙ rw (midway-rows _ t m)
 
-    owed-read : (n : ℕ) → n ≤ most_accounts → get_or owings n 0 ≡ owed n b.rows
+    owed-read : (n : ℕ) → n ≤ most_accounts → get_or s.owed n 0 ≡ owed n b.rows
     unfolding owed
     owed-read n l = r.owings.each n (omega arith) ∙ rw (midway-rows _ t m)
 
-    closes-read : (n : ℕ) → n ≤ most_accounts → (x : Account) → closes_by (word t.header day_place) (get_or owings n 0) x ≡ closes b n x
+    closes-read : (n : ℕ) → n ≤ most_accounts → (x : Account) → closes_by (word t.header day_place) (get_or s.owed n 0) x ≡ closes b n x
     unfolding closes_by closes days_over book_of
     closes-read n l x = rw (owed-read n l, owed-test n b.rows)
 
-    close-read : (n : ℕ) → n ≤ most_accounts → (x : Account) → close_at (word t.header day_place) owings n x ≡ close_if b n x
+    close-read : (n : ℕ) → n ≤ most_accounts → (x : Account) → close_at (word t.header day_place) s n x ≡ close_if b n x
     unfolding close_at close_by close_if
     close-read n l x = rw (closes-read n l x)
 
-    refund-read : (n : ℕ) → n ≤ most_accounts → (x : Account) → refund_at (word t.header day_place) moneys owings n x ≡ refund_row b n x
+    refund-read : (n : ℕ) → n ≤ most_accounts → (x : Account) → refund_at (word t.header day_place) s n x ≡ refund_row b n x
     unfolding refund_at refunds_by refund_row book_of
     refund-read n l x = rw (closes-read n l x, money-read n l)
 
@@ -123,7 +124,7 @@ module _ (t : Tables) (m : Midway (word t.header day_place) t) where
     unfolding book_of
     account-read n l h = numbered-at (account_at t.accounts) (accounts_in t) n unused (λ z. omega arith) h
 
-    use-read : (k : ℕ) → k < rows_used t → use_up_by (word t.header day_place) t.accounts owings (row_at t.journal k) ≡ use_up b (row_at t.journal k)
+    use-read : (k : ℕ) → k < rows_used t → use_up_by (word t.header day_place) t.accounts s.owed (row_at t.journal k) ≡ use_up b (row_at t.journal k)
     unfolding use_up_by use_up
     use-read k h =
         let i = inside k h in
@@ -135,27 +136,27 @@ module _ (t : Tables) (m : Midway (word t.header day_place) t) where
     numbered-few : (n k : ℕ) → n ≡ 1 + k → k < length b.accounts → n ≤ most_accounts
     numbered-few n k e h = omega (arith, accounts-length, midway-count _ t m)
 
-    refunds-read : refunds_to (word t.header day_place) moneys owings t.accounts (accounts_in t) ≡ gather (refund_row b) b.accounts
+    refunds-read : refunds_to (word t.header day_place) s t.accounts (accounts_in t) ≡ gather (refund_row b) b.accounts
     refunds-read =
         rw (← accounts-same)
-        (gather-same (refund_at (word t.header day_place) moneys owings) (refund_row b) 1 b.accounts b.accounts unused refl
+        (gather-same (refund_at (word t.header day_place) s) (refund_row b) 1 b.accounts b.accounts unused refl
         (λ n k e h. refund-read n (numbered-few n k e h) (get_or b.accounts k unused)))
 
-    accounts-read : change (close_at (word t.header day_place) owings) (accounts_of t.accounts (accounts_in t)) ≡ change (close_if b) b.accounts
+    accounts-read : change (close_at (word t.header day_place) s) (accounts_of t.accounts (accounts_in t)) ≡ change (close_if b) b.accounts
     accounts-read =
         rw (← accounts-same)
-        (change-same (close_at (word t.header day_place) owings) (close_if b) 1 b.accounts unused
+        (change-same (close_at (word t.header day_place) s) (close_if b) 1 b.accounts unused
         (λ n k e h. close-read n (numbered-few n k e h) (get_or b.accounts k unused)))
 
-    moneys-small : (n : ℕ) → n ≤ most_accounts → get_or moneys n 0 < 2 ^ 63
+    moneys-small : (n : ℕ) → n ≤ most_accounts → get_or s.money n 0 < 2 ^ 63
     unfolding only
     moneys-small n l =
-        let s = tallied-small money_of slot_count t.journal highest_refund moneys (rows_used t) n r.moneys (omega arith) (λ k h.
+        let c = tallied-small money_of slot_count t.journal highest_refund s.money (rows_used t) n r.moneys (omega arith) (λ k h.
         cond_either (λ v. v ≤ highest_refund) (source_of n (row_at t.journal k)) (remaining (row_at t.journal k)) 0 (omega (arith, (midway-countable _ t m).amount k h)) (omega arith)) in
         let f = mul-le-mul_right {m = rows_used t} {n = most_rows} highest_refund (midway-few _ t m) in
         omega arith
 
-    module _ (j : List ℤ) (w : RowsMapped (use_up_by (word t.header day_place) t.accounts owings) t.journal j (rows_used t)) where
+    module _ (j : List ℤ) (w : RowsMapped (use_up_by (word t.header day_place) t.accounts s.owed) t.journal j (rows_used t)) where
       mapped : RowsMapped (use_up b) t.journal j (rows_used t)
       mapped = record { size = w.size; done = λ k h. w.done k h ∙ use-read k h; left = w.left }
 
@@ -170,7 +171,7 @@ module _ (t : Tables) (m : Midway (word t.header day_place) t) where
           length-append (map (use_up b) b.rows) (gather (refund_row b) b.accounts)
           ∙ ap (λ (n : ℕ). n + length (gather (refund_row b) b.accounts)) (length-map b.rows (use_up b) ∙ midway-length _ t m)
 
-      pub all-closable : length (close_accounts b).rows ≤ room_in t → AllClosable t.header t.accounts j (word t.header day_place) moneys owings
+      pub all-closable : length (close_accounts b).rows ≤ room_in t → AllClosable t.header t.accounts j (word t.header day_place) s
       all-closable l = record {
         header = midway-header _ t m;
         few = midway-count _ t m;
@@ -183,7 +184,7 @@ module _ (t : Tables) (m : Midway (word t.header day_place) t) where
           day-small : word t.header day_place < 2 ^ 63
           day-small = unfold book_of in (omega (arith, day-le _ b m.near))
 
-      pub closed-written : (h a j' : List ℤ) → ClosedTo t.header t.accounts j h a j' (word t.header day_place) moneys owings (accounts_in t)
+      pub closed-written : (h a j' : List ℤ) → ClosedTo t.header t.accounts j h a j' (word t.header day_place) s (accounts_in t)
           → Written t (tables_at h a j') (close_accounts b)
       unfolding close_accounts
       closed-written h a j' c =

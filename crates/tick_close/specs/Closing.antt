@@ -1,5 +1,5 @@
--- The closings of a tick in the terms in which code carries them out: `owed` and `money` are what an account owes and has, or
--- arrays that hold it at each account number.
+-- The closings of a tick in the terms in which code carries them out: `owed` and `money` are what an account owes and has, and `r` holds
+-- it at each account number.
 use Rattle.std.specs.Prelude.{◌≡◌, Bool, true, false, cond, ◌&&◌, ℕ, suc, ◌+◌, ◌*◌, ◌-◌, ◌/◌, ◌^◌, ◌≤◌, ◌<◌, List, ◌++◌, length, get_or, ℤ, ltb}
 use Rattle.records.specs.Layout.{header_width, day_place, used_place, row_width, account_width}
 use Rattle.records.specs.Encoding.{word, row_at, rows_of, account_at, accounts_of, StorableAccount}
@@ -15,6 +15,7 @@ use Rattle.tables.specs.Changes.{AccountIn, AccountChanged}
 use Rattle.posting.specs.Posts.{tables_at, RowRoom, RowAdded}
 use Rattle.posting.specs.Written.{UsedRows}
 use Rattle.tick_base.specs.Midway.{Midway}
+use Rattle.tick_base.specs.declared.sums.Remains.{Remains}
 use Rattle.tick_base.specs.Remainders.{days_over}
 
 -- ---- one account
@@ -69,31 +70,31 @@ pub record UsableRows (a j : List ℤ) (used : ℕ) : Type 0 where
 
 -- ---- all accounts, by account number
 
-unfoldable pub close_at : ℕ → List ℕ → ℕ → Account → Account
-close_at today owed n x = close_by today (get_or owed n 0) x
+unfoldable pub close_at : ℕ → Remains → ℕ → Account → Account
+close_at today r n x = close_by today (get_or r.owed n 0) x
 
-unfoldable pub refund_at : ℕ → List ℕ → List ℕ → ℕ → Account → List Row
-refund_at today money owed n x = one (refunds_by today (get_or money n 0) (get_or owed n 0) x) (refund_of today (get_or money n 0) n)
+unfoldable pub refund_at : ℕ → Remains → ℕ → Account → List Row
+refund_at today r n x = one (refunds_by today (get_or r.money n 0) (get_or r.owed n 0) x) (refund_of today (get_or r.money n 0) n)
 
 -- the refunds of the first i accounts
-abbrev pub refunds_to : ℕ → List ℕ → List ℕ → List ℤ → ℕ → List Row
-refunds_to today money owed a i = gather (refund_at today money owed) (accounts_of a i)
+abbrev pub refunds_to : ℕ → Remains → List ℤ → ℕ → List Row
+refunds_to today r a i = gather (refund_at today r) (accounts_of a i)
 
 -- each account can be closed and all refunds added
-pub record AllClosable (h a j : List ℤ) (today : ℕ) (money owed : List ℕ) : Type 0 where
+pub record AllClosable (h a j : List ℤ) (today : ℕ) (r : Remains) : Type 0 where
   pub header : length h ≡ header_width
   pub few : length a / account_width ≤ most_accounts
   pub holds : (k : ℕ) → k < length a / account_width → StorableAccount (account_at a k)
   pub day : today < 2 ^ 63
-  pub amounts : (n : ℕ) → n ≤ most_accounts → get_or money n 0 < 2 ^ 63
-  pub room : word h used_place + length (refunds_to today money owed a (length a / account_width)) ≤ length j / row_width
+  pub amounts : (n : ℕ) → n ≤ most_accounts → get_or r.money n 0 < 2 ^ 63
+  pub room : word h used_place + length (refunds_to today r a (length a / account_width)) ≤ length j / row_width
 
 -- the first i accounts are done
-pub record ClosedTo (h a j h' a' j' : List ℤ) (today : ℕ) (money owed : List ℕ) (i : ℕ) : Type 0 where
+pub record ClosedTo (h a j h' a' j' : List ℤ) (today : ℕ) (r : Remains) (i : ℕ) : Type 0 where
   pub size : length a' ≡ length a
-  pub done : accounts_of a' i ≡ change (close_at today owed) (accounts_of a i)
+  pub done : accounts_of a' i ≡ change (close_at today r) (accounts_of a i)
   pub left : (k : ℕ) → i ≤ k → account_at a' k ≡ account_at a k
-  pub rows : UsedRows (tables_at h a j) h' j' (rows_of j (word h used_place) ++ refunds_to today money owed a i)
+  pub rows : UsedRows (tables_at h a j) h' j' (rows_of j (word h used_place) ++ refunds_to today r a i)
 
 -- ---- the tables
 

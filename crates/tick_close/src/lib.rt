@@ -9,7 +9,8 @@ ghost use Rattle.rules.specs.Tick.{close_accounts};
 ghost use Rattle.rules.specs.Tables.{book_of};
 ghost use Rattle.tables.specs.Changes.{RowIn, RowChanged, RowsMapped};
 ghost use Rattle.posting.specs.Written.{Written};
-ghost use Rattle.tick_close.specs.Closing.{closes_by, Closable, ClosedOne, use_up_by, Usable, UsableRows, AllClosable, ClosedTo, ReadyToClose};
+ghost use Rattle.tick_close.specs.Closing.{closes_by, Closable, ClosedOne, use_up_by, Usable, UsableRows};
+ghost use Rattle.tick_close.specs.Closing.{AllClosable, ClosedTo, ReadyToClose};
 ghost use Rattle.rules.specs.Lent.{lent, at_entry, at_exit};
 
 use account_sums::SLOTS;
@@ -17,12 +18,13 @@ use posting::rows::{add_row, new_row};
 use records::Account;
 use records::codes::KIND_REFUND;
 use records::layout::{ACCOUNT_WIDTH, DAY_PLACE, USED_PLACE};
+use row_passes::change_rows;
 use row_tests::is_source;
 use table_accounts::{read_account, write_account};
 use table_rows::{account_at, put_settled, read_row};
 use tables::words::get;
 use tick_base::days::days_over;
-use tick_base::sums::add_remainders;
+use tick_base::sums::Remains;
 
 // Its days are over and it owes nothing.
 fn is_closing(x: Account, today: u64, owed: u64) -> bool
@@ -55,11 +57,11 @@ fn use_rows(accounts: &[i64], journal: &mut [i64], used: usize, today: u64, owed
     ensures { RowsMapped (use_up_by today accounts.now owed.now) journal.old
         journal.new used }
 {
-    let mut i = 0;
-    while i < used {
-        use_row(accounts, journal, i, today, owed);
-        i += 1;
-    }
+    change_rows(
+        journal,
+        used,
+        |rows, i| use_row(accounts, rows, i, today, owed),
+    );
 }
 
 // Account i, of number i + 1, closes if it is to; its money leaves as a row that is settled whole.
@@ -95,27 +97,17 @@ fn close_each(
     accounts: &mut [i64],
     journal: &mut [i64],
     today: u64,
-    money: &[u64; SLOTS],
-    owed: &[u64; SLOTS],
+    remains: &Remains,
 )
-    requires { AllClosable header.old accounts.old journal.old today money.now owed.now }
+    requires { AllClosable header.old accounts.old journal.old today remains.now }
     ensures { ClosedTo header.old accounts.old journal.old header.new
-        accounts.new journal.new today money.now owed.now
+        accounts.new journal.new today remains.now
         (length accounts.old / account_width) }
 {
-    let count = accounts.len() / ACCOUNT_WIDTH;
-    let mut i = 0;
-    while i < count {
-        close_account(
-            header,
-            accounts,
-            journal,
-            i,
-            today,
-            money[i + 1],
-            owed[i + 1],
-        );
-        i += 1;
+    for i in 0..accounts.len() / ACCOUNT_WIDTH {
+        let money = remains.money[i + 1];
+        let owed = remains.owed[i + 1];
+        close_account(header, accounts, journal, i, today, money, owed);
     }
 }
 
@@ -130,9 +122,7 @@ pub fn close_accounts(header: &mut [i64], accounts: &mut [i64], journal: &mut [i
     }
     let used = get(header, USED_PLACE) as usize;
     let today = get(header, DAY_PLACE);
-    let mut money = [0u64; SLOTS];
-    let mut owed = [0u64; SLOTS];
-    add_remainders(journal, used, &mut money, &mut owed);
-    use_rows(accounts, journal, used, today, &owed);
-    close_each(header, accounts, journal, today, &money, &owed);
+    let remains = Remains::of_rows(journal, used);
+    use_rows(accounts, journal, used, today, &remains.owed);
+    close_each(header, accounts, journal, today, &remains);
 }

@@ -20,7 +20,7 @@ use Rattle.records.specs.Limits.{hold_days, slot_count}
 use Rattle.rules.specs.Rows.{Row, blank, held_toll}
 use Rattle.rules.specs.Events.{release}
 use Rattle.rules.specs.Settlement.{settle}
-use Rattle.rules.specs.Book.{Book, settled}
+use Rattle.rules.specs.Book.{Book}
 use Rattle.rules.specs.Tick.{hold_ends, end_hold}
 use Rattle.rules.specs.Tables.{Tables, accounts_in, rows_used, book_of, sound_tables}
 use Rattle.rules.proofs.AllocationLaws.{bare}
@@ -31,20 +31,15 @@ use Rattle.preservation.proofs.DisputeKept.{HeldToll, held-is}
 use Rattle.preservation.proofs.TickSteps.{ended, ended-rows, end_hold-keeps}
 use Rattle.tick_rules.specs.Ticks.{freed, settle_those}
 use Rattle.tick_rules.proofs.FreedLaws.{freed-settled, none-ended}
-use Rattle.tables.specs.Changes.{RowsMapped}
+use Rattle.tables.specs.Changes.{RowIn, RowsMapped}
 use Rattle.tables.proofs.ChangeLaws.{mapped-all}
+use Rattle.row_passes.specs.Passes.{RowLeft}
 use Rattle.settlement.specs.Settling.{Journal, RowsBecome}
 use Rattle.account_sums.specs.Tallies.{Tallied}
-use Rattle.account_sums.proofs.SumsLaws.{Share}
 use Rattle.posting.proofs.BookLaws.{day-read, used-read, count-read, used-room}
+use Rattle.tick_base.specs.Remainders.{counted}
 use Rattle.tick_base.proofs.MidwayLaws.{sound-midway, midway-row}
-use Rattle.tick_holds.specs.Holds.{ends_of, EndingRows, Ends, SettledThose, UnraisedRows}
-
--- ---- the share of a row
-
-pub share-ends : (today : ℕ) → Share (ends_of today) (hold_ends today) (λ r. 1)
-unfolding ends_of
-share-ends today = record { form = λ n r. refl }
+use Rattle.tick_holds.specs.Holds.{ends_of, Ending, EndingRows, Ends, SettledThose, UnraisedRows}
 
 -- ---- the rows of a sound journal can be released
 
@@ -99,6 +94,10 @@ module _ (t : Tables) (s : sound_tables t ≡ true) where
         };
       }
 
+-- each row can still be released where those before it have been
+pub ending-left : (t u : List ℤ) (used today i : ℕ) → EndingRows t used today → RowLeft t u used i → RowIn u i × Ending today (row_at u i)
+ending-left t u used today i e l = (omega (arith, l.inside, l.size, e.room), rw l.same (e.each i l.inside))
+
 -- ---- settlement of some accounts keeps the amounts
 
 settle_those-row : (t : ℕ → Bool) (n : ℕ) (rows : List Row) (i : ℕ) → bare (get_or (settle_those t n rows) i blank) ≡ bare (get_or rows i blank)
@@ -150,7 +149,7 @@ module _ (t : Tables) (s : sound_tables t ≡ true) (ends : List ℕ) (u v : Lis
     (m : RowsMapped (end_hold (word t.header day_place + 1)) t.journal u (rows_used t)) (d : SettledThose ends (accounts_in t) u v (rows_used t)) (few : accounts_in t ≤ 256) where
   -- the counts tell which accounts have a hold that ended
   freed-counted : (n : ℕ) → n ≤ accounts_in t → ltb 0 (get_or ends n 0) ≡ freed ((book_of t).day + 1) (book_of t).rows n
-  unfolding freed exists count ends_of
+  unfolding freed exists count counted
   freed-counted n h = rw (c.each n (omega arith), sound-rows t s, day-read t s)
 
   same-those : (f g : ℕ → Bool) (n : ℕ) (rows : List Row) → ((k : ℕ) → k ≤ n → f k ≡ g k) → settle_those f n rows ≡ settle_those g n rows

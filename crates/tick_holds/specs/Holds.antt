@@ -1,20 +1,19 @@
 -- What the end of holds and the settlement after it leave of the journal.
-use Rattle.std.specs.Prelude.{◌≡◌, Bool, true, cond, ◌&&◌, ℕ, ◌+◌, ◌*◌, ◌≤◌, ◌<◌, List, ltb, ℤ, length, get_or}
-use Rattle.lists.specs.Tests.{◌is◌}
+use Rattle.std.specs.Prelude.{◌≡◌, Bool, true, ℕ, ◌+◌, ◌*◌, ◌≤◌, ◌<◌, List, ltb, ℤ, length, get_or}
 use Rattle.lists.specs.Lists.{exists}
 use Rattle.records.specs.Layout.{row_width}
 use Rattle.records.specs.Encoding.{row_at, rows_of, StorableRow}
 use Rattle.rules.specs.Rows.{Row}
 use Rattle.rules.specs.Events.{release}
-use Rattle.rules.specs.Settlement.{settle}
 use Rattle.rules.specs.Tick.{hold_ends, before_raising}
 use Rattle.rules.specs.Tables.{Tables, rows_used, book_of, sound_tables}
 use Rattle.settlement.specs.Settling.{RowsBecome}
 use Rattle.tick_rules.specs.Ticks.{settle_those}
+use Rattle.tick_base.specs.Remainders.{counted}
 
 -- a row's share in the holds of account n that end
-unfoldable pub ends_of : ℕ → ℕ → Row → ℕ
-ends_of today n r = cond (r.account is n && hold_ends today r) 1 0
+abbrev pub ends_of : ℕ → ℕ → Row → ℕ
+ends_of today = counted (hold_ends today)
 
 -- a row that can be written again when its hold ends
 pub record Ending (today : ℕ) (r : Row) : Type 0 where
@@ -30,10 +29,6 @@ pub record EndingRows (t : List ℤ) (used today : ℕ) : Type 0 where
 pub record Ends (t : Tables) (ending : Bool) : Type 0 where
   pub sound : sound_tables t ≡ true
   pub told : ending ≡ exists (hold_ends ((book_of t).day + 1)) (book_of t).rows
-
--- one account settled, where it is to be
-abbrev pub SettledIf : Bool → ℕ → List ℤ → List ℤ → ℕ → Type 0
-SettledIf freed a t u used = RowsBecome t u used (cond freed (settle a (rows_of t used)) (rows_of t used))
 
 -- of accounts 1 to n those settled of which a hold has ended
 abbrev pub SettledThose : List ℕ → ℕ → List ℤ → List ℤ → ℕ → Type 0

@@ -5,10 +5,11 @@ use Prim.Native.Nat.{ℕ, zero, suc, ◌+◌, ◌≤◌, ◌<◌}
 use native.Mathlib.Omega.{arith}
 use native.Mathlib.Numerals.{add-one}
 use mathlib.Core.List.{List}
+use mir.Val.{bool_byte}
 use lib.IntN.{ℤ}
-use lib.ListN.{length, get_or}
+use lib.ListN.{length, get_or, replicate}
 use lib.Dec.{eqb, leb, ltb}
-use borrow.Author.Tests.{ne_eqb, lt-ltb, le-ltb}
+use borrow.Author.Tests.{ne_eqb, lt-ltb}
 use Rattle.lists.specs.Tests.{◌is◌}
 use Rattle.lists.specs.Lists.{sum_by, exists, count, one, gather, gather_from, tabulate}
 use Rattle.lists.proofs.SumLaws.{sum_by-more}
@@ -18,7 +19,7 @@ use Rattle.records.specs.Layout.{day_place, header_schedule}
 use Rattle.records.specs.Encoding.{word, row_at, rows_of, account_at, accounts_of}
 use Rattle.records.specs.Limits.{closing_days, most_rows, most_accounts, slot_count}
 use Rattle.rules.specs.Schedule.{Schedule, stage_fee}
-use Rattle.rules.specs.Rows.{Row, blank, held_toll}
+use Rattle.rules.specs.Rows.{Row, blank, dispute_held, held_toll}
 use Rattle.rules.specs.Settlement.{money, owed}
 use Rattle.rules.specs.Book.{Account, state_pending, unused, Book}
 use Rattle.rules.specs.Tick.{hold_ends, rises, fee_row}
@@ -26,12 +27,14 @@ use Rattle.rules.specs.Tables.{Tables, accounts_in, rows_used, schedule_from, bo
 use Rattle.tick_rules.specs.Ticks.{stays_held, will_refund, will_close, NoneCloses, fees_added, refunds_added}
 use Rattle.tick_rules.proofs.UnclosedLaws.{no-refunds}
 use Rattle.account_sums.specs.Tallies.{Tallied, money_of, owed_of}
-use Rattle.account_sums.proofs.SumsLaws.{Share}
 use Rattle.rules.proofs.TableLaws.{sound-book, sound-rows}
 use Rattle.rules.proofs.StorableLaws.{accounts-le}
 use Rattle.posting.proofs.BookLaws.{day-read, schedule-read, used-small, count_small}
-use Rattle.tick_base.specs.Remainders.{Remainders, days_over}
-use Rattle.tick_plan.specs.Plans.{stays_of, close_by, NoneClosesBy, refund_by, refund_at, RowsCounted, Planned}
+use Rattle.account_sums.proofs.TallyLaws.{tallied-none}
+use Rattle.tick_base.specs.declared.sums.Remains.{Remains}
+use Rattle.tick_base.specs.Remainders.{Remainders, counted, days_over}
+use Rattle.tick_base.proofs.StageLaws.{not-due, not-held}
+use Rattle.tick_plan.specs.Plans.{stays_of, close_by, close_at, NoneClosesBy, refund_by, refunds_at, refund_at, RowsCounted, Planned}
 use Rattle.tick_plan.specs.declared.rows.RowCounts.{RowCounts}
 
 -- ---- the fee row of a toll
@@ -41,36 +44,52 @@ one-length : (v : Bool) (r : Row) → length (one v r) ≡ length (one v blank)
 one-length true r = refl
 one-length false r = refl
 
-module _ (s : Schedule) (today n : ℕ) (r : Row) (fee : ℕ) (e : fee ≡ cond (rises today r) (stage_fee s (r.mark + 1)) 0) where
-  pub fee-brought : (fee ≡ 0 → ⊥) → 1 ≡ length (fee_row s today n r)
+module _ (s : Schedule) (today : ℕ) (r : Row) where
+  -- a toll that rises brings its fee row, where the fee is not 0
+  pub fee-brought : (fee : ℕ) → fee ≡ cond (rises today r) (stage_fee s (r.mark + 1)) 0 → (n : ℕ) → cond (not (eqb fee 0)) 1 0 ≡ length (fee_row s today n r)
   unfolding fee_row
-  fee-brought q = sym (one-length (rises today r && ltb 0 (stage_fee s (r.mark + 1))) _ ∙ go (rises today r) (stage_fee s (r.mark + 1)) e)
+  fee-brought fee e n = sym (one-length (rises today r && ltb 0 (stage_fee s (r.mark + 1))) _ ∙ go (rises today r) (stage_fee s (r.mark + 1)) e)
     where
-      go : (v : Bool) (f : ℕ) → fee ≡ cond v f 0 → length (one (v && ltb 0 f) blank) ≡ 1
-      go true f w = rw (lt-ltb 0 f (omega (arith, w))) refl
-      go false f w = absurd (q w)
+      go : (v : Bool) (f : ℕ) → fee ≡ cond v f 0 → length (one (v && ltb 0 f) blank) ≡ cond (not (eqb fee 0)) 1 0
+      go true zero w = rw w refl
+      go true (suc f) w = rw (w, lt-ltb 0 (suc f) (omega arith), ne_eqb (suc f) 0 (λ q. omega arith)) refl
+      go false f w = rw w refl
 
-  pub fee-not-brought : fee ≡ 0 → 0 ≡ length (fee_row s today n r)
+  -- no toll that is not due today brings one
+  pub fee-not-brought : (r.due ≡ today → ⊥) → (n : ℕ) → 0 ≡ length (fee_row s today n r)
   unfolding fee_row
-  fee-not-brought q = sym (one-length (rises today r && ltb 0 (stage_fee s (r.mark + 1))) _ ∙ go (rises today r) (stage_fee s (r.mark + 1)) e)
-    where
-      go : (v : Bool) (f : ℕ) → fee ≡ cond v f 0 → length (one (v && ltb 0 f) blank) ≡ 0
-      go true f w = rw (le-ltb 0 f (omega (arith, w))) refl
-      go false f w = refl
+  fee-not-brought q n = rw (not-due today r q) refl
 
--- ---- shares
+-- ---- a test as a number, and what it counts
 
-pub share-stays : (today : ℕ) → Share (stays_of today) (λ r. held_toll r && not (hold_ends today r)) (λ r. 1)
-unfolding stays_of stays_held
-share-stays today = record { form = λ n r. refl }
+byte-one : (v : Bool) → bool_byte v ≡ cond v 1 0
+byte-one true = refl
+byte-one false = refl
+
+pub byte-few : (v : Bool) → bool_byte v ≤ 1
+byte-few true = omega arith
+byte-few false = omega arith
+
+pub refund-counted : (today : ℕ) (c : RowCounts) (n : ℕ) (x : Account) (v : Bool) → v ≡ refunds_at today c n x → bool_byte v ≡ length (refund_at today c n x)
+unfolding refund_at
+refund-counted today c n x v e = go v (refunds_at today c n x) e
+  where
+    go : (v w : Bool) → v ≡ w → bool_byte v ≡ length (one w blank)
+    go v true e = rw e refl
+    go v false e = rw e refl
+
+-- a toll that stays held is in dispute
+pub stays-held : (today : ℕ) (r : Row) → (r.dispute ≡ dispute_held → ⊥) → held_toll r && not (hold_ends today r) ≡ false
+stays-held today r n = rw (not-held r n)
 
 -- ---- one row more
 
-module _ (h t : List ℤ) (today : ℕ) (money owed stays : List ℕ) where
-  pub rows_none : Remainders t money owed 0 → Tallied (stays_of today) slot_count t stays 0 → RowsCounted h t today money owed stays 0 (record { fees = 0; ending = false })
-  unfolding gather_from exists count sum_by tabulate
-  rows_none r s = record { sums = r; held = s; fees = refl; few = omega arith; ending = refl }
+-- of no rows
+pub rows_none : (h t : List ℤ) (today : ℕ) (m : Remains) → Remainders t m 0 → RowsCounted h t today (record { remains = m; stays = replicate slot_count 0; fees = 0; ending = false }) 0
+unfolding gather_from exists count sum_by tabulate
+rows_none h t today m r = record { sums = r; held = tallied-none (stays_of today) slot_count t; fees = refl; few = omega arith; ending = refl }
 
+module _ (h t : List ℤ) (today i : ℕ) where
   -- some row passes a test, with row n in view
   exists-more : (u : Row → Bool) (n : ℕ) → exists u (rows_of t (n + 1)) ≡ exists u (rows_of t n) || u (row_at t n)
   unfolding exists count
@@ -82,21 +101,22 @@ module _ (h t : List ℤ) (today : ℕ) (money owed stays : List ℕ) where
       go (suc m) true = rw (lt-ltb 0 (suc m) (omega arith)) (lt-ltb 0 (suc m + 1) (omega arith))
       go (suc m) false = rw (lt-ltb 0 (suc m) (omega arith)) (lt-ltb 0 (suc m + 0) (omega arith))
 
-  pub rows_more : (i : ℕ) (c : RowCounts) → RowsCounted h t today money owed stays i c → (money' owed' stays' : List ℕ) → Remainders t money' owed' (i + 1)
-      → Tallied (stays_of today) slot_count t stays' (i + 1) → (fee : ℕ) → ((k : ℕ) → fee ≡ length (fee_row (schedule_from h header_schedule) today k (row_at t i))) → fee ≤ 1
-      → (ends : Bool) → ends ≡ hold_ends today (row_at t i) → RowsCounted h t today money' owed' stays' (i + 1) (record { fees = c.fees + fee; ending = c.ending || ends })
-  rows_more i c w money' owed' stays' r s fee f l ends e = record {
+  pub rows_more : (c : RowCounts) → RowsCounted h t today c i → (m : Remains) (stays : List ℕ) → Remainders t m (i + 1) → Tallied (stays_of today) slot_count t stays (i + 1)
+      → (brings : Bool) → ((k : ℕ) → cond brings 1 0 ≡ length (fee_row (schedule_from h header_schedule) today k (row_at t i)))
+      → (ends : Bool) → ends ≡ hold_ends today (row_at t i)
+      → RowsCounted h t today (record { remains = m; stays = stays; fees = c.fees + bool_byte brings; ending = c.ending || ends }) (i + 1)
+  rows_more c w m stays r s brings f ends e = record {
     sums = r;
     held = s;
-    fees = omega (arith, w.fees, f (i + 1), length-gather-tabulate (fee_row (schedule_from h header_schedule) today) (row_at t) i);
-    few = omega (arith, w.few);
+    fees = omega (arith, w.fees, f (i + 1), byte-one brings, length-gather-tabulate (fee_row (schedule_from h header_schedule) today) (row_at t) i);
+    few = omega (arith, w.few, byte-few brings);
     ending = rw (exists-more (hold_ends today) i, w.ending, e);
   }
 
 -- ---- the refunds counted are those of the definition
 
-module _ (b : Book) (t : List ℤ) (stays owed' money' : List ℕ) (n : ℕ) (rows : b.rows ≡ rows_of t n)
-    (s : Tallied (stays_of (b.day + 1)) slot_count t stays n) (r : Remainders t money' owed' n) (few : length b.accounts ≤ 256) where
+module _ (b : Book) (t : List ℤ) (c : RowCounts) (n : ℕ) (rows : b.rows ≡ rows_of t n)
+    (s : Tallied (stays_of (b.day + 1)) slot_count t c.stays n) (r : Remainders t c.remains n) (few : length b.accounts ≤ 256) where
   zero_test : (m : ℕ) → eqb m 0 ≡ not (ltb 0 m)
   zero_test zero = refl
   zero_test (suc m) = rw (lt-ltb 0 (suc m) (omega arith)) (ne_eqb (suc m) 0 (λ q. omega arith))
@@ -104,31 +124,30 @@ module _ (b : Book) (t : List ℤ) (stays owed' money' : List ℕ) (n : ℕ) (ro
   test : (p : Bool) (m : ℕ) (q : Bool) → p && eqb m 0 && q ≡ p && not (ltb 0 m) && q
   test p m q = rw (zero_test m)
 
-  refund-at : (k : ℕ) → k < slot_count → (x : Account) → refund_by (b.day + 1) (get_or stays k 0) (get_or owed' k 0) (get_or money' k 0) x ≡ will_refund b k x
-  unfolding refund_by will_refund days_over exists count stays_of money owed
+  refund-at : (k : ℕ) → k < slot_count → (x : Account) → refunds_at (b.day + 1) c k x ≡ will_refund b k x
+  unfolding refunds_at refund_by will_refund days_over exists count counted stays_held money owed
   refund-at k h x = rw (s.each k h, r.moneys.each k h, r.owings.each k h, rows) (test (x.state is state_pending && leb (x.request + closing_days) (b.day + 1)) (sum_by (stays_of (b.day + 1) k) (rows_of t n)) (ltb (sum_by (owed_of k) (rows_of t n)) (sum_by (money_of k) (rows_of t n))))
 
-  close_at : (k : ℕ) → k < slot_count → (x : Account) → close_by (b.day + 1) (get_or stays k 0) (get_or owed' k 0) (get_or money' k 0) x ≡ will_close b k x
-  unfolding close_by will_close days_over exists count stays_of money owed
-  close_at k h x = rw (s.each k h, r.moneys.each k h, r.owings.each k h, rows) (test (x.state is state_pending && leb (x.request + closing_days) (b.day + 1)) (sum_by (stays_of (b.day + 1) k) (rows_of t n)) (leb (sum_by (owed_of k) (rows_of t n)) (sum_by (money_of k) (rows_of t n))))
+  close-told : (k : ℕ) → k < slot_count → (x : Account) → close_at (b.day + 1) c k x ≡ will_close b k x
+  unfolding close_at close_by will_close days_over exists count counted stays_held money owed
+  close-told k h x = rw (s.each k h, r.moneys.each k h, r.owings.each k h, rows) (test (x.state is state_pending && leb (x.request + closing_days) (b.day + 1)) (sum_by (stays_of (b.day + 1) k) (rows_of t n)) (leb (sum_by (owed_of k) (rows_of t n)) (sum_by (money_of k) (rows_of t n))))
 
-  pub none-closes : (a : List ℤ) (m : ℕ) → b.accounts ≡ accounts_of a m → NoneClosesBy (b.day + 1) stays owed' money' a m → NoneCloses b
+  pub none-closes : (a : List ℤ) (m : ℕ) → b.accounts ≡ accounts_of a m → NoneClosesBy (b.day + 1) c a m → NoneCloses b
   none-closes a m e z k h =
       let l : k < m = omega (arith, ap length e, length-tabulate (account_at a) m) in
       let x : get_or b.accounts k unused ≡ account_at a k = rw e (tabulate-at (account_at a) m k unused l) in
-      let c : close_by (b.day + 1) (get_or stays (suc k) 0) (get_or owed' (suc k) 0) (get_or money' (suc k) 0) (account_at a k) ≡ false = rw (add-one k) at (z k l) in
-      sym (close_at (suc k) (omega arith) (get_or b.accounts k unused)) ∙ rw x c
+      let q : close_at (b.day + 1) c (suc k) (account_at a k) ≡ false = rw (add-one k) at (z k l) in
+      sym (close-told (suc k) (omega arith) (get_or b.accounts k unused)) ∙ rw x q
 
-  pub refunds-counted : length (gather (refund_at (b.day + 1) stays owed' money') b.accounts) ≡ refunds_added b
+  pub refunds-counted : length (gather (refund_at (b.day + 1) c) b.accounts) ≡ refunds_added b
   unfolding refunds_added refund_at
   refunds-counted =
-      length-gather-same (refund_at (b.day + 1) stays owed' money') (λ k x. one (will_refund b k x) blank) 1 b.accounts unused
+      length-gather-same (refund_at (b.day + 1) c) (λ k x. one (will_refund b k x) blank) 1 b.accounts unused
       (λ k j e h. rw (refund-at k (omega arith) (get_or b.accounts j unused)))
 
 -- ---- the plan, over sound tables
 
-module _ (t : Tables) (s : sound_tables t ≡ true) (money' owed' stays : List ℕ) (c : RowCounts)
-    (w : RowsCounted t.header t.journal (word t.header day_place + 1) money' owed' stays (rows_used t) c) where
+module _ (t : Tables) (s : sound_tables t ≡ true) (c : RowCounts) (w : RowsCounted t.header t.journal (word t.header day_place + 1) c (rows_used t)) where
   fees-told : c.fees ≡ fees_added (book_of t)
   unfolding fees_added
   fees-told = rw (sound-rows t s, ← schedule-read t s, ← day-read t s) w.fees
@@ -144,18 +163,18 @@ module _ (t : Tables) (s : sound_tables t ≡ true) (money' owed' stays : List �
   few = accounts-le (book_of t).day (book_of t) (sound-book t s).near
 
   -- no account closes
-  pub quiet-planned : NoneClosesBy (word t.header day_place + 1) stays owed' money' t.accounts (accounts_in t)
+  pub quiet-planned : NoneClosesBy (word t.header day_place + 1) c t.accounts (accounts_in t)
       → Planned (book_of t) (record { added = c.fees; ending = c.ending; closing = false })
   quiet-planned z =
-      let n : NoneCloses (book_of t) = none-closes (book_of t) t.journal stays owed' money' (rows_used t) (sound-rows t s) (rw (day-read t s) at w.held) w.sums few t.accounts (accounts_in t) accounts-same (rw (day-read t s) at z) in
+      let n : NoneCloses (book_of t) = none-closes (book_of t) t.journal c (rows_used t) (sound-rows t s) (rw (day-read t s) at w.held) w.sums few t.accounts (accounts_in t) accounts-same (rw (day-read t s) at z) in
       record { added = omega (arith, fees-told, no-refunds (book_of t) n); few = omega (arith, w.few, used-small t s); ending = ending-told; closing = λ e. n }
 
   -- one closes
-  module _ (refunds : ℕ) (g : refunds ≡ length (gather (refund_at (word t.header day_place + 1) stays owed' money') (accounts_of t.accounts (accounts_in t)))) (l : refunds ≤ accounts_in t) where
+  module _ (refunds : ℕ) (g : refunds ≡ length (gather (refund_at (word t.header day_place + 1) c) (accounts_of t.accounts (accounts_in t)))) (l : refunds ≤ accounts_in t) where
     refunds-told : refunds ≡ refunds_added (book_of t)
     refunds-told =
         rw (day-read t s, ← accounts-same) at g
-        ∙ refunds-counted (book_of t) t.journal stays owed' money' (rows_used t) (sound-rows t s) (rw (day-read t s) at w.held) w.sums few
+        ∙ refunds-counted (book_of t) t.journal c (rows_used t) (sound-rows t s) (rw (day-read t s) at w.held) w.sums few
 
     pub added-few : c.fees + refunds ≤ most_rows + most_accounts
     added-few = omega (arith, w.few, used-small t s, count_small t s)

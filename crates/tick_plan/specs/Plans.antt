@@ -1,46 +1,52 @@
 -- What is counted on the tables before a tick: by account in arrays, and in all.
-use Rattle.std.specs.Prelude.{◌≡◌, Bool, false, cond, ◌&&◌, ℕ, ◌+◌, ◌≤◌, ◌<◌, List, leb, ltb, ℤ, length, get_or}
+use Rattle.std.specs.Prelude.{◌≡◌, Bool, false, not, ◌&&◌, ℕ, ◌+◌, ◌≤◌, ◌<◌, List, leb, ltb, ℤ, length, get_or}
 use Rattle.lists.specs.Tests.{◌is◌}
 use Rattle.lists.specs.Lists.{exists, one, gather}
 use Rattle.records.specs.Layout.{header_schedule}
 use Rattle.records.specs.Encoding.{rows_of, account_at}
-use Rattle.rules.specs.Rows.{Row, blank}
+use Rattle.rules.specs.Rows.{Row, blank, held_toll}
 use Rattle.records.specs.Limits.{most_accounts, most_rows, slot_count}
 use Rattle.rules.specs.Book.{Account, Book}
 use Rattle.rules.specs.Tick.{hold_ends, fee_row}
 use Rattle.rules.specs.Tables.{schedule_from}
-use Rattle.tick_rules.specs.Ticks.{stays_held, NoneCloses, fees_added, refunds_added}
+use Rattle.tick_rules.specs.Ticks.{NoneCloses, fees_added, refunds_added}
 use Rattle.account_sums.specs.Tallies.{Tallied}
-use Rattle.tick_base.specs.Remainders.{Remainders, days_over}
+use Rattle.tick_base.specs.Remainders.{Remainders, counted, days_over}
 use Rattle.tick_plan.specs.declared.Plan.{Plan}
 use Rattle.tick_plan.specs.declared.rows.RowCounts.{RowCounts}
 
 -- a row's share in the tolls of account n that stay held
-unfoldable pub stays_of : ℕ → ℕ → Row → ℕ
-stays_of today n r = cond (stays_held today n r) 1 0
+abbrev pub stays_of : ℕ → ℕ → Row → ℕ
+stays_of today = counted (λ r. held_toll r && not (hold_ends today r))
 
 -- an account closes of which so many tolls stay held, that owes and has so much
 unfoldable pub close_by : ℕ → ℕ → ℕ → ℕ → Account → Bool
 close_by today stays owed money x = days_over today x && stays is 0 && leb owed money
 
+-- account n does, by what its rows come to
+unfoldable pub close_at : ℕ → RowCounts → ℕ → Account → Bool
+close_at today c n x = close_by today (get_or c.stays n 0) (get_or c.remains.owed n 0) (get_or c.remains.money n 0) x
+
 -- none of the first i does
-abbrev pub NoneClosesBy : ℕ → List ℕ → List ℕ → List ℕ → List ℤ → ℕ → Type 0
-NoneClosesBy today stays owed money a i =
-    (k : ℕ) → k < i →
-    close_by today (get_or stays (k + 1) 0) (get_or owed (k + 1) 0) (get_or money (k + 1) 0) (account_at a k) ≡ false
+abbrev pub NoneClosesBy : ℕ → RowCounts → List ℤ → ℕ → Type 0
+NoneClosesBy today c a i = (k : ℕ) → k < i → close_at today c (k + 1) (account_at a k) ≡ false
 
 -- it closes with money left
 unfoldable pub refund_by : ℕ → ℕ → ℕ → ℕ → Account → Bool
 refund_by today stays owed money x = days_over today x && stays is 0 && ltb owed money
 
+-- account n does, by what its rows come to
+unfoldable pub refunds_at : ℕ → RowCounts → ℕ → Account → Bool
+refunds_at today c n x = refund_by today (get_or c.stays n 0) (get_or c.remains.owed n 0) (get_or c.remains.money n 0) x
+
 -- the row that account n will bring, of whatever content
-unfoldable pub refund_at : ℕ → List ℕ → List ℕ → List ℕ → ℕ → Account → List Row
-refund_at today stays owed money n x = one (refund_by today (get_or stays n 0) (get_or owed n 0) (get_or money n 0) x) blank
+unfoldable pub refund_at : ℕ → RowCounts → ℕ → Account → List Row
+refund_at today c n x = one (refunds_at today c n x) blank
 
 -- what the first i rows come to
-pub record RowsCounted (h t : List ℤ) (today : ℕ) (money owed stays : List ℕ) (i : ℕ) (c : RowCounts) : Type 0 where
-  pub sums : Remainders t money owed i
-  pub held : Tallied (stays_of today) slot_count t stays i
+pub record RowsCounted (h t : List ℤ) (today : ℕ) (c : RowCounts) (i : ℕ) : Type 0 where
+  pub sums : Remainders t c.remains i
+  pub held : Tallied (stays_of today) slot_count t c.stays i
   pub fees : c.fees ≡ length (gather (fee_row (schedule_from h header_schedule) today) (rows_of t i))
   pub few : c.fees ≤ i
   pub ending : c.ending ≡ exists (hold_ends today) (rows_of t i)

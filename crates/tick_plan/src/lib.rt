@@ -3,7 +3,6 @@
 #![tactic(auto)]
 
 mod fees; // fees.rt: the fee of a toll that will rise
-mod holds; // holds.rt: the tolls that stay held and those whose hold ends
 mod rows; // rows.rt: what the used rows come to, in one pass
 mod refunds; // refunds.rt: the accounts that will close, and those of them with money left
 
@@ -12,10 +11,9 @@ ghost use Rattle.rules.specs.Tables.{book_of, sound_tables};
 ghost use Rattle.tick_plan.specs.Plans.{Planned};
 ghost use Rattle.rules.specs.Lent.{lent, at_entry};
 
-use account_sums::SLOTS;
 use records::layout::{ACCOUNT_WIDTH, DAY_PLACE, USED_PLACE};
 use refunds::{any_closes, refunds_added};
-use rows::count_rows;
+use rows::RowCounts;
 use tables::words::get;
 
 // How many rows the tick adds, whether a hold ends, and whether an account closes.
@@ -26,31 +24,25 @@ pub struct Plan {
     pub closing: bool,
 }
 
-// The sums are 6 KiB of the stack.
 pub fn plan_tick(header: &[i64], accounts: &[i64], journal: &[i64]) -> Plan
     requires { sound_tables (lent header.now accounts.now journal.now) ≡ true }
     ensures { Planned (book_of (at_entry header.now accounts.now journal.now)) result }
 {
     let used = get(header, USED_PLACE) as usize;
     let today = get(header, DAY_PLACE) + 1;
-    let mut money = [0u64; SLOTS];
-    let mut owed = [0u64; SLOTS];
-    let mut stays = [0u64; SLOTS];
-    let c = count_rows(
-        header, journal, used, today, &mut money, &mut owed, &mut stays,
-    );
+    let counts = RowCounts::of_rows(header, journal, used, today);
     let count = accounts.len() / ACCOUNT_WIDTH;
-    if !any_closes(accounts, count, today, &stays, &owed, &money) {
+    if !any_closes(accounts, count, today, &counts) {
         return Plan {
-            added: c.fees,
-            ending: c.ending,
+            added: counts.fees,
+            ending: counts.ending,
             closing: false,
         };
     }
-    let refunds = refunds_added(accounts, count, today, &stays, &owed, &money);
+    let refunds = refunds_added(accounts, count, today, &counts);
     Plan {
-        added: c.fees + refunds,
-        ending: c.ending,
+        added: counts.fees + refunds,
+        ending: counts.ending,
         closing: true,
     }
 }

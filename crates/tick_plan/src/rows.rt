@@ -1,76 +1,68 @@
 // What the used rows come to, in one pass.
-ghost use Rattle.std.specs.Prelude.{◌+◌, ◌≤◌, ◌<◌, length};
+ghost use Rattle.std.specs.Prelude.{◌+◌, ◌≤◌, ◌<◌, List, ℤ, ℕ, length};
 ghost use Rattle.records.specs.Layout.{header_width};
-ghost use Rattle.account_sums.specs.Tallies.{Tallied, Countable};
-ghost use Rattle.tick_base.specs.Remainders.{Remainders};
-ghost use Rattle.tick_plan.specs.Plans.{stays_of, RowsCounted};
-ghost use Rattle.records.specs.Limits.{slot_count};
+ghost use Rattle.account_sums.specs.Tallies.{Countable};
+ghost use Rattle.tick_plan.specs.Plans.{RowsCounted};
 
-use super::fees::fee_rows;
-use super::holds::count_hold;
+use super::fees::brings_fee;
 use account_sums::SLOTS;
-use tick_base::sums::add_remainder;
+use row_tests::held_toll;
+use tick_base::days::hold_ends;
+use tick_base::holds::{count_held, ends_at};
+use tick_base::sums::Remains;
 
-// How many fee rows the tick adds, and whether a hold ends.
-#[derive(Clone, Copy)]
+// What remains of each account's rows, how many of its tolls stay held, how many fee rows the tick adds, and whether a hold ends. 6 KiB
+// of a caller's stack.
+#[derive(Drop)]
 pub struct RowCounts {
+    pub remains: Remains,
+    pub stays: [u64; SLOTS],
     pub fees: usize,
     pub ending: bool,
 }
 
-// Row i, to each sum and count.
-fn count_row(
-    header: &[i64],
-    journal: &[i64],
-    used: usize,
-    i: usize,
-    today: u64,
-    money: &mut [u64; SLOTS],
-    owed: &mut [u64; SLOTS],
-    stays: &mut [u64; SLOTS],
-    c: RowCounts,
-) -> RowCounts
-    requires { (header_width ≤ length header.now)
-        × Countable journal.now used
-        × (i < used)
-        × RowsCounted header.now journal.now today money.old owed.old stays.old i c }
-    ensures { RowsCounted header.now journal.now today money.new owed.new
-        stays.new (i + 1) result }
-{
-    add_remainder(journal, used, i, money, owed);
-    let ends = count_hold(journal, used, i, today, stays);
-    let fee = fee_rows(header, journal, i, today);
-    RowCounts {
-        fees: c.fees + fee,
-        ending: c.ending | ends,
+impl RowCounts {
+    // Of no rows.
+    fn none() -> RowCounts
+        ensures { (h t : List ℤ) (today : ℕ) → RowsCounted h t today result 0 }
+    {
+        RowCounts {
+            remains: Remains::none(),
+            stays: [0; SLOTS],
+            fees: 0,
+            ending: false,
+        }
     }
-}
 
-// The used rows, to sums and counts that are 0 before.
-pub fn count_rows(
-    header: &[i64],
-    journal: &[i64],
-    used: usize,
-    today: u64,
-    money: &mut [u64; SLOTS],
-    owed: &mut [u64; SLOTS],
-    stays: &mut [u64; SLOTS],
-) -> RowCounts
-    requires { (header_width ≤ length header.now)
-        × Countable journal.now used
-        × Remainders journal.now money.old owed.old 0
-        × Tallied (stays_of today) slot_count journal.now stays.old 0 }
-    ensures { RowsCounted header.now journal.now today money.new owed.new
-        stays.new used result }
-{
-    let mut c = RowCounts {
-        fees: 0,
-        ending: false,
-    };
-    let mut i = 0;
-    while i < used {
-        c = count_row(header, journal, used, i, today, money, owed, stays, c);
-        i += 1;
+    // Row i, to each sum and count.
+    fn add_row(&mut self, header: &[i64], journal: &[i64], i: usize, today: u64)
+        requires { (header_width ≤ length header.now)
+            × (used : ℕ)
+            × Countable journal.now used
+            × (i < used)
+            × RowsCounted header.now journal.now today self.old i }
+        ensures { RowsCounted header.now journal.now today self.new (i + 1) }
+    {
+        self.remains.add_row(journal, i);
+        count_held(
+            journal,
+            i,
+            &mut self.stays,
+            |r| held_toll(r) & !hold_ends(r, today),
+        );
+        self.fees += brings_fee(header, journal, i, today) as usize;
+        self.ending |= ends_at(journal, i, today);
     }
-    c
+
+    // Of the used rows.
+    pub fn of_rows(header: &[i64], journal: &[i64], used: usize, today: u64) -> RowCounts
+        requires { (header_width ≤ length header.now) × Countable journal.now used }
+        ensures { RowsCounted header.now journal.now today result used }
+    {
+        let mut counts = RowCounts::none();
+        for i in 0..used {
+            counts.add_row(header, journal, i, today);
+        }
+        counts
+    }
 }

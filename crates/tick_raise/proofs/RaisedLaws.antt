@@ -31,12 +31,12 @@ module _ (h j : List ℤ) (i today : ℕ) (c : Raisable h j i today) (x : Row) (
 
   -- ---- a row that stays
 
-  pub raised-none : rises today x ≡ false → RowRaised h h j j i today 0
+  pub raised-none : rises today x ≡ false → RowRaised h h j j i today false
   unfolding raise fee_row
   raised-none e =
       let z : rises today (row_at j i) ≡ false = rw q at e in
       record {
-        counted = rw z;
+        told = rw z;
         header-size = refl;
         journal-size = refl;
         rows = λ t rows u. rw (z, append-nil (set rows i (row_at j i))) (put j (row_at j i) (unchanged row_at j i (row_at j i) refl) t rows u);
@@ -66,9 +66,9 @@ module _ (h j : List ℤ) (i today : ℕ) (c : Raisable h j i today) (x : Row) (
       stage-fee : n ≡ stage_fee s ((row_at j i).mark + 1)
       stage-fee = rw (p, q) at f
 
-      pub raised-alone : n ≡ 0 → RowRaised h h j j₁ i today 1
+      pub raised-alone : n ≡ 0 → RowRaised h h j j₁ i today true
       raised-alone z = record {
-        counted = rw rising;
+        told = rw rising;
         header-size = refl;
         journal-size = w.size;
         rows = λ t rows u. rw (none, append-nil (set rows i (raise s today (row_at j i)))) (put j₁ (raise s today (row_at j i)) written t rows u);
@@ -94,9 +94,9 @@ module _ (h j : List ℤ) (i today : ℕ) (c : Raisable h j i today) (x : Row) (
         pub fee-storable : StorableRow fee
         fee-storable = rw fee-is c.fee
 
-        pub raised-fee : (h' j' : List ℤ) → RowAdded h h' j₁ j' fee → RowRaised h h' j j' i today 1
+        pub raised-fee : (h' j' : List ℤ) → RowAdded h h' j₁ j' fee → RowRaised h h' j j' i today true
         raised-fee h' j' a = record {
-          counted = rw rising;
+          told = rw rising;
           header-size = rw a.header (length-set h used_place _);
           journal-size = a.row.size ∙ w.size;
           rows = λ t rows u.

@@ -5,6 +5,7 @@ use Prim.Native.Nat.{ℕ, ◌+◌, ◌*◌, ◌≤◌, ◌<◌}
 use native.Mathlib.Omega.{arith}
 use mathlib.Core.List.{List}
 use lib.ListN.{length}
+use mir.Val.{bool_byte}
 use lib.IntN.{ℤ}
 use Rattle.records.specs.Layout.{day_place, used_place, row_width}
 use Rattle.records.specs.Encoding.{word, row_at, rows_of, StorableRow}
@@ -39,6 +40,11 @@ pub record Turns (t : Tables) (today : ℕ) (h j : List ℤ) (n i : ℕ) : Type 
   pub within : i ≤ rows_used t
   pub counted : n ≡ count (rises today) (rows_of t.journal i)
   pub rows : UsedRows t h j (raised_to t i)
+
+-- a test as a number, in a sum
+counted-one : (n : ℕ) (v : Bool) → n + bool_byte v ≡ n + cond v 1 0
+counted-one n true = refl
+counted-one n false = refl
 
 module _ (past : ℕ) (t : Tables) (m : Midway past t) where
   abbrev b : Book
@@ -137,11 +143,11 @@ module _ (past : ℕ) (t : Tables) (m : Midway past t) where
           fee = rw (row_now, schedule-now, today-read) (fee-storable i l);
         }
 
-        module _ (h' j' : List ℤ) (k : ℕ) (w : RowRaised h h' j j' i today k) where
-          pub turns_more : Turns t today h' j' (n + k) (i + 1)
+        module _ (h' j' : List ℤ) (k : Bool) (w : RowRaised h h' j j' i today k) where
+          pub turns_more : Turns t today h' j' (n + bool_byte k) (i + 1)
           turns_more = record {
             within = omega arith;
-            counted = unfold count in (rw (sum_by-more (λ x. cond (rises today x) 1 0) r i, ← v.counted, ← row_now, w.counted));
+            counted = unfold count in (rw (sum_by-more (λ x. cond (rises today x) 1 0) r i, ← v.counted, ← row_now, ← w.told) (counted-one n k));
             rows = rw (row_now, schedule-now, today-read, passed-more f g r (rows_used t) i l) at (w.rows t (raised_to t i) u);
           }
 

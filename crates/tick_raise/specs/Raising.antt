@@ -1,5 +1,5 @@
 -- One turn of the fourth step of a tick: row i is raised where it rises, and its fee row is added.
-use Rattle.std.specs.Prelude.{◌≡◌, cond, ℕ, ◌+◌, ◌*◌, ◌≤◌, ◌<◌, List, ◌++◌, length, set, ℤ}
+use Rattle.std.specs.Prelude.{◌≡◌, Bool, ℕ, ◌+◌, ◌*◌, ◌≤◌, ◌<◌, List, ◌++◌, length, set, ℤ}
 use Rattle.records.specs.Layout.{header_width, used_place, header_schedule, row_width}
 use Rattle.records.specs.Encoding.{word, row_at, StorableRow}
 use Rattle.rules.specs.Schedule.{Schedule, stage_fee}
@@ -24,9 +24,9 @@ pub record Raisable (h j : List ℤ) (i today : ℕ) : Type 0 where
   pub row : StorableRow (raise (schedule_of h) today (row_at j i))
   pub fee : StorableRow (stage_fee_row (schedule_of h) today i (row_at j i))
 
--- of whatever rows were used, row i is raised, and its fee row is added; n is 1 where it rises
-pub record RowRaised (h h' j j' : List ℤ) (i today n : ℕ) : Type 0 where
-  pub counted : n ≡ cond (rises today (row_at j i)) 1 0
+-- of whatever rows were used, row i is raised, and its fee row is added; v is whether it rises
+pub record RowRaised (h h' j j' : List ℤ) (i today : ℕ) (v : Bool) : Type 0 where
+  pub told : v ≡ rises today (row_at j i)
   pub header-size : length h' ≡ length h
   pub journal-size : length j' ≡ length j
   pub rows : (t : Tables) (rows : List Row) → UsedRows t h j rows

@@ -27,46 +27,44 @@ fn raised(r: Row, days: u64) -> Row
     requires { (r.mark + 1 < 2 ^ 63) × (r.due + days < 2 ^ 63) }
     ensures { result ≡ with_due (r.due + days) (with_mark (r.mark + 1) r) }
 {
-    let mut up = r;
-    up.mark = r.mark + 1;
-    up.due = r.due + days;
-    up
+    Row {
+        mark: r.mark + 1,
+        due: r.due + days,
+        ..r
+    }
 }
 
 // A fee of today that names row n.
 fn fee_naming(n: u64, account: u64, today: u64, fee: u64) -> Row
     ensures { result ≡ with_reference n (new_row kind_fee account today fee) }
 {
-    let mut row = new_row(KIND_FEE, account, today, fee);
-    row.reference = n;
-    row
+    Row {
+        reference: n,
+        ..new_row(KIND_FEE, account, today, fee)
+    }
 }
 
-// Row i, if it rises, and its fee: 1 where it does. Few rows are due today, so the due day is read first and alone.
-fn raise_row(header: &mut [i64], journal: &mut [i64], i: usize, today: u64) -> u64
+// Row i, if it rises, and its fee. The result is whether it does. Few rows are due today, so the due day is read first and alone.
+fn raise_row(header: &mut [i64], journal: &mut [i64], i: usize, today: u64) -> bool
     requires { Raisable header.old journal.old i today }
     ensures { RowRaised header.old header.new journal.old journal.new i today
         result }
 {
     if due_at(journal, i) != today {
-        return 0;
+        return false;
     }
     let r = read_row(journal, i);
     if !is_rising(r, today) {
-        return 0;
+        return false;
     }
     let up = raised(r, get(header, HEADER_SCHEDULE + STAGE_PLACE));
     write_row(journal, i, up);
     let fee = fee_of_stage(header, up.mark);
-    if fee == 0 {
-        return 1;
+    if fee != 0 {
+        let row = fee_naming(i as u64 + 1, r.account, today, fee);
+        add_row(header, journal, row);
     }
-    add_row(
-        header,
-        journal,
-        fee_naming(i as u64 + 1, r.account, today, fee),
-    );
-    1
+    true
 }
 
 // The tolls due today are raised, in row order. The result is how many.
@@ -81,10 +79,8 @@ pub fn raise_tolls(header: &mut [i64], accounts: &[i64], journal: &mut [i64]) ->
     let today = get(header, DAY_PLACE);
     let used = get(header, USED_PLACE) as usize;
     let mut n = 0;
-    let mut i = 0;
-    while i < used {
-        n += raise_row(header, journal, i, today);
-        i += 1;
+    for i in 0..used {
+        n += raise_row(header, journal, i, today) as u64;
     }
     n
 }

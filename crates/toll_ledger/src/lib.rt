@@ -2,17 +2,45 @@
 // toll_ledger_c exports them to C.
 #![tactic(auto)]
 
-ghost use Rattle.std.specs.Prelude.{[]};
+ghost use Rattle.std.specs.Prelude.{◌≡◌, [], pos};
+ghost use Rattle.records.specs.Outcomes.{number_by};
+ghost use Rattle.call_questions.specs.Values.{value_of};
 ghost use Rattle.rules.specs.Calls.{Gives, Replies, open_call, event_call, batch_call, balance_call, topup_due_call};
 ghost use Rattle.rules.specs.Lent.{at_entry, at_exit};
 
-use batch_index::SLOT_WORDS;
-use call_batch::{begin_batch, post_record};
+use call_batch::batch_call;
 use call_event::event_call;
 use call_opening::open_book;
 use call_questions::{balance, topup_due};
 use records::Event;
-use sound_passages::passages::CELLS;
+use records::refusals::Refusal;
+
+// The number that a call gives the host: 0 where it is not refused.
+fn number_of(outcome: Result<(), Refusal>) -> i64
+    ensures { result ≡ pos (number_by outcome) }
+{
+    match outcome {
+        Ok(()) => 0,
+        Err(refusal) => refusal as i64,
+    }
+}
+
+// The number that a question gives the host; its value, 0 where it is refused, is put in its place.
+fn reply(outcome: Result<i64, Refusal>, value: &mut i64) -> i64
+    ensures number { result ≡ pos (number_by outcome) }
+    ensures value { value.new ≡ value_of outcome }
+{
+    match outcome {
+        Ok(v) => {
+            *value = v;
+            0
+        }
+        Err(refusal) => {
+            *value = 0;
+            refusal as i64
+        }
+    }
+}
 
 // Opens a book: eleven words, the first day, the schedule and the first rate list.
 pub fn toll_ledger_open(
@@ -27,7 +55,7 @@ pub fn toll_ledger_open(
         (at_exit header.new accounts.new journal.new)
         [] }
 {
-    open_book(header, accounts, journal, schedule) as i64
+    number_of(open_book(header, accounts, journal, schedule))
 }
 
 // Posts one event of nine words; the answer's five words are written wherever there is room for them.
@@ -45,7 +73,7 @@ pub fn toll_ledger_event(
         (at_exit header.new accounts.new journal.new)
         answer.new }
 {
-    event_call(header, accounts, journal, event, answer) as i64
+    number_of(event_call(header, accounts, journal, event, answer))
 }
 
 // The account's balance, 0 where the question is refused.
@@ -60,10 +88,7 @@ pub fn toll_ledger_balance(
         result
         value.new }
 {
-    let r = balance(header, accounts, journal, account);
-    let v = r.value;
-    *value = v;
-    r.number as i64
+    reply(balance(header, accounts, journal, account), value)
 }
 
 // 1 where the account's top-up is due, 0 where it is not or the question is refused.
@@ -78,10 +103,8 @@ pub fn toll_ledger_topup_due(
         result
         value.new }
 {
-    let r = topup_due(header, accounts, journal, account);
-    let v = r.value;
-    *value = v;
-    r.number as i64
+    let due = topup_due(header, accounts, journal, account);
+    reply(due.map(i64::from), value)
 }
 
 // Posts the events in order, going on after a refusal, and gives 0; a batch that is refused writes nothing.
@@ -99,26 +122,5 @@ pub fn toll_ledger_batch(
         (at_exit header.new accounts.new journal.new)
         answers.new }
 {
-    let mut cells = [0u16; CELLS];
-    let mut slots = [0u64; SLOT_WORDS];
-    let n = begin_batch(
-        header,
-        accounts,
-        journal,
-        events.len(),
-        answers,
-        &mut cells,
-        &mut slots,
-    );
-    if n != 0 {
-        return n as i64;
-    }
-    let mut i: usize = 0;
-    while i < events.len() {
-        post_record(
-            header, accounts, journal, answers, i, events[i], &mut cells, &mut slots,
-        );
-        i += 1;
-    }
-    0
+    number_of(batch_call(header, accounts, journal, events, answers))
 }

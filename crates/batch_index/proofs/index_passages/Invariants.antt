@@ -1,10 +1,6 @@
-use Prim.Native.Nat.{◌-◌, ◌≤◌}
 use Rattle.records.specs.Limits.{most_rows}
 use Rattle.sound_passages.specs.Trees.{TreesOf}
 use Rattle.batch_index.proofs.index_passages.Given as goal
 
 abbrev pub invariant-loop-i : goal.invariant-loop-i
-invariant-loop-i l = (l.i ≤ l.used) × TreesOf most_rows l.journal l.cells l.i
-
-abbrev pub decreases-loop-i : goal.decreases-loop-i
-decreases-loop-i l = l.used - l.i
+invariant-loop-i l = TreesOf most_rows l.journal l.cells l.i

@@ -29,5 +29,5 @@ write_header-requires c =
 pub returns : goal.returns
 returns c =
     let e = (goal.at.returns c).Else-not-lengths_fit in
-    rw (c.write_header.ensures (tables_at c.args.header.now c.args.accounts.now c.args.journal.now), c.clear.ensures, c.clear-2.ensures)
+    rw (c.write_header.ensures (tables_at c.args.header.now c.args.accounts.now c.args.journal.now), c.fill.ensures.after (λ y e. e), c.fill-2.ensures.after (λ y e. e))
     (opened _ _ _ _ (fit e) (sym c.opening_fits.ensures ∙ not-false _ c.if-not-opening_fits.false-raw))

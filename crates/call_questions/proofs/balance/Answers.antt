@@ -5,16 +5,17 @@ use Rattle.rules.specs.Calls.{balance_call}
 use Rattle.rules.proofs.TableLaws.{header-length}
 use Rattle.posting.proofs.BookLaws.{journal-summable}
 use mir.Facts.{to_z-of_z}
-use Rattle.std.proofs.Common.{w64}
+use Rattle.std.proofs.Common.{rules, w64}
+use Rattle.std.specs.Prelude.{Err}
 use native.Mathlib.Omega.{arith}
-use mathlib.Core.Path.{◌≡◌, sym, ap, ◌∙◌}
+use mathlib.Core.Path.{◌≡◌, ap, ◌∙◌}
 use mathlib.Core.Bool.{true}
 use Rattle.records.specs.Encoding.{nat_of}
 use Rattle.rules.specs.Tables.{Tables, sound_tables}
 use Rattle.posting.specs.Posts.{tables_at}
 use borrow.Author.Rules.{sfits_of}
 use Rattle.call_questions.proofs.balance.Goals as goal
-use Rattle.call_questions.proofs.balance.Goals.{After-natural-n, Else-number-ne0, Start}
+use Rattle.call_questions.proofs.balance.Goals.{After-natural-n, In_ok-check_question, Start}
 
 -- the account's number
 numbered : (c : After-natural-n) → c.natural-n.result ≡ nat_of c.args.account
@@ -25,27 +26,28 @@ abbrev lent : Start → Tables
 lent s = tables_at s.args.header.now s.args.accounts.now s.args.journal.now
 
 -- a book that was not refused
-asked : (e : Else-number-ne0) → sound_tables (lent e.before.before.before) ≡ true
-asked e = asked-sound (lent e.before.before.before) e.natural-n.result (sym e.if-number-ne0.false ∙ e.question_refusal-number.ensures)
+asked : (e : In_ok-check_question) → sound_tables (lent e.before.before.before.before) ≡ true
+asked e = asked-sound (lent e.before.before.before.before) e.natural-n.result e.in_ok-check_question.ensures
 
-pub returns-then-number-ne0 : goal.returns-then-number-ne0
+pub returns-in_err-check_question : goal.returns-in_err-check_question
 unfolding balance_call
-returns-then-number-ne0 c =
-    question-refused book.balance (lent (goal.at.returns-then-number-ne0 c).Start) _ _ (numbered (goal.at.returns-then-number-ne0 c).After-natural-n) _ c.question_refusal-number.ensures c.if-number-ne0.true
+returns-in_err-check_question c =
+    let q : c.from_residual.result ≡ Err c.in_err-check_question.field-0.0 = search rules in
+    rw q (question-refused book.balance (lent (goal.at.returns-in_err-check_question c).Start) _ _ (numbered (goal.at.returns-in_err-check_question c).After-natural-n) _ c.in_err-check_question.ensures)
 
 pub get-used-requires : goal.get-used-requires
 get-used-requires c = omega (arith, header-length _ (asked c))
 
 pub sums_of-s-requires : goal.sums_of-s-requires
-sums_of-s-requires c = rw c.get-used.ensures (journal-summable _ (asked (goal.at.sums_of-s-requires c).Else-number-ne0))
+sums_of-s-requires c = rw c.get-used.ensures (journal-summable _ (asked (goal.at.sums_of-s-requires c).In_ok-check_question))
 
 pub minus-requires : goal.minus-requires
 minus-requires c =
-    let h = sums-small (lent (goal.at.minus-requires c).Start) (asked (goal.at.minus-requires c).Else-number-ne0) _ c.get-used.ensures _ _ c.sums_of-s.ensures in
+    let h = sums-small (lent (goal.at.minus-requires c).Start) (asked (goal.at.minus-requires c).In_ok-check_question) _ c.get-used.ensures _ _ c.sums_of-s.ensures in
     (omega arith, omega arith)
 
 pub returns : goal.returns
 unfolding balance_call
 returns c =
-    question-answered book.balance (lent (goal.at.returns c).Start) _ _ (numbered (goal.at.returns c).After-natural-n) _ c.question_refusal-number.ensures c.if-number-ne0.false _
-    (to_z-of_z {w = w64} (sfits_of c.minus.type_inv) ∙ c.minus.ensures ∙ balance-read (lent (goal.at.returns c).Start) (asked (goal.at.returns c).Else-number-ne0) _ c.get-used.ensures _ _ c.sums_of-s.ensures)
+    question-answered book.balance (lent (goal.at.returns c).Start) _ _ (numbered (goal.at.returns c).After-natural-n) c.in_ok-check_question.ensures _
+    (to_z-of_z {w = w64} (sfits_of c.minus.type_inv) ∙ c.minus.ensures ∙ balance-read (lent (goal.at.returns c).Start) (asked (goal.at.returns c).In_ok-check_question) _ c.get-used.ensures _ _ c.sums_of-s.ensures)

@@ -8,9 +8,11 @@ use Rattle.posting.specs.Posts.{tables_at}
 use mir.Facts.{to_z-of_z}
 use lib.IntN.{pos}
 use mathlib.Core.Bool.{true, cond}
-use mathlib.Core.Path.{◌≡◌, sym, ap, ◌∙◌}
+use Rattle.std.proofs.Common.{rules}
+use Rattle.std.specs.Prelude.{Err}
+use mathlib.Core.Path.{◌≡◌, ap, ◌∙◌}
 use Rattle.call_questions.proofs.topup_due.Goals as goal
-use Rattle.call_questions.proofs.topup_due.Goals.{After-natural-n, Else-number-ne0, Start}
+use Rattle.call_questions.proofs.topup_due.Goals.{After-natural-n, In_ok-check_question, Start}
 
 -- the account's number
 numbered : (c : After-natural-n) → c.natural-n.result ≡ nat_of c.args.account
@@ -21,25 +23,20 @@ abbrev lent : Start → Tables
 lent s = tables_at s.args.header.now s.args.accounts.now s.args.journal.now
 
 -- a book that was not refused
-asked : (e : Else-number-ne0) → sound_tables (lent e.before.before.before) ≡ true
-asked e = asked-sound (lent e.before.before.before) e.natural-n.result (sym e.if-number-ne0.false ∙ e.question_refusal-number.ensures)
+asked : (e : In_ok-check_question) → sound_tables (lent e.before.before.before.before) ≡ true
+asked e = asked-sound (lent e.before.before.before.before) e.natural-n.result e.in_ok-check_question.ensures
 
-pub returns-then-number-ne0 : goal.returns-then-number-ne0
+pub returns-in_err-check_question : goal.returns-in_err-check_question
 unfolding topup_due_call
-returns-then-number-ne0 c =
-    question-refused (λ b n. pos (cond (book.topup_due b n) 1 0)) _ _ _ (numbered (goal.at.returns-then-number-ne0 c).After-natural-n) _ c.question_refusal-number.ensures c.if-number-ne0.true
+returns-in_err-check_question c =
+    let q : c.from_residual.result ≡ Err c.in_err-check_question.field-0.0 = search rules in
+    rw q (question-refused (λ b n. pos (cond (book.topup_due b n) 1 0)) _ _ _ (numbered (goal.at.returns-in_err-check_question c).After-natural-n) _ c.in_err-check_question.ensures)
 
 pub topup_due-requires : goal.topup_due-requires
 topup_due-requires c = asked c
 
-pub returns-then-topup_due : goal.returns-then-topup_due
-unfolding topup_due_call
-returns-then-topup_due c =
-    question-answered (λ b n. pos (cond (book.topup_due b n) 1 0)) _ _ _ (numbered (goal.at.returns-then-topup_due c).After-natural-n) _ c.question_refusal-number.ensures c.if-number-ne0.false _
-    (rw (← c.topup_due.ensures, c.if-topup_due.true))
-
 pub returns : goal.returns
 unfolding topup_due_call
 returns c =
-    question-answered (λ b n. pos (cond (book.topup_due b n) 1 0)) _ _ _ (numbered (goal.at.returns c).After-natural-n) _ c.question_refusal-number.ensures c.if-number-ne0.false _
-    (rw (← c.topup_due.ensures, c.if-topup_due.false))
+    question-answered (λ b n. pos (cond (book.topup_due b n) 1 0)) _ _ _ (numbered (goal.at.returns c).After-natural-n) c.in_ok-check_question.ensures _
+    (rw (← c.topup_due.ensures))

@@ -1,26 +1,14 @@
--- `find` meets its contract: the byte is where the loop ends, or nowhere in the part.
-use native.Mathlib.Omega.{arith}
-use mathlib.Core.Path.{◌≡◌}
-use lib.Seq.{slice}
-use Rattle.decimal.specs.Bytes.{index_of}
-use Rattle.decimal.proofs.FindLaws.{find-here, find-on, find-none}
+-- `find` meets its contract: the first match, or the length where there is none.
+use Rattle.std.proofs.Common.{rules, tests, ap, ◌∙◌, length, unwrap_or, Option, ℕ, eqb}
+use Rattle.std.proofs.lemmas.Iterator.{YieldsList-from_slice}
+use Rattle.std.proofs.lemmas.Iterator.Search.{position_from_yields_List}
+use Rattle.decimal.proofs.FindLaws.{index_of-le, position-index_of, place-or-length}
 use Rattle.decimal.proofs.find.Goals as goal
-
-pub returns-then-bytes-i-clause-value : goal.returns-then-bytes-i-clause-value
-returns-then-bytes-i-clause-value c =
-    let l = c.loop-i in
-    let e : index_of c.args.b (slice l.i c.args.to c.args.bytes.now) ≡ 0 = find-here c.args.b c.args.bytes.now l.i c.args.to (omega arith) (omega arith) c.if-bytes-i.true in
-    omega (arith, l.invariant.2, e)
-
-pub loop-i-preserved : goal.loop-i-preserved
-loop-i-preserved c =
-    let l = c.loop-i in
-    let e = find-on c.args.b c.args.bytes.now l.i c.args.to (omega arith) (omega arith) c.if-bytes-i.false in
-    (omega arith, omega arith, omega (arith, l.invariant.2, e))
 
 pub returns-clause-value : goal.returns-clause-value
 returns-clause-value c =
-    let l = c.loop-i in
-    let q : l.i ≡ c.args.to = omega arith in
-    let z = rw q at l.invariant.2 in
-    omega (arith, z, find-none c.args.b c.args.bytes.now c.args.to)
+    let n = length c.args.bytes.now in
+    let first = position_from_yields_List (λ (x : ℕ). eqb x c.args.b) _ _ c.position.result c.position.ensures.ran
+    (YieldsList-from_slice c.args.bytes.now cc) (λ x b q k. search (rules, tests)) in
+    ap (λ (o : Option ℕ). unwrap_or o n) first
+    ∙ rw (position-index_of c.args.b c.args.bytes.now) (place-or-length _ n (index_of-le c.args.b c.args.bytes.now))

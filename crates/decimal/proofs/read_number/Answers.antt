@@ -1,20 +1,10 @@
--- `read_number` meets its contract: no bytes, a minus first, or digits alone.
-use native.Mathlib.Omega.{arith}
-use mathlib.Core.Path.{◌∙◌}
-use Rattle.decimal.proofs.ReadingLaws.{number-none, number-minus, number-plain}
+-- `read_number` meets its contract: a minus first, or digits alone.
+use Rattle.std.proofs.Common.{◌∙◌}
+use Rattle.decimal.proofs.ReadingLaws.{number-minus, number-plain}
 use Rattle.decimal.proofs.read_number.Goals as goal
 
-pub returns-then-from-to : goal.returns-then-from-to
-returns-then-from-to c =
-    let a = c.args in
-    number-none a.line.now a.from a.to (omega arith)
+pub returns-in-Some : goal.returns-in-Some
+returns-in-Some c = let e = c.in-Some.ensures.cases in c.read_minus.ensures ∙ number-minus _ _ e.0 e.1
 
-pub returns-then-line-from-eq45 : goal.returns-then-line-from-eq45
-returns-then-line-from-eq45 c =
-    let a = c.args in
-    c.read_minus.ensures ∙ number-minus a.line.now a.from a.to (omega arith) (omega arith) c.if-line-from-eq45.true
-
-pub returns : goal.returns
-returns c =
-    let a = c.args in
-    c.read_plain.ensures ∙ number-plain a.line.now a.from a.to (omega arith) (omega arith) c.if-line-from-eq45.false
+pub returns-in-None : goal.returns-in-None
+returns-in-None c = c.read_plain.ensures ∙ number-plain _ c.in-None.ensures.cases

@@ -1,7 +1,7 @@
 -- `request_close` meets its contract: refused, the tables stay; accepted, they hold the book with the account pending.
 use borrow.Author.Tests.{eq-eqb, ne_eqb}
 use native.Mathlib.Omega.{arith}
-use mathlib.Core.Path.{refl}
+use Rattle.records.specs.declared.refusals.Refusal.TheVariants.{Untimely}
 use mathlib.Core.Bool.{true, false}
 use Rattle.lists.specs.Tests.{first}
 use Rattle.rules.proofs.TableLaws.{header-length}
@@ -14,8 +14,8 @@ use Rattle.event_accounts.proofs.request_close.Goals as goal
 pub returns-then-x-eq-STATE_PENDING : goal.returns-then-x-eq-STATE_PENDING
 unfolding first
 returns-then-x-eq-STATE_PENDING c =
-    rw c.refused.ensures
-    (posts-refused _ c.requires.0 _ 11 (request-by _ c.requires.0 _ c.requires.1 c.requires.2 true (rw (← c.requires.3) (eq-eqb _ _ c.if-x-eq-STATE_PENDING.true))) refl)
+    posts-refused _ c.requires.0 _ Untimely
+    (request-by _ c.requires.0 _ c.requires.1 c.requires.2 true (rw (← c.requires.3) (eq-eqb _ _ c.if-x-eq-STATE_PENDING.true)))
 
 pub overflow_sub-e : goal.overflow_sub-e
 unfolding first

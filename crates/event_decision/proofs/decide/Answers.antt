@@ -1,4 +1,6 @@
 -- `decide` meets its contract: refused, the tables stay; accepted, they hold the book as the verdict makes it, settled.
+use Rattle.std.proofs.Common.{rules}
+use Rattle.std.specs.Prelude.{◌≡◌, Err}
 use borrow.Author.Tests.{eq-eqb, ne_eqb}
 use native.Mathlib.Omega.{arith}
 use Rattle.rules.proofs.TableLaws.{header-length}
@@ -7,10 +9,10 @@ use Rattle.posting_laws.proofs.AddedLaws.{posts-refused}
 use Rattle.event_decision.proofs.DecisionLaws.{releasable, rejected-settles, rejected-begins, rejected-posts, upholdable, upheld-settles, upheld-begins, upheld-posts}
 use Rattle.event_decision.proofs.decide.Goals as goal
 
-pub returns-then-n-ne0 : goal.returns-then-n-ne0
-returns-then-n-ne0 c =
-    rw c.refused.ensures
-    (posts-refused _ c.requires.0 _ _ c.decision_refusal-n.ensures (ne_eqb _ _ c.if-n-ne0.true))
+pub returns-in_err-check_decision : goal.returns-in_err-check_decision
+returns-in_err-check_decision c =
+    let q : c.from_residual.result ≡ Err c.in_err-check_decision.field-0.0 = search rules in
+    rw q (posts-refused _ c.requires.0 _ _ c.in_err-check_decision.ensures)
 
 pub get-used-requires : goal.get-used-requires
 get-used-requires c = omega (arith, header-length _ c.requires.0)
@@ -18,7 +20,7 @@ get-used-requires c = omega (arith, header-length _ c.requires.0)
 pub uphold-requires : goal.uphold-requires
 uphold-requires c =
     let p = c.requires in
-    upholdable _ p.0 _ p.1 (rw c.if-n-ne0.false at c.decision_refusal-n.ensures) (eq-eqb _ _ c.if-e-eq-YES.true)
+    upholdable _ p.0 _ p.1 c.in_ok-check_decision.ensures (eq-eqb _ _ c.if-e-eq-YES.true)
 
 pub overflow_add-used : goal.overflow_add-used
 overflow_add-used c =
@@ -28,7 +30,7 @@ overflow_add-used c =
 pub settle_from-requires : goal.settle_from-requires
 settle_from-requires c =
     let p = c.requires in
-    rw c.get-used.ensures (upheld-settles _ p.0 _ p.1 (rw c.if-n-ne0.false at c.decision_refusal-n.ensures) (eq-eqb _ _ c.if-e-eq-YES.true) _ _ c.uphold.ensures, upheld-begins _ p.0 _ p.1 (rw c.if-n-ne0.false at c.decision_refusal-n.ensures) (eq-eqb _ _ c.if-e-eq-YES.true) _ _ c.uphold.ensures _ p.2)
+    rw c.get-used.ensures (upheld-settles _ p.0 _ p.1 c.in_ok-check_decision.ensures (eq-eqb _ _ c.if-e-eq-YES.true) _ _ c.uphold.ensures, upheld-begins _ p.0 _ p.1 c.in_ok-check_decision.ensures (eq-eqb _ _ c.if-e-eq-YES.true) _ _ c.uphold.ensures _ p.2)
 
 pub posted-requires : goal.posted-requires
 posted-requires c =
@@ -40,17 +42,17 @@ returns-then-e-eq-YES c =
     let p = c.requires in
     let d = rw c.get-used.ensures at c.settle_from.ensures in
     rw (c.posted.ensures, c.get-used.ensures)
-    (upheld-posts _ p.0 _ p.1 (rw c.if-n-ne0.false at c.decision_refusal-n.ensures) (eq-eqb _ _ c.if-e-eq-YES.true) _ _ c.uphold.ensures _ d)
+    (upheld-posts _ p.0 _ p.1 c.in_ok-check_decision.ensures (eq-eqb _ _ c.if-e-eq-YES.true) _ _ c.uphold.ensures _ d)
 
 pub reject-requires : goal.reject-requires
 reject-requires c =
     let p = c.requires in
-    releasable _ p.0 _ p.1 (rw c.if-n-ne0.false at c.decision_refusal-n.ensures)
+    releasable _ p.0 _ p.1 c.in_ok-check_decision.ensures
 
 pub settle_from-requires-2 : goal.settle_from-requires-2
 settle_from-requires-2 c =
     let p = c.requires in
-    rw c.get-used.ensures (rejected-settles _ p.0 _ p.1 (rw c.if-n-ne0.false at c.decision_refusal-n.ensures) (ne_eqb _ _ c.if-e-eq-YES.false) _ c.reject.ensures, rejected-begins _ p.0 _ p.1 (rw c.if-n-ne0.false at c.decision_refusal-n.ensures) (ne_eqb _ _ c.if-e-eq-YES.false) _ c.reject.ensures _ p.2)
+    rw c.get-used.ensures (rejected-settles _ p.0 _ p.1 c.in_ok-check_decision.ensures (ne_eqb _ _ c.if-e-eq-YES.false) _ c.reject.ensures, rejected-begins _ p.0 _ p.1 c.in_ok-check_decision.ensures (ne_eqb _ _ c.if-e-eq-YES.false) _ c.reject.ensures _ p.2)
 
 pub posted-requires-2 : goal.posted-requires-2
 posted-requires-2 c =
@@ -62,4 +64,4 @@ returns c =
     let p = c.requires in
     let d = rw c.get-used.ensures at c.settle_from-2.ensures in
     rw c.posted-2.ensures
-    (rejected-posts _ p.0 _ p.1 (rw c.if-n-ne0.false at c.decision_refusal-n.ensures) (ne_eqb _ _ c.if-e-eq-YES.false) _ c.reject.ensures _ d)
+    (rejected-posts _ p.0 _ p.1 c.in_ok-check_decision.ensures (ne_eqb _ _ c.if-e-eq-YES.false) _ c.reject.ensures _ d)

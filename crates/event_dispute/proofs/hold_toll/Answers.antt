@@ -1,5 +1,6 @@
 -- `hold_toll` meets its contract: refused, the tables stay; accepted, they hold the book with the toll held and its account settled.
-use borrow.Author.Tests.{ne_eqb}
+use Rattle.std.proofs.Common.{rules}
+use Rattle.std.specs.Prelude.{◌≡◌, Err}
 use native.Mathlib.Omega.{arith}
 use Rattle.rules.proofs.TableLaws.{header-length}
 use Rattle.posting.proofs.BookLaws.{used-small, used-room}
@@ -7,10 +8,10 @@ use Rattle.posting_laws.proofs.AddedLaws.{posts-refused}
 use Rattle.event_dispute.proofs.DisputeLaws.{held-row, dispute-row, dispute-storable, dispute-settles, dispute-begins, dispute-posts}
 use Rattle.event_dispute.proofs.hold_toll.Goals as goal
 
-pub returns-then-n-ne0 : goal.returns-then-n-ne0
-returns-then-n-ne0 c =
-    rw c.refused.ensures
-    (posts-refused _ c.requires.0 _ _ c.dispute_refusal-n.ensures (ne_eqb _ _ c.if-n-ne0.true))
+pub returns-in_err-check_dispute : goal.returns-in_err-check_dispute
+returns-in_err-check_dispute c =
+    let q : c.from_residual.result ≡ Err c.in_err-check_dispute.field-0.0 = search rules in
+    rw q (posts-refused _ c.requires.0 _ _ c.in_err-check_dispute.ensures)
 
 pub get-used-requires : goal.get-used-requires
 get-used-requires c = omega (arith, header-length _ c.requires.0)
@@ -23,11 +24,11 @@ get-requires c = omega (arith, header-length _ c.requires.0)
 
 pub overflow_sub-e : goal.overflow_sub-e
 overflow_sub-e c =
-    (dispute-row _ c.requires.0 _ c.requires.1 (rw c.if-n-ne0.false at c.dispute_refusal-n.ensures)).0
+    (dispute-row _ c.requires.0 _ c.requires.1 (c.in_ok-check_dispute.ensures)).0
 
 pub write_row-requires : goal.write_row-requires
 write_row-requires c =
-    let q = rw c.if-n-ne0.false at c.dispute_refusal-n.ensures in
+    let q = c.in_ok-check_dispute.ensures in
     let x = held-row _ c.requires.0 c.args.e _ _ _ _ c.get-used.ensures c.row_numbered-r.ensures c.get.ensures c.held_from-held.ensures in (
       omega (arith, dispute-row _ c.requires.0 _ c.requires.1 q, used-room _ c.requires.0),
       rw x (dispute-storable _ c.requires.0 _ c.requires.1 q),
@@ -35,7 +36,7 @@ write_row-requires c =
 
 pub settle_from-requires : goal.settle_from-requires
 settle_from-requires c =
-    let q = rw c.if-n-ne0.false at c.dispute_refusal-n.ensures in
+    let q = c.in_ok-check_dispute.ensures in
     let x = held-row _ c.requires.0 c.args.e _ _ _ _ c.get-used.ensures c.row_numbered-r.ensures c.get.ensures c.held_from-held.ensures in
     let w = rw x at c.write_row.ensures in
     rw c.get-used.ensures (dispute-settles _ c.requires.0 _ c.requires.1 q _ w, dispute-begins _ c.requires.0 _ c.requires.1 q _ w _ c.requires.2)
@@ -47,7 +48,7 @@ posted-requires c =
 
 pub returns : goal.returns
 returns c =
-    let q = rw c.if-n-ne0.false at c.dispute_refusal-n.ensures in
+    let q = c.in_ok-check_dispute.ensures in
     let x = held-row _ c.requires.0 c.args.e _ _ _ _ c.get-used.ensures c.row_numbered-r.ensures c.get.ensures c.held_from-held.ensures in
     let w = rw x at c.write_row.ensures in
     let d = rw c.get-used.ensures at c.settle_from.ensures in

@@ -1,4 +1,4 @@
-use Prim.Native.Nat.{ℕ, ◌-◌, ◌≤◌, ◌<◌}
+use Prim.Native.Nat.{ℕ, ◌<◌}
 use mathlib.Core.Path.{◌≡◌}
 use mathlib.Core.Bool.{false}
 use Rattle.records.specs.Encoding.{row_at}
@@ -6,7 +6,4 @@ use Rattle.event_lookups.proofs.PassageLaws.{toll_of}
 use Rattle.event_lookups.proofs.passage_found.Given as goal
 
 abbrev pub invariant-loop-i : goal.invariant-loop-i
-invariant-loop-i l = (l.i ≤ l.used) × ((k : ℕ) → k < l.i → toll_of l.passage (row_at l.journal k) ≡ false)
-
-abbrev pub decreases-loop-i : goal.decreases-loop-i
-decreases-loop-i l = l.used - l.i
+invariant-loop-i l = (k : ℕ) → k < l.i → toll_of l.passage (row_at l.journal k) ≡ false

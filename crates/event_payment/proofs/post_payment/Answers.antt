@@ -1,5 +1,6 @@
 -- `post_payment` meets its contract: refused, the tables stay; accepted, they hold the book with the payment settled.
-use borrow.Author.Tests.{ne_eqb}
+use Rattle.std.proofs.Common.{rules}
+use Rattle.std.specs.Prelude.{◌≡◌, Err}
 use native.Mathlib.Omega.{arith}
 use mathlib.Core.Path.{refl, sym, ◌∙◌}
 use Rattle.rules.proofs.TableLaws.{header-length, journal-length}
@@ -9,10 +10,10 @@ use Rattle.posting_laws.proofs.AddedLaws.{posts-refused, added-journal}
 use Rattle.event_payment.proofs.PaymentLaws.{payment-inside, payment-fits, payment-storable, payment-posts}
 use Rattle.event_payment.proofs.post_payment.Goals as goal
 
-pub returns-then-n-ne0 : goal.returns-then-n-ne0
-returns-then-n-ne0 c =
-    rw c.refused.ensures
-    (posts-refused _ c.requires.0 _ _ c.payment_refusal-n.ensures (ne_eqb _ _ c.if-n-ne0.true))
+pub returns-in_err-check_payment : goal.returns-in_err-check_payment
+returns-in_err-check_payment c =
+    let q : c.from_residual.result ≡ Err c.in_err-check_payment.field-0.0 = search rules in
+    rw q (posts-refused _ c.requires.0 _ _ c.in_err-check_payment.ensures)
 
 pub get-used-requires : goal.get-used-requires
 get-used-requires c = omega (arith, header-length _ c.requires.0)
@@ -24,7 +25,7 @@ pub add_row-requires : goal.add_row-requires
 add_row-requires c =
     let s = c.requires.0 in
     let k = c.requires.1 in
-    let q = sym c.if-n-ne0.false ∙ c.payment_refusal-n.ensures in (
+    let q = c.in_ok-check_payment.ensures in (
       record { header = header-length _ s; room = omega (arith, payment-fits _ s _ k q, journal-length _ s) },
       rw (c.new_row-r.ensures, c.get.ensures, day-read _ s) (payment-storable _ s _ k q),
     )
@@ -38,7 +39,7 @@ pub settle_from-requires : goal.settle_from-requires
 settle_from-requires c =
     let s = c.requires.0 in
     let k = c.requires.1 in
-    let q = sym c.if-n-ne0.false ∙ c.payment_refusal-n.ensures in
+    let q = c.in_ok-check_payment.ensures in
     let w = rw (c.new_row-r.ensures, c.get.ensures, day-read _ s) at c.add_row.ensures in
     rw c.get-used.ensures (added-journal _ s _ _ _ w (payment-fits _ s _ k q) (payment-storable _ s _ k q).amount, begun-last _ s _ _ _ _ _ c.requires.2 w (payment-inside _ s _ k q).0 (payment-inside _ s _ k q).1 refl)
 
@@ -51,7 +52,7 @@ pub returns : goal.returns
 returns c =
     let s = c.requires.0 in
     let k = c.requires.1 in
-    let q = sym c.if-n-ne0.false ∙ c.payment_refusal-n.ensures in
+    let q = c.in_ok-check_payment.ensures in
     let w = rw (c.new_row-r.ensures, c.get.ensures, day-read _ s) at c.add_row.ensures in
     let d = rw c.get-used.ensures at c.settle_from.ensures in
     rw (c.posted.ensures, c.get-used.ensures) (payment-posts _ s _ k q _ _ _ w d (payment-fits _ s _ k q))

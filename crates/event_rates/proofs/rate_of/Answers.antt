@@ -2,7 +2,7 @@
 use native.Mathlib.Omega.{arith}
 use mathlib.Core.Path.{◌∙◌}
 use Rattle.table_lists.proofs.UsedLaws.{used-few}
-use Rattle.event_rates.proofs.RateLaws.{rate-on}
+use Rattle.event_rates.proofs.RateLaws.{rate-on, class_number-from_1}
 use Rattle.event_rates.proofs.rate_of.Goals as goal
 
 pub rates_place-first-requires : goal.rates_place-first-requires
@@ -10,8 +10,7 @@ rates_place-first-requires c = omega (arith, c.list_on.ensures.within, used-few 
 
 pub returns : goal.returns
 returns c =
-    let p = c in
-    let l = p.before in
-    let a = l.before in
+    let k = class_number-from_1 c.args.class in
     c.get.ensures
-    ∙ rate-on _ a.args.day _ _ _ _ l.list_on.ensures p.rates_place-first.ensures a.requires.1 a.requires.2 a.requires.3 a.requires.4
+    ∙ rw c.number-class.ensures
+    (rate-on _ c.args.day _ _ _ _ c.list_on.ensures c.rates_place-first.ensures k.0 k.1 c.requires.1 c.requires.2)

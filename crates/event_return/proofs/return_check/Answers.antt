@@ -1,5 +1,6 @@
 -- `return_check` meets its contract: refused, the tables stay; accepted, they hold the book with the check returned and settled.
-use borrow.Author.Tests.{ne_eqb}
+use Rattle.std.proofs.Common.{rules}
+use Rattle.std.specs.Prelude.{◌≡◌, Err}
 use native.Mathlib.Omega.{arith}
 use mathlib.Core.Path.{sym, ◌∙◌}
 use Rattle.rules.proofs.TableLaws.{header-length}
@@ -8,10 +9,10 @@ use Rattle.posting_laws.proofs.AddedLaws.{posts-refused}
 use Rattle.event_return.proofs.ReturnLaws.{charge-le, return-counts, return-marks, marked-read, amount-read, reversal-read, reversal-storable, reversal-room, fee-read, fee-storable, fee-room, return-settles, return-begins, return-posts}
 use Rattle.event_return.proofs.return_check.Goals as goal
 
-pub returns-then-n-ne0 : goal.returns-then-n-ne0
-returns-then-n-ne0 c =
-    rw c.refused.ensures
-    (posts-refused _ c.requires.0 _ _ c.return_refusal-n.ensures (ne_eqb _ _ c.if-n-ne0.true))
+pub returns-in_err-check_return : goal.returns-in_err-check_return
+returns-in_err-check_return c =
+    let q : c.from_residual.result ≡ Err c.in_err-check_return.field-0.0 = search rules in
+    rw q (posts-refused _ c.requires.0 _ _ c.in_err-check_return.ensures)
 
 pub get-used-requires : goal.get-used-requires
 get-used-requires c = omega (arith, header-length _ c.requires.0)
@@ -20,21 +21,21 @@ pub count_return-requires : goal.count_return-requires
 count_return-requires c =
     let s = c.requires.0 in
     let k = c.requires.1 in
-    let q = sym c.if-n-ne0.false ∙ c.return_refusal-n.ensures in
+    let q = c.in_ok-check_return.ensures in
     rw c.requires.4 (return-counts _ s _ k q)
 
 pub mark_returned-amount-requires : goal.mark_returned-amount-requires
 mark_returned-amount-requires c =
     let s = c.requires.0 in
     let k = c.requires.1 in
-    let q = sym c.if-n-ne0.false ∙ c.return_refusal-n.ensures in
+    let q = c.in_ok-check_return.ensures in
     return-marks _ s _ k q _ c.get-used.ensures
 
 pub add_naming-requires : goal.add_naming-requires
 add_naming-requires c =
     let s = c.requires.0 in
     let k = c.requires.1 in
-    let q = sym c.if-n-ne0.false ∙ c.return_refusal-n.ensures in
+    let q = c.in_ok-check_return.ensures in
     let u = c.get-used.ensures in
     let d = c.mark_returned-amount.ensures in
     let m = marked-read _ s _ k q _ _ _ u d in
@@ -44,14 +45,14 @@ pub overflow_add-e : goal.overflow_add-e
 overflow_add-e c =
     let s = c.requires.0 in
     let k = c.requires.1 in
-    let q = sym c.if-n-ne0.false ∙ c.return_refusal-n.ensures in
+    let q = c.in_ok-check_return.ensures in
     omega (arith, charge-le _ s _ k q)
 
 pub add_naming-requires-2 : goal.add_naming-requires-2
 add_naming-requires-2 c =
     let s = c.requires.0 in
     let k = c.requires.1 in
-    let q = sym c.if-n-ne0.false ∙ c.return_refusal-n.ensures in
+    let q = c.in_ok-check_return.ensures in
     let u = c.get-used.ensures in
     let d = c.mark_returned-amount.ensures in
     let m = marked-read _ s _ k q _ _ _ u d in
@@ -67,7 +68,7 @@ pub settle_from-requires : goal.settle_from-requires
 settle_from-requires c =
     let s = c.requires.0 in
     let k = c.requires.1 in
-    let q = sym c.if-n-ne0.false ∙ c.return_refusal-n.ensures in
+    let q = c.in_ok-check_return.ensures in
     let u = c.get-used.ensures in
     let d = c.mark_returned-amount.ensures in
     let m = marked-read _ s _ k q _ _ _ u d in
@@ -84,7 +85,7 @@ pub returns : goal.returns
 returns c =
     let s = c.requires.0 in
     let k = c.requires.1 in
-    let q = sym c.if-n-ne0.false ∙ c.return_refusal-n.ensures in
+    let q = c.in_ok-check_return.ensures in
     let u = c.get-used.ensures in
     let d = c.mark_returned-amount.ensures in
     let m = marked-read _ s _ k q _ _ _ u d in

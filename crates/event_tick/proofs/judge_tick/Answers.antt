@@ -6,7 +6,7 @@ use mathlib.Core.Bool.{true, false}
 use Rattle.lists.specs.Tests.{first}
 use Rattle.rules.proofs.TableLaws.{header-length, sound-book}
 use Rattle.posting.proofs.BookLaws.{used-small, day-read}
-use Rattle.event_tick.proofs.TickLaws.{tick-by, tick-lacks, tick-fits, judged-refused}
+use Rattle.event_tick.proofs.TickLaws.{tick-by, tick-lacks, tick-fits}
 use Rattle.event_tick.proofs.judge_tick.Goals as goal
 
 pub get-requires : goal.get-requires
@@ -15,9 +15,11 @@ get-requires c = omega (arith, header-length _ c.requires.0)
 pub returns-then-get-eq-FINAL_DAY : goal.returns-then-get-eq-FINAL_DAY
 unfolding first
 returns-then-get-eq-FINAL_DAY c =
-    judged-refused _ _ _ 12 (omega arith) c.unplanned.ensures
-    (tick-by _ _ (sound-book _ c.requires.0) c.requires.1 c.requires.2 true _
-    (eq-eqb _ _ (sym (day-read _ c.requires.0) ∙ sym c.get.ensures ∙ c.if-get-eq-FINAL_DAY.true)) refl)
+    record {
+      number = tick-by _ _ (sound-book _ c.requires.0) c.requires.1 c.requires.2 true _
+          (eq-eqb _ _ (sym (day-read _ c.requires.0) ∙ sym c.get.ensures ∙ c.if-get-eq-FINAL_DAY.true)) refl;
+      plan = tt;
+    }
 
 pub get-used-requires : goal.get-used-requires
 get-used-requires c = omega (arith, header-length _ c.requires.0)
@@ -29,10 +31,12 @@ overflow_add-used c =
 pub returns-then-journal-used : goal.returns-then-journal-used
 unfolding first
 returns-then-journal-used c =
-    judged-refused _ _ _ 13 (omega arith) c.unplanned-then-journal-used.ensures
-    (tick-by _ _ (sound-book _ c.requires.0) c.requires.1 c.requires.2 false true
-    (ne_eqb _ _ (λ z. c.if-get-eq-FINAL_DAY.false (c.get.ensures ∙ day-read _ c.requires.0 ∙ z)))
-    (tick-lacks _ c.requires.0 _ c.plan_tick-plan.ensures.added (rw c.get-used.ensures at c.if-journal-used.true)))
+    record {
+      number = tick-by _ _ (sound-book _ c.requires.0) c.requires.1 c.requires.2 false true
+          (ne_eqb _ _ (λ z. c.if-get-eq-FINAL_DAY.false (c.get.ensures ∙ day-read _ c.requires.0 ∙ z)))
+          (tick-lacks _ c.requires.0 _ c.plan_tick-plan.ensures.added (rw c.get-used.ensures at c.if-journal-used.true));
+      plan = tt;
+    }
 
 pub returns : goal.returns
 unfolding first
@@ -41,5 +45,5 @@ returns c =
       number = tick-by _ _ (sound-book _ c.requires.0) c.requires.1 c.requires.2 false false
           (ne_eqb _ _ (λ z. c.if-get-eq-FINAL_DAY.false (c.get.ensures ∙ day-read _ c.requires.0 ∙ z)))
           (tick-fits _ c.requires.0 _ c.plan_tick-plan.ensures.added (omega (arith, c.get-used.ensures, c.if-journal-used.false)));
-      plan = λ z. c.plan_tick-plan.ensures;
+      plan = c.plan_tick-plan.ensures;
     }

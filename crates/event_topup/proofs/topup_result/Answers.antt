@@ -1,5 +1,6 @@
 -- `topup_result` meets its contract: refused, the tables stay; paid or declined, they hold the book after it.
-use borrow.Author.Tests.{ne_eqb}
+use Rattle.std.proofs.Common.{rules}
+use Rattle.std.specs.Prelude.{◌≡◌, Err}
 use native.Mathlib.Omega.{arith}
 use mathlib.Core.Path.{sym, ◌∙◌}
 use Rattle.rules.proofs.TableLaws.{header-length}
@@ -9,25 +10,26 @@ use Rattle.posting_laws.proofs.AccountEventLaws.{named-inside, named_in}
 use Rattle.event_topup.proofs.DeclinedLaws.{declined-storable, declined-posts}
 use Rattle.event_topup.proofs.topup_result.Goals as goal
 
-pub returns-then-n-ne0 : goal.returns-then-n-ne0
-returns-then-n-ne0 c =
-    rw c.refused.ensures (posts-refused _ c.requires.0 _ _ c.result_refusal-n.ensures (ne_eqb _ _ c.if-n-ne0.true))
+pub returns-in_err-check_result : goal.returns-in_err-check_result
+returns-in_err-check_result c =
+    let q : c.from_residual.result ≡ Err c.in_err-check_result.field-0.0 = search rules in
+    rw q (posts-refused _ c.requires.0 _ _ c.in_err-check_result.ensures)
 
 pub pay_topup-requires : goal.pay_topup-requires
 pay_topup-requires c =
-    (record { sound = c.requires.0; kind = c.requires.1; accepted = sym c.if-n-ne0.false ∙ c.result_refusal-n.ensures; paid = c.if-e-eq1.true }, c.requires.2, c.requires.4)
+    (record { sound = c.requires.0; kind = c.requires.1; accepted = c.in_ok-check_result.ensures; paid = c.if-e-eq1.true }, c.requires.2, c.requires.4)
 
 pub get-requires : goal.get-requires
 get-requires c = omega (arith, header-length _ c.requires.0)
 
 pub overflow_sub-e : goal.overflow_sub-e
 overflow_sub-e c =
-    (named-inside _ c.requires.0 _ (rw c.requires.1) (sym c.if-n-ne0.false ∙ c.result_refusal-n.ensures)).0
+    (named-inside _ c.requires.0 _ (rw c.requires.1) (c.in_ok-check_result.ensures)).0
 
 pub write_account-requires : goal.write_account-requires
 write_account-requires c =
     let s = c.requires.0 in (
-      named_in _ s _ (rw c.requires.1) (sym c.if-n-ne0.false ∙ c.result_refusal-n.ensures),
+      named_in _ s _ (rw c.requires.1) (c.in_ok-check_result.ensures),
       rw (c.decline-declined.ensures, c.get.ensures, c.requires.4, day-read _ s) (declined-storable _ s c.args.e),
     )
 
@@ -44,4 +46,4 @@ returns c =
     let s = c.requires.0 in
     let changed = rw (c.decline-declined.ensures, c.get.ensures, c.requires.4, day-read _ s) at c.write_account.ensures in
     rw (c.posted.ensures, c.removed_by_decline.ensures, c.requires.4)
-    (declined-posts _ s _ c.requires.1 (sym c.if-n-ne0.false ∙ c.result_refusal-n.ensures) c.if-e-eq1.false _ changed)
+    (declined-posts _ s _ c.requires.1 (c.in_ok-check_result.ensures) c.if-e-eq1.false _ changed)

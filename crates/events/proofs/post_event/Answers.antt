@@ -1,10 +1,11 @@
 -- `post_event` meets its contract: refused by a shared refusal, the tables stay; else it is looked up and posted.
-use borrow.Author.Tests.{ne_eqb}
+use Rattle.std.proofs.Common.{rules}
+use Rattle.std.specs.Prelude.{◌≡◌, Err}
 use Rattle.posting_laws.proofs.AddedLaws.{posts-refused}
-use Rattle.event_refusals.proofs.AdmissionLaws.{admits-number}
+use Rattle.event_refusals.proofs.AdmissionLaws.{admits-refused, admits-admitted}
 use Rattle.events.proofs.post_event.Goals as goal
 
-pub returns-then-m-ne0 : goal.returns-then-m-ne0
-returns-then-m-ne0 c =
-    let z = ne_eqb _ _ c.if-m-ne0.true in
-    rw c.refused.ensures (posts-refused _ c.requires _ _ (admits-number _ _ _ c.admit-m.ensures z) z)
+pub returns-in_err-x : goal.returns-in_err-x
+returns-in_err-x c =
+    let q : c.from_residual.result ≡ Err c.in_err-x.field-0.0 = search rules in
+    rw q (posts-refused _ c.requires _ _ (admits-refused _ _ _ c.in_err-x.ensures))

@@ -1,13 +1,14 @@
--- `must_print` meets its contract: the tests in order.
-use mathlib.Core.Path.{sym}
-use Rattle.listing.proofs.TurnLaws.{due-waits, due-over, due-else}
+-- `must_print` meets its contract: the phases in order.
+use Rattle.std.proofs.Common.{sym, ap}
+use Rattle.listing_steps.specs.Steps.{is_waiting, is_over}
+use Rattle.listing.proofs.TurnLaws.{due-waits, due-over, due-taking}
 use Rattle.listing.proofs.must_print.Goals as goal
 
-pub returns-then-p : goal.returns-then-p
-returns-then-p c = sym (due-waits _ c.if-p.true)
+pub returns-in-Waiting : goal.returns-in-Waiting
+returns-in-Waiting c = sym (due-waits c.args.p c.args.out.now (ap is_waiting c.in-Waiting.is))
 
-pub returns-then-p-2 : goal.returns-then-p-2
-returns-then-p-2 c = sym (due-over _ c.if-p-2.true)
+pub returns-in-Over : goal.returns-in-Over
+returns-in-Over c = sym (due-over c.args.p c.args.out.now (ap is_over c.in-Over.is))
 
-pub returns : goal.returns
-returns c = sym (due-else _ c.if-p.false c.if-p-2.false)
+pub returns-in-Taking : goal.returns-in-Taking
+returns-in-Taking c = rw c.len.ensures.value (due-taking c.args.p c.args.out.now c.in-Taking.is)

@@ -1,35 +1,15 @@
--- `read_on` meets its contract: the bytes that wait are at the front, and what is read follows them.
-use native.Mathlib.Omega.{arith}
-use Rattle.listing.proofs.TurnLaws.{rest-unended, reads-after}
+-- `read_on` meets its contract: what is read follows the bytes that wait, or they are the last line.
+use Rattle.std.proofs.Common.{arith}
+use Rattle.listing.proofs.TurnLaws.{read-some, read-none}
 use Rattle.listing.proofs.read_on.Goals as goal
 
-pub read_more-more-requires : goal.read_more-more-requires
-read_more-more-requires c =
-    let m = c.move_to_front-waiting.ensures in
-    let k = c.requires in
-    omega (arith, m.0, m.2, (k.0.waiting k.1).few, k.0.read)
-
-pub after_read-requires : goal.after_read-requires
-after_read-requires c =
-    let a = c.args in
-    let k = c.requires in
-    let m = c.move_to_front-waiting in
+pub returns-then-more-eq0 : goal.returns-then-more-eq0
+returns-then-more-eq0 c =
     let r = c.read_more-more in
-    let s = k.0.stands in
-    let f = r.ensures in (
-      s.ready,
-      s.few,
-      rest-unended a.input.now m.new.input r.new.input a.p m.result r.result s.from s.to m.ensures.0 m.ensures.1 m.ensures.2 f (k.0.waiting k.1),
-      omega (arith, f.fits, f.size),
-      omega (arith, k.0.written),
-    )
+    let rest = rw c.as_bytes.ensures at c.write_rest.ensures in
+    read-none _ _ _ _ _ r.result r.ensures.kept r.ensures.longer (c.requires.0.empty c.requires.1) (omega arith) _ _ rest
 
 pub returns : goal.returns
 returns c =
-    let a = c.args in
-    let k = c.requires in
-    let m = c.move_to_front-waiting in
     let r = c.read_more-more in
-    let s = k.0.stands in
-    reads-after a.input.now m.new.input r.new.input a.p m.result r.result s.from s.to m.ensures.0 m.ensures.1 m.ensures.2 r.ensures
-    _ _ _ _ _ (k.0.empty k.1) c.after_read.ensures
+    read-some _ _ _ _ _ r.result r.ensures.kept r.ensures.longer (c.requires.0.empty c.requires.1) (omega arith)

@@ -1,25 +1,19 @@
 -- `write_account` meets its contract: nothing of an unused account, else three fields.
-use native.Mathlib.Omega.{arith}
+use Rattle.std.proofs.Common.{sym, append-nil}
 use Rattle.records.specs.Encoding.{rows_of}
 use Rattle.listing_rules.specs.Texts.{field, line}
-use Rattle.listing_text.proofs.PutsLaws.{puts-puts, puts-nothing}
+use Rattle.decimal.proofs.WritingLaws.{appended}
 use Rattle.listing_book.proofs.ListedLaws.{account-unused, account-used}
 use Rattle.listing_book.proofs.write_account.Goals as goal
 
-pub returns-then-x-eq-STATE_UNUSED : goal.returns-then-x-eq-STATE_UNUSED
-returns-then-x-eq-STATE_UNUSED c =
-    let a = c.args in
-    (λ b e. rw (← account-unused b a.n a.x c.if-x-eq-STATE_UNUSED.true) (puts-nothing _ _ (omega arith)), omega arith)
+pub returns-then-x-eq-STATE_UNUSED-clause-text : goal.returns-then-x-eq-STATE_UNUSED-clause-text
+returns-then-x-eq-STATE_UNUSED-clause-text c =
+    λ b e. rw (← account-unused b c.args.n c.args.x c.if-x-eq-STATE_UNUSED.true) (sym (append-nil _))
 
-pub returns : goal.returns
+pub returns-clause-text : goal.returns-clause-text
 unfolding field line
-returns c =
+returns-clause-text c =
     let a = c.args in
-    let p1 = c.write_field-state.ensures in
-    let p2 = c.write_field-balance.ensures in
-    let p3 = c.write_balance.ensures in
-    let to2 = puts-puts _ _ _ _ _ _ _ _ p1.0 p2.0 in
-    let to3 = puts-puts _ _ _ _ _ _ _ _ to2 p3.0 in (
-      λ b e. rw (← account-used b a.n a.x (rows_of a.journal.now a.used) e c.if-x-eq-STATE_UNUSED.false) to3,
-      omega arith,
-    )
+    let two = appended _ _ _ _ _ c.write_field.ensures.text c.write_field-2.ensures.text in
+    let three = appended _ _ _ _ _ two c.write_balance.ensures.text in
+    λ b e. rw (← account-used b a.n a.x (rows_of a.journal.now a.used) e c.if-x-eq-STATE_UNUSED.false) three

@@ -4,11 +4,10 @@ use mathlib.Core.Path.{ap₂, ◌∙◌}
 use mir.Syntax.{w64}
 use mir.Facts.{to_z-of_z}
 use borrow.Author.Rules.{sfits_of}
-use Rattle.decimal.specs.Decimal.{text_of}
 use Rattle.rules.specs.Book.{minus}
 use Rattle.listing_rules.specs.Texts.{line}
 use Rattle.balances.proofs.AmountLaws.{sums-fit}
-use Rattle.listing_text.proofs.PutsLaws.{puts-ended}
+use Rattle.decimal.proofs.WritingLaws.{appended}
 use Rattle.listing_book.proofs.write_balance.Goals as goal
 
 pub minus-requires : goal.minus-requires
@@ -16,11 +15,9 @@ minus-requires c =
     let h = sums-fit _ _ c.requires.1 _ _ c.sums_of-s.ensures in
     (omega arith, omega arith)
 
-pub returns : goal.returns
+pub returns-clause-text : goal.returns-clause-text
 unfolding line
-returns c =
-    let a = c.args in
-    let w = c.write_number-next in
+returns-clause-text c =
     let m = c.minus in
     let e = to_z-of_z {w = w64} (sfits_of m.type_inv) ∙ m.ensures ∙ ap₂ minus c.sums_of-s.ensures.sources c.sums_of-s.ensures.debits in
-    (rw e at (puts-ended _ _ a.at w.result 10 (text_of _) w.ensures.value.0 (omega (arith, w.ensures.value.1)) w.ensures.buffer_after), omega (arith, w.ensures.value.1))
+    appended _ _ _ _ _ (rw e at c.push_number.ensures.text) c.push.ensures.text

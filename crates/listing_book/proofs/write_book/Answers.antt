@@ -10,25 +10,21 @@ use Rattle.listing_book.proofs.write_book.Goals as goal
 pub get-used-requires : goal.get-used-requires
 get-used-requires c = omega (arith, header-length _ c.requires.sound)
 
-pub write_rows-names-requires : goal.write_rows-names-requires
-write_rows-names-requires c =
-    let a = c.args in
-    let g = c.get-used in
-    (omega (arith, g.ensures, c.requires.room, c.write_text-rows.ensures.ends), rw g.ensures (sound-dated (tables_at a.header.now a.accounts.now a.journal.now) c.requires.sound))
+pub write_rows-requires : goal.write_rows-requires
+write_rows-requires c =
+    let t = tables_at c.args.header.now c.args.accounts.now c.args.journal.now in
+    let g = c.get-used.ensures in
+    (omega (arith, g, c.requires.room), rw g (sound-dated t c.requires.sound))
 
 pub write_accounts-requires : goal.write_accounts-requires
 write_accounts-requires c =
-    let a = c.args in
-    let t = tables_at a.header.now a.accounts.now a.journal.now in
-    let g = c.get-used in (
-      omega (arith, g.ensures, c.requires.room, c.write_text-rows.ensures.ends, c.write_rows-names.ensures.1, c.write_text-listed.ensures.ends),
-      omega (arith, accounts-length t c.requires.sound),
-      rw g.ensures (journal-summable t c.requires.sound),
-    )
+    let t = tables_at c.args.header.now c.args.accounts.now c.args.journal.now in
+    let g = c.get-used.ensures in
+    (omega (arith, g, c.requires.room), omega (arith, accounts-length t c.requires.sound), rw g (journal-summable t c.requires.sound))
 
 pub returns : goal.returns
 unfolding line bytes_of
 returns c =
     let a = c.args in
-    book-listed (tables_at a.header.now a.accounts.now a.journal.now) c.requires.sound _ c.get-used.ensures _ _ _ _ _ _ _ _ _ _
-    c.write_text-rows.ensures c.write_rows-names.ensures.0 c.write_text-listed.ensures c.write_accounts.ensures.0
+    book-listed (tables_at a.header.now a.accounts.now a.journal.now) c.requires.sound _ c.get-used.ensures _ _ _ _ _
+    c.extend_from_slice.ensures.text c.write_rows.ensures.text c.extend_from_slice-2.ensures.text c.write_accounts.ensures.text

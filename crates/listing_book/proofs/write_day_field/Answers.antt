@@ -1,14 +1,8 @@
 -- `write_day_field` meets its contract: the ten bytes of the date, then a comma.
-use native.Mathlib.Omega.{arith}
-use Rattle.decimal.specs.Decimal.{date_text}
 use Rattle.listing_rules.specs.Texts.{field}
-use Rattle.listing_text.proofs.PutsLaws.{puts-ended}
-use Rattle.listing_book.proofs.ListedLaws.{length-date}
+use Rattle.decimal.proofs.WritingLaws.{appended}
 use Rattle.listing_book.proofs.write_day_field.Goals as goal
 
-pub returns : goal.returns
+pub returns-clause-text : goal.returns-clause-text
 unfolding field
-returns c =
-    let a = c.args in
-    let w = c.write_date-next in
-    (puts-ended _ _ a.at w.result 44 (date_text a.day) (omega (arith, w.ensures.value, length-date a.day)) (omega (arith, w.ensures.value)) w.ensures.buffer_after, omega (arith, w.ensures.value))
+returns-clause-text c = appended _ _ _ _ _ c.push_date.ensures.text c.push.ensures.text

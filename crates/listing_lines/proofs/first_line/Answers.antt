@@ -1,20 +1,13 @@
 -- `first_line` meets its contract: the names or a bad line.
-use native.Mathlib.Omega.{arith}
-use mathlib.Core.Path.{refl, sym, ◌∙◌}
-use Rattle.listing_rules.specs.Texts.{same, bytes_of}
-use Rattle.listing_text.proofs.PutsLaws.{puts-nothing}
-use Rattle.listing_lines.proofs.TakenLaws.{taken-bad, taken-good, first_good, first-text, first-book, first-ready}
+use Rattle.std.proofs.Common.{sym, ◌∙◌}
+use Rattle.listing_rules.specs.Texts.{bytes_of}
+use Rattle.listing_lines.proofs.TakenLaws.{names-other, names-same, first_good}
 use Rattle.listing_lines.proofs.first_line.Goals as goal
 
-pub returns-then-not-same_bytes : goal.returns-then-not-same_bytes
-unfolding same bytes_of
-returns-then-not-same_bytes c =
-    let a = c.args in
-    taken-bad 0 _ _ a.line.now _ _ a.at _ (first_good a.line.now ∙ sym c.same_bytes.ensures ∙ c.if-not-same_bytes.true) c.bad_line.ensures
+pub returns-then-ne : goal.returns-then-ne
+unfolding bytes_of
+returns-then-ne c = names-other _ _ c.if-ne.ensures ∙ sym (first_good c.args.line.now)
 
 pub returns : goal.returns
-unfolding same bytes_of
-returns c =
-    let a = c.args in
-    taken-good 0 _ _ a.line.now _ _ a.at _ (first_good a.line.now ∙ sym c.same_bytes.ensures ∙ c.if-not-same_bytes.false) refl (rw (← first-text _ a.line.now) (puts-nothing a.out.now a.at (omega arith))) (omega arith)
-    (first-book _ a.line.now) (first-ready _ a.line.now c.requires.1)
+unfolding bytes_of
+returns c = names-same _ _ c.if-ne.ensures ∙ sym (first_good c.args.line.now)

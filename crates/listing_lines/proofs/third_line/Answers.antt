@@ -1,19 +1,18 @@
 -- `third_line` meets its contract: the names, and then those of the answers, or a bad line.
-use native.Mathlib.Omega.{arith}
-use mathlib.Core.Path.{refl, sym, ◌∙◌}
-use Rattle.listing_rules.specs.Texts.{same, bytes_of, line}
-use Rattle.listing_lines.proofs.TakenLaws.{taken-bad, taken-good, third-good, third-text, third-book, third-ready}
+use Rattle.std.proofs.Common.{◌≡◌, arith, sym, ◌∙◌, true, false, append-nil}
+use Rattle.listing_rules.specs.Texts.{bytes_of, line}
+use Rattle.listing_rules.specs.Listing.{is_good}
+use Rattle.listing_lines.proofs.TakenLaws.{names-other, names-same, third-good}
 use Rattle.listing_lines.proofs.third_line.Goals as goal
 
-pub returns-then-not-same_bytes : goal.returns-then-not-same_bytes
-unfolding same bytes_of
-returns-then-not-same_bytes c =
-    let a = c.args in
-    taken-bad 2 _ _ a.line.now _ _ a.at _ (third-good a.line.now ∙ sym c.same_bytes.ensures ∙ c.if-not-same_bytes.true) c.bad_line.ensures
+pub returns-then-ne : goal.returns-then-ne
+unfolding bytes_of
+returns-then-ne c =
+    let bad : false ≡ is_good 2 c.args.line.now = names-other _ _ c.if-ne.ensures ∙ sym (third-good c.args.line.now) in
+    record { good = bad; text = rw (← bad, append-nil c.args.out.now); short = omega arith }
 
 pub returns : goal.returns
-unfolding same bytes_of line
+unfolding bytes_of line
 returns c =
-    let a = c.args in
-    taken-good 2 _ _ a.line.now _ _ a.at _ (third-good a.line.now ∙ sym c.same_bytes.ensures ∙ c.if-not-same_bytes.false) refl (rw (← third-text _ a.line.now) c.write_text-end.ensures) (omega (arith, c.write_text-end.ensures.ends))
-    (third-book _ a.line.now) (third-ready _ a.line.now c.requires.1)
+    let good : true ≡ is_good 2 c.args.line.now = names-same _ _ c.if-ne.ensures ∙ sym (third-good c.args.line.now) in
+    record { good = good; text = rw (← good) c.extend_from_slice.ensures.text; short = omega arith }

@@ -1,26 +1,23 @@
 -- `write_rest` meets its contract: the bytes that are left are the last line, and the end comes after it.
-use native.Mathlib.Omega.{arith}
-use borrow.Author.Tests.{not-true, not-false}
+use Rattle.std.proofs.Common.{arith, rules, sym, ◌∙◌}
 use Rattle.listing_steps.proofs.StepLaws.{rest-none, rest-bad, rest-ready, rest-good}
 use Rattle.listing_steps.proofs.write_rest.Goals as goal
 
-pub returns-then-rest-eq0 : goal.returns-then-rest-eq0
-returns-then-rest-eq0 c =
-    let a = c.args in
-    rw (← rest-none a.lines _ a.rest.now (omega arith)) c.write_end.ensures
+pub returns-then-is_empty : goal.returns-then-is_empty
+returns-then-is_empty c = rw (← rest-none c.args.lines _ c.args.rest.now (search rules)) c.write_end.ensures
 
-pub returns-then-not-line : goal.returns-then-not-line
-returns-then-not-line c =
-    let a = c.args in
-    rest-bad a.lines _ _ a.rest.now _ _ _ c.take_line-line.ensures c.requires.1 (omega arith) (not-true _ c.if-not-line.true)
+pub write_end-requires-then-is_ok : goal.write_end-requires-then-is_ok
+write_end-requires-then-is_ok c =
+    let w = c.take_line.ensures in
+    let good = sym c.is_ok.ensures.value ∙ c.if-is_ok.true in
+    (rest-ready c.args.lines _ _ c.args.rest.now _ _ _ w c.requires.1 (search rules) good, omega (arith, w.short))
 
-pub write_end-requires-2 : goal.write_end-requires-2
-write_end-requires-2 c =
-    let a = c.args in
-    let w = c.take_line-line.ensures in
-    (rest-ready a.lines _ _ a.rest.now _ _ _ w c.requires.1 (omega arith) (not-false _ c.if-not-line.false), omega (arith, w.short))
+pub returns-then-is_ok : goal.returns-then-is_ok
+returns-then-is_ok c =
+    let good = sym c.is_ok.ensures.value ∙ c.if-is_ok.true in
+    rest-good c.args.lines _ _ c.args.rest.now _ _ _ c.take_line.ensures c.requires.1 (search rules) good _ c.write_end-then-is_ok.ensures
 
-pub returns : goal.returns
-returns c =
-    let a = c.args in
-    rest-good a.lines _ _ a.rest.now _ _ _ c.take_line-line.ensures c.requires.1 (omega arith) (not-false _ c.if-not-line.false) _ _ c.write_end-2.ensures
+pub returns-else-is_ok : goal.returns-else-is_ok
+returns-else-is_ok c =
+    let bad = sym c.is_ok.ensures.value ∙ c.if-is_ok.false in
+    rest-bad c.args.lines _ _ c.args.rest.now _ _ _ c.take_line.ensures c.requires.1 (search rules) bad

@@ -1,19 +1,20 @@
--- `plain_row` meets its contract: ten words, read in the layout's order.
-use Rattle.records.specs.Encoding.{row_from}
+-- `plain_row` meets its contract: each word is read by bits.
+use Rattle.records.specs.Encoding.{row_from, word}
 use Rattle.plain_rows.proofs.plain_row.Goals as goal
 
 pub returns : goal.returns
-unfolding row_from
+unfolding row_from word
 returns c =
+    let w = c.row_by.ensures in
     record {
-      kind = c.get_bits.ensures;
-      account = c.get_bits-2.ensures;
-      day = c.get_bits-3.ensures;
-      amount = c.get_bits-4.ensures;
-      settled = c.get_bits-5.ensures;
-      mark = c.get_bits-6.ensures;
-      due = c.get_bits-7.ensures;
-      dispute = c.get_bits-8.ensures;
-      hold = c.get_bits-9.ensures;
-      reference = c.get_bits-10.ensures;
+      kind = w.kind;
+      account = w.account;
+      day = w.day;
+      amount = w.amount;
+      settled = w.settled;
+      mark = w.mark;
+      due = w.due;
+      dispute = w.dispute;
+      hold = w.hold;
+      reference = w.reference;
     }

@@ -1,4 +1,4 @@
-use Prim.Native.Nat.{ℕ, ◌-◌, ◌≤◌, ◌<◌}
+use Prim.Native.Nat.{ℕ, ◌≤◌, ◌<◌}
 use mathlib.Core.Path.{◌≡◌}
 use Rattle.records.specs.Encoding.{row_at, rows_of}
 use Rattle.lists.specs.Lists.{only}
@@ -6,7 +6,4 @@ use Rattle.rules.specs.Rows.{remaining, payable}
 use Rattle.settlement.proofs.next_debit.Given as goal
 
 abbrev pub invariant-loop-k : goal.invariant-loop-k
-invariant-loop-k l = (l.j ≤ l.k) × (l.k ≤ l.used) × ((i : ℕ) → l.j ≤ i → i < l.k → only (payable (rows_of l.journal l.used) l.account) remaining (row_at l.journal i) ≡ 0)
-
-abbrev pub decreases-loop-k : goal.decreases-loop-k
-decreases-loop-k l = l.used - l.k
+invariant-loop-k l = (i : ℕ) → l.j ≤ i → i < l.k → only (payable (rows_of l.journal l.used) l.account) remaining (row_at l.journal i) ≡ 0

@@ -9,32 +9,31 @@ use Rattle.lists.specs.Lists.{only}
 use Rattle.rules.specs.Rows.{remaining, payable}
 use Rattle.settlement.proofs.WalkLaws.{Walking, walking_start, walking-debit, walking-source, walking-pay, source-left, no-source-left, no-debit-left, Turn, source_fits, debit-fits}
 use Rattle.settlement.proofs.settle_from.Goals as goal
-use Rattle.settlement.proofs.settle_from.Goals.{After-lesser-m}
+use Rattle.settlement.proofs.settle_from.Goals.{After-min-m}
 
-turn-from : (c : After-lesser-m) (old : List ℤ)
+turn-from : (c : After-min-m) → c.min-m.result ≡ min c.loop-x.x c.wanted.result → (old : List ℤ)
     → Walking c.args.account c.args.used old c.sources.journal c.sources.i c.sources.j
-    → Turn c.args.account c.args.used old c.loop-x.journal c.sources.i c.next_debit-j.result c.lesser-m.result
-turn-from c old start =
+    → Turn c.args.account c.args.used old c.loop-x.journal c.sources.i c.next_debit-j.result c.min-m.result
+turn-from c m old start =
     let l = c.loop-x in
     let n = c.next_debit-j in
     let y : c.wanted.result ≡ only (payable (rows_of l.journal c.args.used) c.args.account) remaining (row_at l.journal n.result) = c.wanted.ensures in
-    let m : c.lesser-m.result ≡ min l.x c.wanted.result = c.lesser-m.ensures in
     let x = l.invariant.1 in
     let h = c.if-used-j.false in
     let p = n.ensures.wants h in
     let q = c.loop-x-test.true in
     record {
       walk = walking-debit _ _ _ _ _ _ _ (l.invariant.0 old start) n.ensures;
-      in-i = c.sources-test.true;
+      in-i = omega arith;
       in-k = h;
       has = omega arith;
       wants = omega arith;
       some = omega arith;
     }
 
-turn : (c : After-lesser-m)
-    → Turn c.args.account c.args.used c.args.journal.now c.loop-x.journal c.sources.i c.next_debit-j.result c.lesser-m.result
-turn c = turn-from c c.args.journal.now c.sources.invariant
+turn : (c : After-min-m) → c.min-m.result ≡ min c.loop-x.x c.wanted.result
+    → Turn c.args.account c.args.used c.args.journal.now c.loop-x.journal c.sources.i c.next_debit-j.result c.min-m.result
+turn c m = turn-from c m c.args.journal.now c.sources.invariant
 
 pub sources-init : goal.sources-init
 sources-init c = walking_start _ _ _ _ _ c.requires.0 c.requires.1
@@ -42,7 +41,7 @@ sources-init c = walking_start _ _ _ _ _ c.requires.0 c.requires.1
 pub unused-x-requires : goal.unused-x-requires
 unused-x-requires c =
     let w = c.sources.invariant.journal.room in
-    omega (arith, c.sources-test.true)
+    omega arith
 
 pub loop-x-init : goal.loop-x-init
 loop-x-init c = (λ old w. w, c.unused-x.ensures)
@@ -57,46 +56,40 @@ wanted-requires c = ((c.loop-x.invariant.0 c.args.journal.now c.sources.invarian
 
 pub add_settled-requires : goal.add_settled-requires
 add_settled-requires c =
-    let w = turn (goal.at.add_settled-requires c).After-lesser-m in
+    let w = turn (goal.at.add_settled-requires c).After-min-m c.min-m.ensures in
     let r = w.walk.journal.room in
     (omega (arith, w.in-i), source_fits _ _ _ _ _ _ _ w)
 
 pub add_settled-requires-in-loop-x : goal.add_settled-requires-in-loop-x
 add_settled-requires-in-loop-x c =
-    let w = turn (goal.at.add_settled-requires-in-loop-x c).After-lesser-m in
+    let w = turn (goal.at.add_settled-requires-in-loop-x c).After-min-m c.min-m.ensures in
     let r = w.walk.journal.room in
     let s = c.add_settled.ensures in
     let z = s.size in
     (omega (arith, w.in-k), debit-fits _ _ _ _ _ _ _ w _ s)
 
 pub overflow_sub-x : goal.overflow_sub-x
-overflow_sub-x c = let w = turn (goal.at.overflow_sub-x c).After-lesser-m in omega (arith, w.has, c.loop-x.invariant.1)
+overflow_sub-x c = let w = turn (goal.at.overflow_sub-x c).After-min-m c.min-m.ensures in omega (arith, w.has, c.loop-x.invariant.1)
 
 pub loop-x-smaller : goal.loop-x-smaller
-loop-x-smaller c = let w = turn (goal.at.loop-x-smaller c).After-lesser-m in omega (arith, w.some, w.has, c.loop-x.invariant.1)
+loop-x-smaller c = let w = turn (goal.at.loop-x-smaller c).After-min-m c.min-m.ensures in omega (arith, w.some, w.has, c.loop-x.invariant.1)
 
 pub loop-x-preserved : goal.loop-x-preserved
 loop-x-preserved c =
     let s = c.add_settled.ensures in
     let d = c.add_settled-in-loop-x.ensures in
-    let w = turn (goal.at.loop-x-preserved c).After-lesser-m in (
-      λ old start. let v = turn-from (goal.at.loop-x-preserved c).After-lesser-m old start in walking-pay _ _ _ _ _ _ _ _ _ v s d,
+    let w = turn (goal.at.loop-x-preserved c).After-min-m c.min-m.ensures in (
+      λ old start. let v = turn-from (goal.at.loop-x-preserved c).After-min-m c.min-m.ensures old start in walking-pay _ _ _ _ _ _ _ _ _ v s d,
       rw c.loop-x.invariant.1 (sym (source-left _ _ _ _ _ _ _ _ _ w s d)),
     )
-
-pub overflow_add-i : goal.overflow_add-i
-overflow_add-i c = omega (arith, c.sources-test.true)
-
-pub sources-smaller : goal.sources-smaller
-sources-smaller c = omega (arith, c.sources-test.true)
 
 pub sources-preserved : goal.sources-preserved
 sources-preserved c =
     let l = c.loop-x in
-    walking-source _ _ _ _ _ _ (l.invariant.0 c.args.journal.now c.sources.invariant) c.sources-test.true (omega (arith, c.loop-x-test.false, l.invariant.1))
+    walking-source _ _ _ _ _ _ (l.invariant.0 c.args.journal.now c.sources.invariant) (omega arith) (omega (arith, c.loop-x-test.false, l.invariant.1))
 
 pub returns-after-sources : goal.returns-after-sources
-returns-after-sources c = no-source-left _ _ _ _ _ _ c.sources.invariant c.sources-test.false
+returns-after-sources c = no-source-left _ _ _ _ _ _ c.sources.invariant (omega arith)
 
 pub returns-then-used-j : goal.returns-then-used-j
 returns-then-used-j c =

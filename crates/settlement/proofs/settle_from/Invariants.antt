@@ -1,4 +1,3 @@
-use Prim.Native.Nat.{◌-◌}
 use mathlib.Core.Path.{◌≡◌}
 use mathlib.Core.List.{List}
 use lib.IntN.{ℤ}
@@ -18,6 +17,3 @@ decreases-loop-x l = l.x
 
 abbrev pub invariant-sources : goal.invariant-sources
 invariant-sources l = Walking l.account l.used l.initial.journal l.journal l.i l.j
-
-abbrev pub decreases-sources : goal.decreases-sources
-decreases-sources l = l.used - l.i

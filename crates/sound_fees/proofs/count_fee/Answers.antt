@@ -11,4 +11,4 @@ pub returns : goal.returns
 unfolding fees_within
 returns c =
     let s = c in
-    record { counted = refl; few = c.implies.ensures ∙ rw (c.wide.ensures, fewer (get_or s.args.counts.now s.args.n 0 + 1) s.args.named.mark (λ z. omega arith)) }
+    record { counted = refl; few = c.implies.ensures ∙ rw (c.from.ensures, fewer (get_or s.args.counts.now s.args.n 0 + 1) s.args.named.mark (λ z. omega arith)) }

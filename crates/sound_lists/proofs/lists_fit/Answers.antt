@@ -1,4 +1,4 @@
--- `lists_fit` meets its contract: every list passed stands, and `before` is the last one's first day; the measure is the lists left.
+-- `lists_fit` meets its contract: every list passed stands, and `before` is the last one's first day.
 use Rattle.sound_lists.proofs.StandingLaws.{rises, lists-parts, day-first, day-later}
 use Rattle.table_lists.proofs.UsedLaws.{used-few}
 use Rattle.rules.specs.RateLists.{list_in_range, lists_fit}
@@ -28,7 +28,7 @@ returns-then-not-first_fits c =
     sym (lists-parts c.args.header.now ∙ rw e)
 
 pub loop-i-init : goal.loop-i-init
-loop-i-init c = (omega arith, c.get-before.ensures ∙ sym (day-first c.args.header.now), λ k h. absurd (omega arith))
+loop-i-init c = (c.get-before.ensures ∙ sym (day-first c.args.header.now), λ k h. absurd (omega arith))
 
 pub later_fits-requires : goal.later_fits-requires
 later_fits-requires c =
@@ -41,7 +41,7 @@ returns-then-not-later_fits c =
     sym
     (rest e
     ∙ every-fails (rises h) (later_list_at h) _ c.loop-i.i c.loop-i-test.true
-    (rw c.loop-i.invariant.1 at (sym c.later_fits.ensures ∙ not-true _ c.if-not-later_fits.true-raw)))
+    (rw c.loop-i.invariant.0 at (sym c.later_fits.ensures ∙ not-true _ c.if-not-later_fits.true-raw)))
 
 pub later_day-before-requires : goal.later_day-before-requires
 later_day-before-requires c =
@@ -50,9 +50,8 @@ later_day-before-requires c =
 pub loop-i-preserved : goal.loop-i-preserved
 loop-i-preserved c =
     let h = c.args.header.now in (
-      omega arith,
       c.later_day-before.ensures ∙ sym (day-later h c.loop-i.i (rw c.requires.1 at c.loop-i-test.true)),
-      below_more _ _ c.loop-i.invariant.2 (rw c.loop-i.invariant.1 at (sym c.later_fits.ensures ∙ not-false _ c.if-not-later_fits.false-raw)),
+      below_more _ _ c.loop-i.invariant.1 (rw c.loop-i.invariant.0 at (sym c.later_fits.ensures ∙ not-false _ c.if-not-later_fits.false-raw)),
     )
 
 pub returns : goal.returns
@@ -60,4 +59,4 @@ returns c =
     let e = (goal.at.returns c).Else-not-first_fits in
     let h = e.args.header.now in
     let n : c.loop-i.i ≡ e.args.used = omega arith in
-    sym (rest e ∙ every-tabulate (rises h) (later_list_at h) _ (rw n at c.loop-i.invariant.2))
+    sym (rest e ∙ every-tabulate (rises h) (later_list_at h) _ (rw n at c.loop-i.invariant.1))

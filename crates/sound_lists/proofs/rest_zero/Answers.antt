@@ -1,4 +1,4 @@
--- `rest_zero` meets its contract: the invariant is that the words from here on decide; the measure is the words left.
+-- `rest_zero` meets its contract: the invariant is that the words from here on decide.
 use Rattle.sound_lists.proofs.StandingLaws.{zeros-more, zeros-none}
 use Rattle.rules.specs.Tables.{zero_word}
 use Rattle.lists.specs.Tests.{◌is◌}

@@ -5,7 +5,7 @@ use Rattle.sound_header.proofs.LengthLaws.{Lengths, lengths-known}
 use Rattle.rules.specs.Tables.{book_of, used_fits, later_rows_zero, rows_used, room_in}
 use Rattle.rules.specs.Opening.{day_fits}
 use borrow.Author.Tests.{not-true, not-false, lt-leb}
-use mathlib.Core.Path.{refl, sym, ap, ◌∙◌}
+use mathlib.Core.Path.{sym, ap, ◌∙◌}
 use native.Mathlib.Omega.{arith}
 use Rattle.soundness.proofs.sound.Goals as goal
 use Rattle.soundness.proofs.sound.Goals.{After-get, Else-not-lengths_fit}
@@ -82,9 +82,8 @@ returns-then-not-later_rows_zero c =
 pub get-requires : goal.get-requires
 get-requires c = omega (arith, (lengths (goal.at.get-requires c).Else-not-lengths_fit).words)
 
-pub book_passes-requires : goal.book_passes-requires
-book_passes-requires c =
-    (fit-bounds c.args.header.now c.args.accounts.now c.args.journal.now _ _ _ (fit c), refl)
+pub invariant_of-f : goal.invariant_of-f
+invariant_of-f c = record { bounds = fit-bounds c.args.header.now c.args.accounts.now c.args.journal.now _ _ _ (fit c) }
 
 pub returns : goal.returns
 returns c =

@@ -1,4 +1,4 @@
--- `lists_used` meets its contract: n counts those of the first i; the measure is the lists left.
+-- `lists_used` meets its contract: n counts those of the first i.
 use Rattle.table_lists.proofs.UsedLaws.{used_of, flag-le, used-more}
 use Rattle.rules.specs.Tables.{lists_used}
 use Rattle.records.specs.Layout.{later_lists}
@@ -10,21 +10,20 @@ use Rattle.table_lists.proofs.lists_used.Goals as goal
 
 pub loop-i-init : goal.loop-i-init
 unfolding used_of count sum_by tabulate
-loop-i-init c = (omega arith, omega arith, refl)
+loop-i-init c = (omega arith, refl)
 
 pub overflow_add-n : goal.overflow_add-n
-overflow_add-n c = omega (arith, c.loop-i.invariant.1, flag-le (ltb 0 c.later_day.result))
+overflow_add-n c = omega (arith, c.loop-i.invariant.0, flag-le (ltb 0 c.later_day.result))
 
 pub loop-i-preserved : goal.loop-i-preserved
 loop-i-preserved c =
     let l = c in (
-      omega arith,
-      omega (arith, l.loop-i.invariant.1, flag-le (ltb 0 c.later_day.result)),
-      used-more l.args.header.now l.loop-i.i l.loop-i.n c.later_day.result l.loop-i.invariant.2 c.later_day.ensures,
+      omega (arith, l.loop-i.invariant.0, flag-le (ltb 0 c.later_day.result)),
+      used-more l.args.header.now l.loop-i.i l.loop-i.n c.later_day.result l.loop-i.invariant.1 c.later_day.ensures,
     )
 
 pub returns : goal.returns
 unfolding lists_used used_of
 returns c =
     let e : c.loop-i.i ≡ later_lists = omega arith in
-    rw e at c.loop-i.invariant.2
+    rw e at c.loop-i.invariant.1

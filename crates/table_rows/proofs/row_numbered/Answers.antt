@@ -2,13 +2,15 @@
 use Rattle.lists.proofs.ListLaws.{numbered-at, numbered-past}
 use Rattle.rules.specs.Rows.{blank}
 use Rattle.records.specs.Encoding.{row_at}
-use mathlib.Core.Path.{sym, ◌∙◌}
+use Rattle.std.proofs.Common.{rules}
+use mathlib.Core.Path.{◌≡◌, sym, ◌∙◌}
 use Rattle.table_rows.proofs.row_numbered.Goals as goal
 
 pub returns-then-n-used : goal.returns-then-n-used
 returns-then-n-used c =
     let s = c in
-    c.blank_row-then-n-used.ensures ∙ sym (numbered-past (row_at s.args.journal.now) s.args.used s.args.n blank c.if-n-used.true)
+    let none : c.default-then-n-used.result ≡ blank = search rules in
+    none ∙ sym (numbered-past (row_at s.args.journal.now) s.args.used s.args.n blank c.if-n-used.true)
 
 pub returns : goal.returns
 returns c =

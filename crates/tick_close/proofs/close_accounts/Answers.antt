@@ -1,11 +1,8 @@
 -- `close_accounts` meets its contract: none closes and the tables stay, or the arrays decide as the book does.
 use borrow.Author.Tests.{not-true}
 use native.Mathlib.Omega.{arith}
-use Rattle.account_sums.specs.Tallies.{money_of, owed_of}
-use Rattle.account_sums.proofs.TallyLaws.{tallied-none}
 use Rattle.tick_base.proofs.MidwayLaws.{midway-header, midway-countable}
 use Rattle.tick_close.proofs.ClosedBookLaws.{none-closed, rows-usable, all-closable, closed-written}
-use Rattle.records.specs.Limits.{slot_count}
 use Rattle.tick_close.proofs.close_accounts.Goals as goal
 
 pub returns-then-not-closing : goal.returns-then-not-closing
@@ -17,9 +14,8 @@ get-used-requires c = omega (arith, midway-header _ _ c.requires.midway)
 pub get-today-requires : goal.get-today-requires
 get-today-requires c = omega (arith, midway-header _ _ c.requires.midway)
 
-pub add_remainders-requires : goal.add_remainders-requires
-add_remainders-requires c =
-    (rw c.get-used.ensures (midway-countable _ _ c.requires.midway), record { moneys = tallied-none money_of slot_count _; owings = tallied-none owed_of slot_count _ })
+pub of_rows-remains-requires : goal.of_rows-remains-requires
+of_rows-remains-requires c = rw c.get-used.ensures (midway-countable _ _ c.requires.midway)
 
 pub use_rows-requires : goal.use_rows-requires
 use_rows-requires c =
@@ -28,12 +24,12 @@ use_rows-requires c =
 pub close_each-requires : goal.close_each-requires
 close_each-requires c =
     let p = c.requires in
-    let sums = rw c.get-used.ensures at c.add_remainders.ensures in
+    let sums = rw c.get-used.ensures at c.of_rows-remains.ensures in
     let used = rw (c.get-used.ensures, c.get-today.ensures) at c.use_rows.ensures in
-    rw c.get-today.ensures (all-closable _ p.midway _ _ sums _ used p.room)
+    rw c.get-today.ensures (all-closable _ p.midway _ sums _ used p.room)
 
 pub returns : goal.returns
 returns c =
-    let sums = rw c.get-used.ensures at c.add_remainders.ensures in
+    let sums = rw c.get-used.ensures at c.of_rows-remains.ensures in
     let used = rw (c.get-used.ensures, c.get-today.ensures) at c.use_rows.ensures in
-    closed-written _ c.requires.midway _ _ sums _ used _ _ _ (rw c.get-today.ensures at c.close_each.ensures)
+    closed-written _ c.requires.midway _ sums _ used _ _ _ (rw c.get-today.ensures at c.close_each.ensures)

@@ -1,26 +1,19 @@
--- `count_ends` meets its contract: the counts are of the rows passed.
-use native.Mathlib.Omega.{arith}
-use mathlib.Core.Path.{◌≡◌}
-use Prim.Native.Nat.{◌-◌}
+-- `count_ends` meets its contract: the test of the rows counted is whether their hold ends.
+use Rattle.std.proofs.Common.{rules}
+use Rattle.records.specs.Limits.{slot_count}
+use Rattle.rules.specs.Tick.{hold_ends}
+use Rattle.account_sums.proofs.TallyLaws.{tallied-none}
+use Rattle.tick_base.proofs.StageLaws.{no_end}
+use Rattle.tick_holds.specs.Holds.{ends_of}
 use Rattle.tick_holds.proofs.count_ends.Goals as goal
 
 pub loop-i-init : goal.loop-i-init
-loop-i-init c = (omega arith, c.requires.1)
+loop-i-init c = tallied-none (ends_of c.args.today) slot_count _
 
-pub count_end-requires : goal.count_end-requires
-count_end-requires c =
-    (c.requires.0, omega arith, c.loop-i.invariant.1)
-
-pub overflow_add-i : goal.overflow_add-i
-overflow_add-i c = omega arith
-
-pub loop-i-smaller : goal.loop-i-smaller
-loop-i-smaller c = omega arith
+pub count_held-requires : goal.count_held-requires
+count_held-requires c =
+    (c.args.used, c.requires, c.loop-i-test.true, hold_ends c.args.today, record { takes = λ r. tt; gives = λ r b p. search rules; held = no_end c.args.today }, c.loop-i.invariant)
 
 pub loop-i-preserved : goal.loop-i-preserved
-loop-i-preserved c = (omega arith, c.count_end.ensures)
-
-pub returns : goal.returns
-returns c =
-    let e : c.loop-i.i ≡ c.args.used = omega arith in
-    rw e at c.loop-i.invariant.1
+loop-i-preserved c =
+    c.count_held.ensures (hold_ends c.args.today) (record { takes = λ r. tt; gives = λ r b p. search rules; held = no_end c.args.today }) c.loop-i.invariant

@@ -1,11 +1,7 @@
-use Prim.Native.Nat.{◌-◌, ◌≤◌}
 use Rattle.account_sums.specs.Tallies.{Tallied}
 use Rattle.tick_holds.specs.Holds.{ends_of}
 use Rattle.records.specs.Limits.{slot_count}
 use Rattle.tick_holds.proofs.count_ends.Given as goal
 
 abbrev pub invariant-loop-i : goal.invariant-loop-i
-invariant-loop-i l = (l.i ≤ l.used) × Tallied (ends_of l.today) slot_count l.journal l.ends l.i
-
-abbrev pub decreases-loop-i : goal.decreases-loop-i
-decreases-loop-i l = l.used - l.i
+invariant-loop-i l = Tallied (ends_of l.today) slot_count l.journal l.ends l.i

@@ -3,11 +3,8 @@ use native.Mathlib.Omega.{arith}
 use borrow.Author.Tests.{not-true}
 use Rattle.rules.proofs.TableLaws.{header-length}
 use Rattle.posting.proofs.BookLaws.{day-small, count_small, journal-settles}
-use Rattle.account_sums.proofs.TallyLaws.{tallied-none}
 use Rattle.tick_base.proofs.MidwayLaws.{sound-midway, midway-countable}
-use Rattle.tick_holds.specs.Holds.{ends_of}
 use Rattle.tick_holds.proofs.HoldLaws.{sound-ending, mapped-journal, unraised-written, unraised-same}
-use Rattle.records.specs.Limits.{slot_count}
 use Rattle.tick_holds.proofs.free_and_settle.Goals as goal
 
 pub returns-then-not-ending : goal.returns-then-not-ending
@@ -22,8 +19,8 @@ get-today-requires c = omega (arith, header-length _ c.requires.sound)
 pub overflow_add-today : goal.overflow_add-today
 overflow_add-today c = omega (arith, c.get-today.ensures, day-small _ c.requires.sound)
 
-pub count_ends-requires : goal.count_ends-requires
-count_ends-requires c = (rw c.get-used.ensures (midway-countable _ _ (sound-midway _ c.requires.sound)), tallied-none (ends_of _) slot_count _)
+pub count_ends-ends-requires : goal.count_ends-ends-requires
+count_ends-ends-requires c = rw c.get-used.ensures (midway-countable _ _ (sound-midway _ c.requires.sound))
 
 pub end_holds-requires : goal.end_holds-requires
 end_holds-requires c = rw (c.get-used.ensures, c.get-today.ensures) (sound-ending _ c.requires.sound)
@@ -39,4 +36,4 @@ returns c =
     let s = c.requires.sound in
     let u = c.get-used.ensures in
     let d = c.get-today.ensures in
-    unraised-written _ s _ _ _ (rw (u, d) at c.count_ends.ensures) (rw (u, d) at c.end_holds.ensures) (rw u at c.settle_freed.ensures) (count_small _ s)
+    unraised-written _ s _ _ _ (rw (u, d) at c.count_ends-ends.ensures) (rw (u, d) at c.end_holds.ensures) (rw u at c.settle_freed.ensures) (count_small _ s)

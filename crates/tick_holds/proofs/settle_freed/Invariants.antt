@@ -1,9 +1,5 @@
-use Prim.Native.Nat.{◌-◌, ◌≤◌}
 use Rattle.tick_holds.specs.Holds.{SettledThose}
 use Rattle.tick_holds.proofs.settle_freed.Given as goal
 
 abbrev pub invariant-loop-i : goal.invariant-loop-i
-invariant-loop-i l = (l.i ≤ l.count) × SettledThose l.ends l.i l.initial.journal l.journal l.used
-
-abbrev pub decreases-loop-i : goal.decreases-loop-i
-decreases-loop-i l = l.count - l.i
+invariant-loop-i l = SettledThose l.ends l.i l.initial.journal l.journal l.used

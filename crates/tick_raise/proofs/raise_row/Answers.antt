@@ -22,16 +22,16 @@ write_row-requires c =
     let w = up-storable _ _ _ _ c.requires _ c.read_row-r.ensures (sym c.is_rising.ensures ∙ c.if-not-is_rising.false) _ c.get.ensures in
     (search rules, rw c.raised-up.ensures w)
 
-pub returns-then-fee-eq0 : goal.returns-then-fee-eq0
-returns-then-fee-eq0 c =
-    raised-alone _ _ _ _ c.requires _ c.read_row-r.ensures (sym c.is_rising.ensures ∙ c.if-not-is_rising.false) _ c.get.ensures _ c.raised-up.ensures _ c.write_row.ensures _ c.fee_of_stage-fee.ensures c.if-fee-eq0.true
+pub returns-else-fee-ne0 : goal.returns-else-fee-ne0
+returns-else-fee-ne0 c =
+    raised-alone _ _ _ _ c.requires _ c.read_row-r.ensures (sym c.is_rising.ensures ∙ c.if-not-is_rising.false) _ c.get.ensures _ c.raised-up.ensures _ c.write_row.ensures _ c.fee_of_stage-fee.ensures c.if-fee-ne0.false
 
 pub add_row-requires : goal.add_row-requires
 add_row-requires c =
     let f = c.fee_of_stage-fee.ensures in
-    let z = c.if-fee-eq0.false in
-    (fee-room _ _ _ _ c.requires _ c.read_row-r.ensures (sym c.is_rising.ensures ∙ c.if-not-is_rising.false) _ c.get.ensures _ c.raised-up.ensures _ c.write_row.ensures _ f z, rw c.fee_naming.ensures (fee-storable _ _ _ _ c.requires _ c.read_row-r.ensures (sym c.is_rising.ensures ∙ c.if-not-is_rising.false) _ c.get.ensures _ c.raised-up.ensures _ c.write_row.ensures _ f z))
+    let z = c.if-fee-ne0.true in
+    (fee-room _ _ _ _ c.requires _ c.read_row-r.ensures (sym c.is_rising.ensures ∙ c.if-not-is_rising.false) _ c.get.ensures _ c.raised-up.ensures _ c.write_row.ensures _ f z, rw c.fee_naming-row.ensures (fee-storable _ _ _ _ c.requires _ c.read_row-r.ensures (sym c.is_rising.ensures ∙ c.if-not-is_rising.false) _ c.get.ensures _ c.raised-up.ensures _ c.write_row.ensures _ f z))
 
-pub returns : goal.returns
-returns c =
-    raised-fee _ _ _ _ c.requires _ c.read_row-r.ensures (sym c.is_rising.ensures ∙ c.if-not-is_rising.false) _ c.get.ensures _ c.raised-up.ensures _ c.write_row.ensures _ c.fee_of_stage-fee.ensures c.if-fee-eq0.false _ _ (rw c.fee_naming.ensures at c.add_row.ensures)
+pub returns-then-fee-ne0 : goal.returns-then-fee-ne0
+returns-then-fee-ne0 c =
+    raised-fee _ _ _ _ c.requires _ c.read_row-r.ensures (sym c.is_rising.ensures ∙ c.if-not-is_rising.false) _ c.get.ensures _ c.raised-up.ensures _ c.write_row.ensures _ c.fee_of_stage-fee.ensures c.if-fee-ne0.true _ _ (rw c.fee_naming-row.ensures at c.add_row.ensures)

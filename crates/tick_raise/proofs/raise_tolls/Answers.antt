@@ -1,10 +1,8 @@
 -- `raise_tolls` meets its contract: turn after turn, the rows passed are raised and their fees added.
-use Prim.Native.Nat.{◌+◌, ◌-◌, ◌≤◌}
 use native.Mathlib.Omega.{arith}
 use mathlib.Core.Path.{◌≡◌}
 use Rattle.records.specs.Layout.{used_place}
 use Rattle.records.specs.Encoding.{word}
-use Rattle.records.specs.Limits.{most_rows}
 use Rattle.tick_base.proofs.MidwayLaws.{midway-header}
 use Rattle.tick_raise.proofs.RaisingLaws.{turns-none, turn-raisable, turns_more, turns-few, turns-counted, turns-written}
 use Rattle.tick_raise.proofs.raise_tolls.Goals as goal
@@ -20,8 +18,8 @@ loop-i-init c =
     let p = c.requires in
     turns-none _ _ p.0 p.1 _ c.get-today.ensures
 
-pub raise_row-n-requires : goal.raise_row-n-requires
-raise_row-n-requires c =
+pub raise_row-requires : goal.raise_row-requires
+raise_row-requires c =
     let p = c.requires in
     let l = c.loop-i in
     turn-raisable _ _ p.0 p.1 _ c.get-today.ensures _ _ _ _ l.invariant (rw c.get-used.ensures at c.loop-i-test.true)
@@ -30,19 +28,12 @@ raise_row-n-requires c =
 pub loop-i-preserved : goal.loop-i-preserved
 loop-i-preserved c =
     let p = c.requires in
-    turns_more _ _ p.0 p.1 _ c.get-today.ensures _ _ _ _ c.loop-i.invariant (rw c.get-used.ensures at c.loop-i-test.true) _ _ _ c.raise_row-n.ensures
+    turns_more _ _ p.0 p.1 _ c.get-today.ensures _ _ _ _ c.loop-i.invariant (rw c.get-used.ensures at c.loop-i-test.true) _ _ _ c.raise_row.ensures
 
 pub overflow_add-n : goal.overflow_add-n
 overflow_add-n c =
     let p = c.requires in
-    let k : c.loop-i.n + c.raise_row-n.result ≤ most_rows = turns-few _ _ p.0 p.1 _ c.get-today.ensures _ _ _ _ (loop-i-preserved c) in
-    omega arith
-
-pub overflow_add-i : goal.overflow_add-i
-overflow_add-i c = omega arith
-
-pub loop-i-smaller : goal.loop-i-smaller
-loop-i-smaller c = omega arith
+    omega (arith, turns-few _ _ p.0 p.1 _ c.get-today.ensures _ _ _ _ (loop-i-preserved c))
 
 pub returns : goal.returns
 returns c =

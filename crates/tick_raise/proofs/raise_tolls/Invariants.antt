@@ -1,10 +1,6 @@
-use Prim.Native.Nat.{◌-◌}
 use Rattle.posting.specs.Posts.{tables_at}
 use Rattle.tick_raise.proofs.RaisingLaws.{Turns}
 use Rattle.tick_raise.proofs.raise_tolls.Given as goal
 
 abbrev pub invariant-loop-i : goal.invariant-loop-i
 invariant-loop-i l = Turns (tables_at l.initial.header l.accounts l.initial.journal) l.today l.header l.journal l.n l.i
-
-abbrev pub decreases-loop-i : goal.decreases-loop-i
-decreases-loop-i l = l.used - l.i

@@ -6,6 +6,6 @@ pub returns-then-whole : goal.returns-then-whole
 unfolding part
 returns-then-whole c = rw c.if-whole.true
 
-pub returns : goal.returns
+pub returns-else-whole : goal.returns-else-whole
 unfolding part
-returns c = rw c.if-whole.false c.remaining_of.ensures
+returns-else-whole c = rw c.if-whole.false c.remaining_of.ensures

@@ -24,17 +24,14 @@ bounds-cells-c c = let g = c.requires.2 in omega (arith, g.size, root-low c.args
 
 pub loop-s-init : goal.loop-s-init
 loop-s-init c =
-    rw (c.wide-s.ensures, c.mix-y.ensures.0) (way-start _ _ c.args.cells.now _ _ c.requires.2 (rw c.mix-y.ensures.0 at c.mix-y.ensures.1))
+    rw (c.from-s.ensures, c.mix-y.ensures.0) (way-start _ _ c.args.cells.now _ _ c.requires.2 (rw c.mix-y.ensures.0 at c.mix-y.ensures.1))
 
 pub reference_at-requires : goal.reference_at-requires
 reference_at-requires c = omega (arith, (row_low (goal.at.reference_at-requires c).In-loop-s c.loop-s-test.true).0)
 
-pub overflow_add-result : goal.overflow_add-result
-overflow_add-result c = omega (arith, (row_low (goal.at.overflow_add-result c).In-loop-s c.loop-s-test.true).0)
-
 pub returns-then-reference_at-x : goal.returns-then-reference_at-x
 returns-then-reference_at-x c =
-    way-taken _ _ c.args.cells.now _ _ _ c.loop-s.c _ (c.loop-s.s - 1) c.requires.2 c.loop-s.invariant (omega arith) (sym c.reference_at.ensures ∙ c.if-reference_at-x.true)
+    (c.loop-s.s - 1, way-taken _ _ c.args.cells.now _ _ _ c.loop-s.c _ (c.loop-s.s - 1) c.requires.2 c.loop-s.invariant (omega arith) (sym c.reference_at.ensures ∙ c.if-reference_at-x.true))
 
 pub overflow_mul-c-in-loop-s : goal.overflow_mul-c-in-loop-s
 overflow_mul-c-in-loop-s c = omega (arith, c.requires.2.few)
@@ -64,9 +61,8 @@ loop-s-smaller c =
 
 pub loop-s-preserved : goal.loop-s-preserved
 loop-s-preserved c =
-    rw c.wide-s-in-loop-s.ensures
+    rw c.from-s-in-loop-s.ensures
     (way_next _ _ c.args.cells.now _ _ _ c.loop-s.c _ (c.loop-s.s - 1) c.requires.2 c.loop-s.invariant (omega arith) (rw c.reference_at.ensures at c.if-reference_at-x.false))
 
 pub returns : goal.returns
-returns c =
-    way-free _ _ c.args.cells.now _ _ _ _ _ c.requires.1 c.requires.2 c.loop-s.invariant (omega arith)
+returns c = way-free _ _ c.args.cells.now _ _ _ _ _ c.loop-s.invariant (omega arith)

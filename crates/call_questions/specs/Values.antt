@@ -1,0 +1,13 @@
+-- The value that a question is answered with: a refused one has none, and the host reads 0.
+use Rattle.std.specs.Prelude.{ℕ, Bool, cond, ℤ, pos, Result, Ok, Err}
+use Rattle.records.specs.declared.refusals.Refusal.{Refusal}
+
+-- an integer, 0 where the question is refused
+abbrev pub value_of : Result ℤ Refusal → ℤ
+value_of (Ok v) = v
+value_of (Err r) = pos 0
+
+-- 1 for yes, 0 for no or where the question is refused
+abbrev pub flag_of : Result Bool Refusal → ℤ
+flag_of (Ok due) = pos (cond due 1 0)
+flag_of (Err r) = pos 0

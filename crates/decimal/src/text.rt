@@ -1,0 +1,126 @@
+// A text that is written from front to back into a fixed buffer.
+ghost use Rattle.std.specs.Prelude.{◌≡◌, [], ◌∷◌, ◌++◌, ◌+◌, ◌≤◌, ◌<◌, length};
+ghost use Rattle.decimal.specs.Bytes.{most_number_bytes, date_bytes, text_bytes};
+ghost use Rattle.decimal.specs.Decimal.{digits_of, text_of, two_digits, date_text};
+
+use std::marker::Model;
+
+// The bytes that a text has room for.
+const TEXT_BYTES: usize = 65536;
+
+// A text, which clauses see as its bytes.
+#[derive(Drop)]
+pub struct Text {
+    bytes: [u8; TEXT_BYTES],
+    len: usize,
+}
+
+impl Model for Text {
+    ghost use Rattle.std.specs.Prelude.{ℕ, List, ◌≤◌, take};
+    ghost use Rattle.decimal.specs.Bytes.{text_bytes};
+
+    ghost Value = { List ℕ };
+
+    ghost view = { λ t. take t.len t.bytes };
+
+    ghost invariant = { λ t. t.len ≤ text_bytes };
+}
+
+impl Text {
+    // A text of no bytes.
+    pub fn new() -> Self
+        ensures { result ≡ [] }
+    {
+        Text {
+            bytes: [0; TEXT_BYTES],
+            len: 0,
+        }
+    }
+
+    pub fn len(&self) -> usize
+        ensures value { result ≡ length self.now }
+        ensures within { result ≤ text_bytes }
+    {
+        self.len
+    }
+
+    pub fn as_bytes(&self) -> &[u8]
+        ensures { result.now ≡ self.now }
+    {
+        &self.bytes[..self.len]
+    }
+
+    pub fn clear(&mut self)
+        ensures { self.new ≡ [] }
+    {
+        self.len = 0;
+    }
+
+    pub fn push(&mut self, b: u8)
+        requires { length self.old < text_bytes }
+        ensures text { self.new ≡ self.old ++ (b ∷ []) }
+        ensures longer { length self.new ≡ length self.old + 1 }
+    {
+        self.bytes[self.len] = b;
+        self.len += 1;
+    }
+
+    pub fn extend_from_slice(&mut self, bytes: &[u8])
+        requires { length self.old + length bytes.now ≤ text_bytes }
+        ensures text { self.new ≡ self.old ++ bytes.now }
+        ensures longer { length self.new ≡ length self.old + length bytes.now }
+    {
+        let end = self.len + bytes.len();
+        self.bytes[self.len..end].copy_from_slice(bytes);
+        self.len = end;
+    }
+
+    // The digits of a number.
+    // Kept: the kit's `io::decimal` gives the digits in a buffer with their count beside it.
+    pub fn push_digits(&mut self, n: u64)
+        requires { length self.old + length (digits_of n) ≤ text_bytes }
+        ensures text { self.new ≡ self.old ++ digits_of n }
+        ensures longer { length self.new ≡ length self.old + length (digits_of n) }
+    {
+        let mut digits = [0u8; 20];
+        let k = io::decimal(n, &mut digits);
+        self.extend_from_slice(&digits[..k]);
+    }
+
+    // A number, with a minus where it is below 0.
+    pub fn push_number(&mut self, v: i64)
+        requires { length self.old + most_number_bytes ≤ text_bytes }
+        ensures text { self.new ≡ self.old ++ text_of v }
+        ensures short { length self.new ≤ length self.old + most_number_bytes }
+    {
+        if v < 0 {
+            self.push(b'-');
+        }
+        self.push_digits(v.unsigned_abs());
+    }
+
+    // The last two digits of a number.
+    fn push_two(&mut self, n: u64)
+        requires { length self.old + 2 ≤ text_bytes }
+        ensures text { self.new ≡ self.old ++ two_digits n }
+        ensures short { length self.new ≡ length self.old + 2 }
+    {
+        self.push(b'0' + (n / 10 % 10) as u8);
+        self.push(b'0' + (n % 10) as u8);
+    }
+
+    // The date of a day number as yyyy-mm-dd.
+    pub fn push_date(&mut self, day: u64)
+        requires { (length self.old + date_bytes ≤ text_bytes) × (1 ≤ day) × (day ≤ 36525) }
+        ensures text { self.new ≡ self.old ++ date_text day }
+        ensures short { length self.new ≡ length self.old + date_bytes }
+    {
+        let date = dates::date_of(day);
+        self.push_two(date.year / 100);
+        self.push_two(date.year % 100);
+        self.push(b'-');
+        self.push_two(date.month);
+        self.push(b'-');
+        self.push_two(date.day);
+    }
+}

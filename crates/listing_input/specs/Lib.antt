@@ -1,0 +1,2 @@
+-- How many bytes of the input are read at once.
+pub mod Sizes

@@ -1,2 +1,0 @@
--- What writing a text does to the buffer.
-pub mod Puts

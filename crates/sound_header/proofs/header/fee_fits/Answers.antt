@@ -1,5 +1,0 @@
--- `fee_fits` meets its contract: it is the clause on the word that is read.
-use Rattle.sound_header.proofs.header.fee_fits.Goals as goal
-
-pub returns : goal.returns
-returns c = cc

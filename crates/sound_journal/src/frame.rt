@@ -1,0 +1,105 @@
+// What the lengths and the header have shown of the tables, with which the tests on rows and accounts read them.
+ghost use Rattle.std.specs.Prelude.{◌≡◌, ℕ, eqb, Some};
+ghost use Rattle.std.specs.Option.{option_eq};
+ghost use Rattle.records.specs.Codes.{kind_toll, kind_payment};
+ghost use Rattle.rules.specs.Soundness.{account_used, names, reference_fits};
+ghost use Rattle.sound_journal.specs.Bounds.{Bounds};
+
+use records::Row;
+use records::codes::{KIND_CREDIT, KIND_FEE, KIND_PAYMENT, KIND_REVERSAL, KIND_TOLL, STATE_UNUSED};
+use sound_header::tests::implies;
+use sound_rows::row::{other_alone, toll_alone};
+use table_accounts::account_numbered;
+use table_rows::row_numbered;
+
+// The accounts and the used rows of lent tables, the day, and the length of a stage.
+#[derive(Clone, Copy)]
+pub struct Frame<'a> {
+    pub accounts: &'a [i64],
+    pub journal: &'a [i64],
+    pub count: usize, // accounts
+    pub used: usize, // rows
+    pub today: u64,
+    pub stage: u64, // days
+    pub ghost bounds: { Bounds accounts.now journal.now count used today stage },
+}
+
+impl Frame<'_> {
+    ghost use Rattle.sound_journal.specs.Passing.{frame_accounts, frame_rows, passes_in, PassesAnywhere};
+
+    fn account_used(&self, r: Row) -> bool
+        ensures { result ≡ account_used (frame_accounts self.now) r }
+    {
+        let x = account_numbered(self.accounts, self.count, r.account);
+        x.state != STATE_UNUSED
+    }
+
+    // The kind of the earlier row of the same account that row number n, r, refers to.
+    fn named_kind(&self, n: u64, r: Row) -> Option<u64>
+        ensures { (m : ℕ) → option_eq eqb result (Some m) ≡ names (frame_rows self.now) n r m }
+    {
+        if r.reference >= n {
+            return None;
+        }
+        let named = row_numbered(self.journal, self.used, r.reference);
+        if named.account != r.account {
+            return None;
+        }
+        Some(named.kind)
+    }
+
+    fn reference_fits(&self, n: u64, r: Row) -> bool
+        ensures { result ≡ reference_fits (frame_rows self.now) n r }
+    {
+        if r.kind == KIND_TOLL {
+            return true;
+        }
+        if r.kind == KIND_PAYMENT {
+            return true;
+        }
+        let named = self.named_kind(n, r);
+        if r.kind == KIND_FEE {
+            return (named == Some(KIND_TOLL)) | (named == Some(KIND_PAYMENT));
+        }
+        if r.kind == KIND_REVERSAL {
+            return named == Some(KIND_PAYMENT);
+        }
+        implies(r.kind == KIND_CREDIT, named == Some(KIND_TOLL))
+    }
+
+    // A toll: it refers to no row.
+    pub fn toll_passes(&self, r: Row) -> bool
+        requires { r.kind ≡ kind_toll }
+        ensures { PassesAnywhere self.now r result }
+    {
+        if !toll_alone(self.today, self.stage, r) {
+            return false;
+        }
+        self.account_used(r)
+    }
+
+    // A payment: nor does it.
+    pub fn payment_passes(&self, r: Row) -> bool
+        requires { r.kind ≡ kind_payment }
+        ensures { PassesAnywhere self.now r result }
+    {
+        if !other_alone(self.today, r) {
+            return false;
+        }
+        self.account_used(r)
+    }
+
+    // Row number n, r, which is no toll.
+    pub fn other_passes(&self, n: u64, r: Row) -> bool
+        requires { r.kind ≡ kind_toll → ⊥ }
+        ensures { result ≡ passes_in self.now n r }
+    {
+        if !other_alone(self.today, r) {
+            return false;
+        }
+        if !self.account_used(r) {
+            return false;
+        }
+        self.reference_fits(n, r)
+    }
+}

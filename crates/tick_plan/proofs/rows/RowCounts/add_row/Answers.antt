@@ -1,0 +1,16 @@
+-- `rows::RowCounts::add_row` meets its contract: each sum and count takes the row's share.
+use Rattle.std.proofs.Common.{rules}
+use mathlib.Core.Bool.{not, ◌&&◌}
+use Rattle.rules.specs.Rows.{held_toll}
+use Rattle.rules.specs.Tick.{hold_ends}
+use Rattle.tick_plan.proofs.CountLaws.{stays-held, rows_more}
+use Rattle.tick_plan.proofs.rows.RowCounts.add_row.Goals as goal
+
+pub count_held-requires : goal.count_held-requires
+count_held-requires c =
+    (c.requires.1, c.requires.2, c.requires.3, (λ r. held_toll r && not (hold_ends c.args.today r)), record { takes = λ r. tt; gives = λ r b p. search rules; held = stays-held c.args.today }, c.requires.4.held)
+
+pub returns : goal.returns
+returns c =
+    let held = c.count_held.ensures (λ r. held_toll r && not (hold_ends c.args.today r)) (record { takes = λ r. tt; gives = λ r b p. search rules; held = stays-held c.args.today }) c.requires.4.held in
+    rows_more _ _ _ _ _ c.requires.4 _ _ c.add_row.ensures held _ c.brings_fee.ensures _ c.ends_at.ensures

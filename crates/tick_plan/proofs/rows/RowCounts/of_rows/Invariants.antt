@@ -1,0 +1,5 @@
+use Rattle.tick_plan.specs.Plans.{RowsCounted}
+use Rattle.tick_plan.proofs.rows.RowCounts.of_rows.Given as goal
+
+abbrev pub invariant-loop-i : goal.invariant-loop-i
+invariant-loop-i l = RowsCounted l.header l.journal l.today l.counts l.i
