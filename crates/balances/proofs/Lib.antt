@@ -1,3 +1,2 @@
 pub mod AmountLaws
-pub mod MoneyLaws
 pub mod TopupLaws

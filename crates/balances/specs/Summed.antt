@@ -2,9 +2,15 @@
 use Rattle.std.specs.Prelude.{◌≡◌, ℕ, List, Bool, not, ◌&&◌, ℤ, leb, ltb}
 use Rattle.records.specs.Encoding.{rows_of}
 use Rattle.lists.specs.Tests.{◌is◌}
+use Rattle.lists.specs.Lists.{sum_by, only}
+use Rattle.rules.specs.Rows.{Row}
 use Rattle.rules.specs.Book.{Account, state_open}
 use Rattle.rules.specs.Book as book
 use Rattle.balances.specs.declared.Sums.{Sums}
+
+-- what f gives for the rows of account a, summed
+unfoldable pub account_sum : List Row → ℕ → (Row → ℕ) → ℕ
+account_sum rows a f = sum_by (only (λ r. r.account is a) f) rows
 
 -- the sums of account a over the first i rows
 pub record Summed (t : List ℤ) (a i : ℕ) (s : Sums) : Type 0 where

@@ -1,19 +1,21 @@
 // The sums of an account's sources and of its debits, its unused money, and whether its top-up is due.
 #![tactic(auto)]
 
-ghost use Rattle.std.specs.Prelude.{◌≡◌, true, ◌+◌, ◌<◌};
+ghost use Rattle.std.specs.Prelude.{◌≡◌, true, ℕ};
 ghost use Rattle.records.specs.Encoding.{rows_of};
+ghost use Rattle.rules.specs.Rows.{Row};
 ghost use Rattle.rules.specs.Settlement.{money};
 ghost use Rattle.rules.specs.Book.{topup_due};
 ghost use Rattle.rules.specs.Tables.{book_of, sound_tables};
-ghost use Rattle.posting.specs.Posts.{Amounts};
-ghost use Rattle.balances.specs.Summed.{Summed, may_topup, is_low};
-ghost use Rattle.rules.specs.Lent.{lent, at_entry};
+ghost use Rattle.posting.specs.Posts.{Amounts, Measures};
+ghost use Rattle.balances.specs.Summed.{Summed, account_sum, may_topup, is_low};
+ghost use Rattle.lent.specs.Lent.{lent};
 
 use account_sums::part;
-use records::Account;
+use lent::Tables;
 use records::codes::STATE_OPEN;
 use records::layout::{ACCOUNT_WIDTH, DAY_PLACE, USED_PLACE};
+use records::{Account, Row};
 use row_tests::{is_debit, is_source, remaining_of};
 use table_accounts::account_numbered;
 use table_rows::{account_at, read_row};
@@ -28,48 +30,31 @@ pub struct Sums {
     pub debits: u64,
 }
 
-// The sums of i rows with row i added. Most rows are other accounts', so the account is read first and alone.
-fn add_amount(journal: &[i64], used: usize, i: usize, account: u64, s: Sums) -> Sums
-    requires { Amounts journal.now used × (i < used) × Summed journal.now account i s }
-    ensures { Summed journal.now account (i + 1) result }
+// What `part` gives for the account's used rows, summed. Most rows are other accounts', so the account is read first and alone.
+fn sum_of_account<F: Fn(Row) -> u64>(journal: &[i64], used: usize, account: u64, part: F) -> u64
+    requires { Amounts journal.now used
+        × (f : Row → ℕ)
+        × Measures F.Fn part f }
+    ensures { (f : Row → ℕ) → Measures F.Fn part f → result ≡ account_sum (rows_of journal.now used) account f }
 {
-    if account_at(journal, i) != account {
-        return s;
+    let mut sum = 0;
+    for i in 0..used {
+        if account_at(journal, i) == account {
+            sum += part(read_row(journal, i));
+        }
     }
-    let r = read_row(journal, i);
-    Sums {
-        sources: s.sources + part(is_source(r), r.amount),
-        debits: s.debits + part(is_debit(r), r.amount),
-    }
+    sum
 }
 
-// The account's sums over the used rows.
+// The account's sums over the used rows, a pass for each.
 pub fn sums_of(journal: &[i64], used: usize, account: u64) -> Sums
     requires { Amounts journal.now used }
     ensures { Summed journal.now account used result }
 {
-    let mut s = Sums {
-        sources: 0,
-        debits: 0,
-    };
-    for i in 0..used {
-        s = add_amount(journal, used, i, account, s);
+    Sums {
+        sources: sum_of_account(journal, used, account, |r| part(is_source(r), r.amount)),
+        debits: sum_of_account(journal, used, account, |r| part(is_debit(r), r.amount)),
     }
-    s
-}
-
-// ---- unused money
-
-// The account's unused money over i rows with row i added.
-fn add_unused(journal: &[i64], used: usize, i: usize, account: u64, m: u64) -> u64
-    requires { Amounts journal.now used × (i < used) × (m ≡ money account (rows_of journal.now i)) }
-    ensures { result ≡ money account (rows_of journal.now (i + 1)) }
-{
-    if account_at(journal, i) != account {
-        return m;
-    }
-    let r = read_row(journal, i);
-    m + part(is_source(r), remaining_of(r))
 }
 
 // The account's unused money over the used rows.
@@ -77,11 +62,12 @@ pub fn unused_money(journal: &[i64], used: usize, account: u64) -> u64
     requires { Amounts journal.now used }
     ensures { result ≡ money account (rows_of journal.now used) }
 {
-    let mut m = 0;
-    for i in 0..used {
-        m = add_unused(journal, used, i, account, m);
-    }
-    m
+    sum_of_account(
+        journal,
+        used,
+        account,
+        |r| part(is_source(r), remaining_of(r)),
+    )
 }
 
 // ---- top-up due
@@ -102,14 +88,14 @@ pub fn is_low(x: Account, money: u64) -> bool
 
 // Whether the account's top-up is due: on a sound book, whether its unused money is at most the threshold. It is summed only where it
 // decides.
-pub fn topup_due(header: &[i64], accounts: &[i64], journal: &[i64], n: u64) -> bool
-    requires { sound_tables (lent header.now accounts.now journal.now) ≡ true }
-    ensures { result ≡ topup_due (book_of (at_entry header.now accounts.now journal.now)) n }
+pub fn topup_due(t: Tables, n: u64) -> bool
+    requires { sound_tables (lent t) ≡ true }
+    ensures { result ≡ topup_due (book_of (lent t.entry)) n }
 {
-    let x = account_numbered(accounts, accounts.len() / ACCOUNT_WIDTH, n);
-    if !may_topup(x, get(header, DAY_PLACE)) {
+    let x = account_numbered(t.accounts, t.accounts.len() / ACCOUNT_WIDTH, n);
+    if !may_topup(x, get(t.header, DAY_PLACE)) {
         return false;
     }
-    let used = get(header, USED_PLACE) as usize;
-    is_low(x, unused_money(journal, used, n))
+    let used = get(t.header, USED_PLACE) as usize;
+    is_low(x, unused_money(t.journal, used, n))
 }

@@ -6,7 +6,7 @@ mod slots; // slots.rt: from which row on something of each account's sources an
 
 ghost use Rattle.std.specs.Prelude.{◌≡◌, true, ◌≤◌};
 ghost use Rattle.rules.specs.Tables.{rows_used, sound_tables};
-ghost use Rattle.rules.specs.Lent.{lent, at_entry};
+ghost use Rattle.lent.specs.Lent.{lent, lent_mut};
 ghost use Rattle.records.specs.Limits.{most_rows};
 ghost use Rattle.sound_passages.specs.Trees.{TreesOf};
 ghost use Rattle.event_lookups.specs.Lookups.{LooksUp};
@@ -14,14 +14,14 @@ ghost use Rattle.batch_index.specs.Index.{Indexed, IndexedBefore, Empty, Indexab
 
 use balances::{is_low, may_topup};
 use event_lookups::Lookup;
+use lent::TablesMut;
 use records::Instruction;
 use records::codes::{EVENT_DECISION, EVENT_TICK, EVENT_TOLL, EVENT_TOPUP_RESULT};
-use records::layout::{ACCOUNT_WIDTH, DAY_PLACE, USED_PLACE};
+use records::layout::ACCOUNT_WIDTH;
 use records::limits::MOST_ROWS;
 use slots::{NO_SLOT, SLOTS, Slot, index_slots, slot_of, update_slots};
 use sound_passages::passages::{CELLS, cell_for, insert};
 use table_accounts::account_numbered;
-use tables::words::get;
 
 // 70 KiB of a caller's stack: it is made once for a batch, and lent.
 #[derive(Drop)]
@@ -52,26 +52,20 @@ impl Index {
     }
 
     // The index of sound tables, made in one of no rows.
-    pub fn start(&mut self, header: &[i64], accounts: &[i64], journal: &[i64])
-        requires { (sound_tables (lent header.now accounts.now journal.now) ≡ true) × Empty self.old }
-        ensures { Indexed (at_entry header.now accounts.now journal.now) self.new }
+    pub fn start(&mut self, t: &TablesMut)
+        requires { (sound_tables (lent_mut t.now) ≡ true) × Empty self.old }
+        ensures { Indexed (lent_mut t.now) self.new }
     {
-        let used = get(header, USED_PLACE) as usize;
-        index_passages(journal, 0, used, &mut self.cells);
-        index_slots(journal, used, &mut self.slots);
+        let used = t.used() as usize;
+        index_passages(t.journal, 0, used, &mut self.cells);
+        index_slots(t.journal, used, &mut self.slots);
     }
 
     // What the index has for an event, without a pass over the journal.
-    pub fn look_up(
-        &self,
-        header: &[i64],
-        accounts: &[i64],
-        journal: &[i64],
-        e: Instruction,
-    ) -> Lookup
-        requires { (sound_tables (lent header.now accounts.now journal.now) ≡ true)
-            × Indexed (lent header.now accounts.now journal.now) self.now }
-        ensures { LooksUp (at_entry header.now accounts.now journal.now) e result }
+    pub fn look_up(&self, t: &TablesMut, e: Instruction) -> Lookup
+        requires { (sound_tables (lent_mut t.now) ≡ true)
+            × Indexed (lent_mut t.now) self.now }
+        ensures { LooksUp (lent_mut t.now) e result }
     {
         let slot = slot_of(&self.slots, e.account);
         let mut found = Lookup {
@@ -82,18 +76,17 @@ impl Index {
         };
         if e.kind == EVENT_TOLL {
             found.duplicate = cell_for(
-                journal,
+                t.journal,
                 &self.cells,
                 MOST_ROWS,
-                get(header, USED_PLACE) as usize,
+                t.used() as usize,
                 e.a,
-            )
-            .is_none();
+            ).is_none();
             return found;
         }
         if e.kind == EVENT_TOPUP_RESULT {
-            let x = account_numbered(accounts, accounts.len() / ACCOUNT_WIDTH, e.account);
-            found.due = may_topup(x, get(header, DAY_PLACE)) & is_low(x, slot.money);
+            let x = account_numbered(t.accounts, t.accounts.len() / ACCOUNT_WIDTH, e.account);
+            found.due = may_topup(x, t.day()) & is_low(x, slot.money);
         }
         found
     }
@@ -108,25 +101,18 @@ impl Index {
 
     // The index after an event that found `before` rows: the rows that it added go in. Where held rows may have been paid, which the
     // added rows do not tell, the slots are made anew, in the time of the tick or of the settlement that paid them.
-    pub fn update(
-        &mut self,
-        header: &[i64],
-        accounts: &[i64],
-        journal: &[i64],
-        before: usize,
-        e: Instruction,
-    )
-        requires { (sound_tables (lent header.now accounts.now journal.now) ≡ true)
-            × (before ≤ rows_used (lent header.now accounts.now journal.now))
-            × IndexedBefore (lent header.now accounts.now journal.now) before e self.old }
-        ensures { Indexed (at_entry header.now accounts.now journal.now) self.new }
+    pub fn update(&mut self, t: &TablesMut, before: usize, e: Instruction)
+        requires { (sound_tables (lent_mut t.now) ≡ true)
+            × (before ≤ rows_used (lent_mut t.now))
+            × IndexedBefore (lent_mut t.now) before e self.old }
+        ensures { Indexed (lent_mut t.now) self.new }
     {
-        let used = get(header, USED_PLACE) as usize;
-        index_passages(journal, before, used, &mut self.cells);
+        let used = t.used() as usize;
+        index_passages(t.journal, before, used, &mut self.cells);
         if self.may_pay_held(e) {
-            index_slots(journal, used, &mut self.slots);
+            index_slots(t.journal, used, &mut self.slots);
             return;
         }
-        update_slots(journal, before, used, e.account, &mut self.slots);
+        update_slots(t.journal, before, used, e.account, &mut self.slots);
     }
 }

@@ -183,6 +183,7 @@ fn open_at(journal: &[i64], i: usize, account: u64, side: Side) -> bool
 }
 
 // The next row from i on of which something is left on this side of the account, or the end of the used rows.
+// Kept: as `settlement::next_debit`, a place, from which the search goes on, and no missing value; two searches of two lines each.
 fn next_open(journal: &[i64], used: usize, account: u64, side: Side, i: usize) -> usize
     requires { Countable journal.now used × (i ≤ used) }
     ensures { NextOpen (of_side side account) journal.now used i result }

@@ -1,6 +1,6 @@
 -- A batch that is refused, and what holds after each of its events.
 use mathlib.Core.Path.{◌≡◌, refl, sym, ap, ◌∙◌}
-use mathlib.Core.Bool.{Bool, true, false, not, ◌||◌}
+use mathlib.Core.Bool.{Bool, true, not, ◌||◌}
 use Prim.Native.Nat.{ℕ, ◌+◌, ◌*◌, ◌≤◌, ◌<◌}
 use native.Mathlib.Omega.{arith}
 use native.Mathlib.Numerals.{add-one}
@@ -16,7 +16,7 @@ use Rattle.records.proofs.OutcomeLaws.{number_of-not_0}
 use Rattle.records.specs.Numbers.{answer_unsound, answer_malformed}
 use Rattle.records.specs.Layout.{answer_width}
 use Rattle.records.specs.Encoding.{instruction_of, answer_words}
-use Rattle.lists.specs.Tests.{◌is◌, first}
+use Rattle.lists.specs.Tests.{first}
 use Rattle.lists.proofs.TestLaws.{or_right, first-none}
 use Rattle.records.specs.Limits.{most_events}
 use Rattle.rules.specs.Book.{Instruction, Answer, Book}
@@ -67,17 +67,10 @@ no_event = record { kind = pos 0; account = pos 0; a = pos 0; b = pos 0; c = pos
 abbrev first_of : List Event → ℕ → List Instruction
 first_of es i = take i (map instruction_of es)
 
--- u and v have the lengths of the tables t and the answer table w
-pub record SameSizes (t u : Tables) (w v : List ℤ) : Type 0 where
-  pub header : length u.header ≡ length t.header
-  pub accounts : length u.accounts ≡ length t.accounts
-  pub journal : length u.journal ≡ length t.journal
-  pub answers : length v ≡ length w
-
 -- i events of the batch es are posted: the tables t have become u, and the answer table w has become v
 pub record After (t : Tables) (es : List Event) (w : List ℤ) (i : ℕ) (u : Tables) (v : List ℤ) : Type 0 where
   pub within : i ≤ length es
-  pub sizes : SameSizes t u w v
+  pub size : length v ≡ length w
   pub tables : u ≡ tables_of (book_after (book_of t) (first_of es i))
   pub answers : v ≡ written (answers_to (book_of t) (first_of es i)) w
 
@@ -92,7 +85,7 @@ module _ (t : Tables) (es : List Event) (w : List ℤ) (r : Taken t es w) where
   unfolding book_after answers_to
   after_none = record {
     within = omega arith;
-    sizes = record { header = refl; accounts = refl; journal = refl; answers = refl };
+    size = refl;
     tables = sym (tables_of-book_of t r.sound);
     answers = sym (written_none w);
   }
@@ -108,7 +101,7 @@ module _ (t : Tables) (es : List Event) (w : List ℤ) (r : Taken t es w) where
     module _ (below : i < length es) where
       -- there is room for the next answer
       pub after-room : AnswerIn v i
-      after-room = omega (arith, h.sizes.answers, r.room)
+      after-room = omega (arith, h.size, r.room)
 
       abbrev x : Event
       x = get_or es i no_event
@@ -133,15 +126,10 @@ module _ (t : Tables) (es : List Event) (w : List ℤ) (r : Taken t es w) where
       answers_next = rw (next, answers_to-append b (first_of es i) (e ∷ []), read-after)
 
       -- one event more
-      pub after_more : (u' : Tables) (v' : List ℤ) → SameSizes u u' v v' → RecordPosted u u' v v' i x → After t es w (i + 1) u' v'
+      pub after_more : (u' : Tables) (v' : List ℤ) → length v' ≡ length v → RecordPosted u u' v v' i x → After t es w (i + 1) u' v'
       after_more u' v' n p = record {
         within = omega arith;
-        sizes = record {
-          header = n.header ∙ h.sizes.header;
-          accounts = n.accounts ∙ h.sizes.accounts;
-          journal = n.journal ∙ h.sizes.journal;
-          answers = n.answers ∙ h.sizes.answers;
-        };
+        size = n ∙ h.size;
         tables = rw book-next p.tables;
         answers = rw answers_next (p.answers ∙ written-more);
       }

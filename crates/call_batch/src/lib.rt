@@ -10,90 +10,59 @@ ghost use Rattle.posting.specs.Posts.{Posts};
 ghost use Rattle.batch_index.specs.Index.{Indexed};
 ghost use Rattle.call_words.specs.Answers.{AnswerIn};
 ghost use Rattle.call_batch.specs.BatchCalls.{RecordPosted};
-ghost use Rattle.rules.specs.Lent.{lent, at_entry, at_exit};
+ghost use Rattle.lent.specs.Lent.{lent_mut, SameTables};
 
 use batch_index::Index;
 use call_refusals::batch::check_batch;
 use call_words::write_answer;
 use event_refusals::admit;
 use events::post_admitted;
-use records::layout::USED_PLACE;
+use lent::TablesMut;
 use records::refusals::Refusal;
 use records::{Answer, Event, Instruction, Posting};
-use tables::words::get;
 
 // One event of the batch: only where it is admitted is it looked up in the index and posted, and the index brought up to the journal.
-fn post_indexed(
-    header: &mut [i64],
-    accounts: &mut [i64],
-    journal: &mut [i64],
-    e: Instruction,
-    index: &mut Index,
-) -> Result<Posting, Refusal>
-    requires { (sound_tables (lent header.old accounts.old journal.old) ≡ true)
-        × Indexed (lent header.old accounts.old journal.old) index.old }
-    ensures { Posts
-        (at_entry header.old accounts.old journal.old)
-        (at_exit header.new accounts.new journal.new)
-        e
-        (answer_of result)
-        × Indexed
-        (at_exit header.new accounts.new journal.new)
-        index.new }
+fn post_indexed(t: &mut TablesMut, e: Instruction, index: &mut Index) -> Result<Posting, Refusal>
+    requires { (sound_tables (lent_mut t.old) ≡ true) × Indexed (lent_mut t.old) index.old }
+    ensures same { SameTables t.old t.new }
+    ensures posts { Posts (lent_mut t.old) (lent_mut t.new) e (answer_of result) }
+    ensures indexed { Indexed (lent_mut t.new) index.new }
 {
-    let x = admit(header, accounts, journal, e)?;
-    let before = get(header, USED_PLACE) as usize;
-    let k = index.look_up(header, accounts, journal, e);
-    let outcome = post_admitted(header, accounts, journal, e, x, k);
-    index.update(header, accounts, journal, before, e);
+    let x = admit(t, e)?;
+    let before = t.used() as usize;
+    let k = index.look_up(t, e);
+    let outcome = post_admitted(t, e, x, k);
+    index.update(t, before, e);
     outcome
 }
 
 // One record of the batch: its event posted, answer i written, and the index brought up to the journal.
-fn post_record(
-    header: &mut [i64],
-    accounts: &mut [i64],
-    journal: &mut [i64],
-    answers: &mut [i64],
-    i: usize,
-    x: Event,
-    index: &mut Index,
-)
-    requires { (sound_tables (lent header.old accounts.old journal.old) ≡ true)
+fn post_record(t: &mut TablesMut, answers: &mut [i64], i: usize, x: Event, index: &mut Index)
+    requires { (sound_tables (lent_mut t.old) ≡ true)
         × AnswerIn answers.old i
-        × Indexed (lent header.old accounts.old journal.old) index.old }
-    ensures { RecordPosted (at_entry header.old accounts.old journal.old)
-        (at_exit header.new accounts.new journal.new)
-        answers.old
-        answers.new
-        i
-        x
-        × Indexed (at_exit header.new accounts.new journal.new) index.new }
+        × Indexed (lent_mut t.old) index.old }
+    ensures same { SameTables t.old t.new }
+    ensures posts { RecordPosted (lent_mut t.old) (lent_mut t.new) answers.old answers.new i x }
+    ensures indexed { Indexed (lent_mut t.new) index.new }
 {
-    let outcome = post_indexed(header, accounts, journal, Instruction::from(x), index);
+    let outcome = post_indexed(t, Instruction::from(x), index);
     write_answer(answers, i, Answer::from(outcome));
 }
 
 // Posts the events in order, going on after a refusal; a batch that is refused writes nothing.
-pub fn batch_call(
-    header: &mut [i64],
-    accounts: &mut [i64],
-    journal: &mut [i64],
-    events: &[Event],
-    answers: &mut [i64],
-) -> Result<(), Refusal>
-    ensures { Gives (batch_call (at_entry header.old accounts.old journal.old)
-        events.now
-        answers.old)
+pub fn batch_call(t: &mut TablesMut, events: &[Event], answers: &mut [i64]) -> Result<(), Refusal>
+    ensures same { SameTables t.old t.new }
+    ensures gives { Gives
+        (batch_call (lent_mut t.old) events.now answers.old)
         (pos (number_by result))
-        (at_exit header.new accounts.new journal.new)
+        (lent_mut t.new)
         answers.new }
 {
-    check_batch(header, accounts, journal, events.len(), answers)?;
+    check_batch(t, events.len(), answers)?;
     let mut index = Index::new();
-    index.start(header, accounts, journal);
+    index.start(t);
     for (i, event) in events.iter().enumerate() {
-        post_record(header, accounts, journal, answers, i, *event, &mut index);
+        post_record(t, answers, i, *event, &mut index);
     }
     Ok(())
 }

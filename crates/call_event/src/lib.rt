@@ -5,32 +5,28 @@ ghost use Rattle.std.specs.Prelude.{◌≡◌, pos};
 ghost use Rattle.records.specs.Outcomes.{number_by, answer_of};
 ghost use Rattle.rules.specs.Calls.{event_call, Gives};
 ghost use Rattle.call_event.specs.EventCalls.{AnswersTo};
-ghost use Rattle.rules.specs.Lent.{at_entry, at_exit};
+ghost use Rattle.lent.specs.Lent.{lent_mut, SameTables};
 
 use call_refusals::single::check_event;
 use call_words::{read_event, write_answer};
 use events::post_event;
+use lent::TablesMut;
 use records::layout::ANSWER_WIDTH;
 use records::refusals::Refusal;
 use records::{Answer, Posting};
 
 // What the event did, or why it is refused; the tables are changed where it is not. The answer table is read for its length alone.
-fn post_call(
-    header: &mut [i64],
-    accounts: &mut [i64],
-    journal: &mut [i64],
-    event: &[i64],
-    answer: &[i64],
-) -> Result<Posting, Refusal>
-    ensures { AnswersTo (at_entry header.old accounts.old journal.old)
-        (at_exit header.new accounts.new journal.new)
+fn post_call(t: &mut TablesMut, event: &[i64], answer: &[i64]) -> Result<Posting, Refusal>
+    ensures same { SameTables t.old t.new }
+    ensures answers { AnswersTo (lent_mut t.old)
+        (lent_mut t.new)
         event.now
         answer.now
         (answer_of result) }
 {
-    check_event(header, accounts, journal, event, answer)?;
+    check_event(t, event, answer)?;
     let e = read_event(event);
-    post_event(header, accounts, journal, e)
+    post_event(t, e)
 }
 
 // Whether the event was refused, and why.
@@ -42,21 +38,16 @@ fn verdict(outcome: Result<Posting, Refusal>) -> Result<(), Refusal>
 }
 
 // Posts one event, or refuses it; the answer's words are written wherever there is room for them, refused or not.
-pub fn event_call(
-    header: &mut [i64],
-    accounts: &mut [i64],
-    journal: &mut [i64],
-    event: &[i64],
-    answer: &mut [i64],
-) -> Result<(), Refusal>
-    ensures { Gives (event_call (at_entry header.old accounts.old journal.old)
+pub fn event_call(t: &mut TablesMut, event: &[i64], answer: &mut [i64]) -> Result<(), Refusal>
+    ensures same { SameTables t.old t.new }
+    ensures gives { Gives (event_call (lent_mut t.old)
         event.now
         answer.old)
         (pos (number_by result))
-        (at_exit header.new accounts.new journal.new)
+        (lent_mut t.new)
         answer.new }
 {
-    let outcome = post_call(header, accounts, journal, event, answer);
+    let outcome = post_call(t, event, answer);
     if answer.len() < ANSWER_WIDTH {
         return verdict(outcome);
     }

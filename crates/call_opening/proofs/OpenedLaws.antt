@@ -1,12 +1,12 @@
 -- Opening: the tables that it writes are those of the opened book.
 use mathlib.Core.Path.{◌≡◌, refl, sym, ap, ◌∙◌}
 use mathlib.Core.Bool.{true, false}
-use Prim.Native.Nat.{ℕ, zero, suc, ◌+◌, ◌*◌, ◌-◌, ◌≤◌, ◌<◌}
+use Prim.Native.Nat.{ℕ, zero, suc, ◌+◌, ◌*◌, ◌-◌, ◌≤◌}
 use native.Mathlib.Omega.{arith}
-use mathlib.Core.List.{List, [], ◌∷◌, ◌++◌, append-nil, append_assoc}
+use mathlib.Core.List.{List, [], ◌∷◌, ◌++◌, append-nil}
 use lib.IntN.{ℤ, pos}
-use lib.ListN.{length, get_or, set, take, drop, replicate, length-append, length-set, length-drop, length-replicate, replicate-append-replicate, take-append-drop, drop_of_length-le}
-use lib.Seq.{length-take-le, paste, paste-suc, length-paste, get_or-drop, take_all, take_at, drop-cons, append_snoc, set_at}
+use lib.ListN.{length, get_or, set, take, drop, replicate, length-append, length-set, length-drop, replicate-append-replicate, drop_of_length-le}
+use lib.Seq.{length-take-le, paste, length-paste, take_all, take_at, drop-cons, append_snoc, set_at}
 use borrow.Rule.Slice.PartMut.{put_mid}
 use Rattle.std.proofs.lemmas.Slice.{put_mid-paste}
 use Rattle.records.specs.Layout.{header_width, day_place, used_place, header_schedule, header_first_day, header_lists, later_lists, list_width, account_width, opening_width, first_day_place, opening_schedule, opening_rates}

@@ -7,8 +7,9 @@ ghost use Rattle.records.specs.Layout.{header_width};
 ghost use Rattle.records.specs.Outcomes.{number_by};
 ghost use Rattle.rules.specs.Tables.{Tables, header_words};
 ghost use Rattle.rules.specs.Calls.{opening_fits, opened_book, open_call, Gives};
-ghost use Rattle.rules.specs.Lent.{at_entry, at_exit};
+ghost use Rattle.lent.specs.Lent.{lent, lent_mut, SameTables};
 
+use lent::TablesMut;
 use records::layout::{
     DAY_PLACE, FIRST_DAY_PLACE, HEADER_FIRST_DAY, HEADER_LISTS, HEADER_SCHEDULE, OPENING_RATES,
     OPENING_SCHEDULE, OPENING_WIDTH, USED_PLACE,
@@ -42,26 +43,22 @@ fn write_header(header: &mut [i64], schedule: &[i64])
 }
 
 // Opens the book; refused, it writes nothing: the lengths are unfit, or the words given are.
-pub fn open_book(
-    header: &mut [i64],
-    accounts: &mut [i64],
-    journal: &mut [i64],
-    schedule: &[i64],
-) -> Result<(), Refusal>
-    ensures { Gives (open_call (at_entry header.old accounts.old journal.old)
+pub fn open_book(t: &mut TablesMut, schedule: &[i64]) -> Result<(), Refusal>
+    ensures same { SameTables t.old t.new }
+    ensures gives { Gives (open_call (lent_mut t.old)
         schedule.now)
         (pos (number_by result))
-        (at_exit header.new accounts.new journal.new)
+        (lent_mut t.new)
         [] }
 {
-    if !lengths_fit(header, accounts, journal) {
+    if !lengths_fit(t.read()) {
         return Err(Refusal::Unsound);
     }
     if !opening_fits(schedule) {
         return Err(Refusal::Malformed);
     }
-    write_header(header, schedule);
-    accounts.fill(0);
-    journal.fill(0);
+    write_header(t.header, schedule);
+    t.accounts.fill(0);
+    t.journal.fill(0);
     Ok(())
 }

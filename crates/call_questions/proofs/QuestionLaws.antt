@@ -1,6 +1,5 @@
 -- The questions, with what their tests came to.
 use mathlib.Core.Path.{◌≡◌, refl, sym}
-use mathlib.Core.Logic.{◌≢◌}
 use mathlib.Core.Bool.{Bool, true, false, not, cond, ◌&&◌}
 use Prim.Native.Nat.{ℕ, ◌+◌, ◌*◌, ◌-◌, ◌^◌, ◌≤◌, ◌<◌}
 use native.Mathlib.Omega.{arith}
@@ -8,7 +7,7 @@ use mathlib.Core.List.{[], ◌∷◌}
 use lib.IntN.{ℤ, pos}
 use lib.ListN.{length, take, drop}
 use lib.Dec.{leb}
-use borrow.Author.Tests.{leb-true, ne_eqb, not-false}
+use borrow.Author.Tests.{leb-true, not-false}
 use Rattle.records.specs.declared.refusals.Refusal.{Refusal}
 use Rattle.records.specs.Outcomes.{number_of}
 use Rattle.records.proofs.OutcomeLaws.{number_of-not_0}

@@ -1,5 +1,5 @@
 -- The value that a question is answered with: a refused one has none, and the host reads 0.
-use Rattle.std.specs.Prelude.{ℕ, Bool, cond, ℤ, pos, Result, Ok, Err}
+use Rattle.std.specs.Prelude.{Bool, cond, ℤ, pos, Result, Ok, Err}
 use Rattle.records.specs.declared.refusals.Refusal.{Refusal}
 
 -- an integer, 0 where the question is refused

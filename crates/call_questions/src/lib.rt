@@ -9,9 +9,10 @@ ghost use Rattle.call_questions.specs.Values.{value_of, flag_of};
 ghost use Rattle.rules.specs.Tables.{rows_used, sound_tables};
 ghost use Rattle.rules.specs.Calls.{Replies, question_refusals, balance_call, topup_due_call};
 ghost use Rattle.call_questions.specs.RowParts.{RowPart};
-ghost use Rattle.rules.specs.Lent.{at_entry};
+ghost use Rattle.lent.specs.Lent.{lent};
 
 use balances::sums_of;
+use lent::Tables;
 use records::codes::STATE_UNUSED;
 use records::layout::{ACCOUNT_WIDTH, ROW_WIDTH, USED_PLACE};
 use records::refusals::Refusal;
@@ -21,14 +22,14 @@ use table_accounts::account_numbered;
 use tables::words::{get, minus};
 
 // Why a question about account n is refused, if it is.
-fn check_question(header: &[i64], accounts: &[i64], journal: &[i64], n: u64) -> Result<(), Refusal>
-    ensures { number_by result ≡ first (question_refusals (at_entry header.now accounts.now journal.now)
+fn check_question(t: Tables, n: u64) -> Result<(), Refusal>
+    ensures { number_by result ≡ first (question_refusals (lent t.entry)
         n) }
 {
-    if !sound(header, accounts, journal) {
+    if !sound(t) {
         return Err(Refusal::Unsound);
     }
-    let x = account_numbered(accounts, accounts.len() / ACCOUNT_WIDTH, n);
+    let x = account_numbered(t.accounts, t.accounts.len() / ACCOUNT_WIDTH, n);
     if x.state == STATE_UNUSED {
         return Err(Refusal::Unknown);
     }
@@ -36,63 +37,53 @@ fn check_question(header: &[i64], accounts: &[i64], journal: &[i64], n: u64) -> 
 }
 
 // The account's balance: its sources less its debits, held ones included.
-pub fn balance(
-    header: &[i64],
-    accounts: &[i64],
-    journal: &[i64],
-    account: i64,
-) -> Result<i64, Refusal>
-    ensures { Replies (balance_call (at_entry header.now accounts.now journal.now) account)
+pub fn balance(t: Tables, account: i64) -> Result<i64, Refusal>
+    ensures { Replies (balance_call (lent t.entry) account)
         (pos (number_by result))
         (value_of result) }
 {
     let n = natural(account);
-    check_question(header, accounts, journal, n)?;
-    let used = get(header, USED_PLACE) as usize;
-    let s = sums_of(journal, used, n);
+    check_question(t, n)?;
+    let used = get(t.header, USED_PLACE) as usize;
+    let s = sums_of(t.journal, used, n);
     Ok(minus(s.sources, s.debits))
 }
 
 // Whether the account's top-up is due.
-pub fn topup_due(
-    header: &[i64],
-    accounts: &[i64],
-    journal: &[i64],
-    account: i64,
-) -> Result<bool, Refusal>
-    ensures { Replies (topup_due_call (at_entry header.now accounts.now journal.now) account)
+pub fn topup_due(t: Tables, account: i64) -> Result<bool, Refusal>
+    ensures { Replies (topup_due_call (lent t.entry) account)
         (pos (number_by result))
         (flag_of result) }
 {
     let n = natural(account);
-    check_question(header, accounts, journal, n)?;
-    Ok(balances::topup_due(header, accounts, journal, n))
+    check_question(t, n)?;
+    Ok(balances::topup_due(t, n))
 }
 
 // Whether the book is sound and row n, counted from 1, is used.
-fn row_used(header: &[i64], accounts: &[i64], journal: &[i64], n: u64) -> bool
-    ensures { result ≡ sound_tables (at_entry header.now accounts.now journal.now)
-        && n from 1 to rows_used (at_entry header.now accounts.now journal.now) }
+fn row_used(t: Tables, n: u64) -> bool
+    ensures { result ≡ sound_tables (lent t.entry)
+        && n from 1 to rows_used (lent t.entry) }
 {
-    if !sound(header, accounts, journal) {
+    if !sound(t) {
         return false;
     }
-    (1 <= n) & (n <= get(header, USED_PLACE))
+    (1 <= n) & (n <= get(t.header, USED_PLACE))
 }
 
 // The ten words of a used row: the very part of the lent journal; an empty part where the book is unsound or the row isn't used.
-pub fn row<'a>(header: &[i64], accounts: &[i64], journal: &'a [i64], number: i64) -> &'a [i64]
-    ensures { RowPart (at_entry header.now accounts.now journal.now)
+pub fn row<'a>(t: Tables<'a>, number: i64) -> &'a [i64]
+    ensures { RowPart (lent t.entry)
         number
-        journal.entry.ref_ptr
+        t.entry.journal.ref_ptr
         result.now
         result.ref_ptr }
 {
     let n = natural(number);
-    if !row_used(header, accounts, journal, n) {
-        return &journal[0..0];
+    if !row_used(t, n) {
+        return &t.journal[0..0];
     }
     let start = (n - 1) as usize * ROW_WIDTH;
     let end = start + ROW_WIDTH;
-    &journal[start..end]
+    &t.journal[start..end]
 }

@@ -3,25 +3,20 @@ ghost use Rattle.std.specs.Prelude.{◌≡◌, List, length};
 ghost use Rattle.lists.specs.Tests.{first};
 ghost use Rattle.records.specs.Outcomes.{number_by};
 ghost use Rattle.rules.specs.Calls.{Event, batch_refusals};
-ghost use Rattle.rules.specs.Lent.{at_entry};
+ghost use Rattle.lent.specs.Lent.{lent_mut};
 
+use lent::TablesMut;
 use records::layout::ANSWER_WIDTH;
 use records::limits::MOST_EVENTS;
 use records::refusals::Refusal;
 use soundness::sound;
 
 // A batch of so many events: the book is not sound, too many events, or fewer than five answer words for each.
-pub fn check_batch(
-    header: &[i64],
-    accounts: &[i64],
-    journal: &[i64],
-    count: usize,
-    answers: &[i64],
-) -> Result<(), Refusal>
+pub fn check_batch(t: &TablesMut, count: usize, answers: &[i64]) -> Result<(), Refusal>
     ensures { (es : List Event) → length es ≡ count → number_by result
-        ≡ first (batch_refusals (at_entry header.now accounts.now journal.now) es answers.now) }
+        ≡ first (batch_refusals (lent_mut t.now) es answers.now) }
 {
-    if !sound(header, accounts, journal) {
+    if !sound(t.read()) {
         return Err(Refusal::Unsound);
     }
     if MOST_EVENTS < count {

@@ -3,23 +3,18 @@ ghost use Rattle.std.specs.Prelude.{◌≡◌};
 ghost use Rattle.lists.specs.Tests.{first};
 ghost use Rattle.records.specs.Outcomes.{number_by};
 ghost use Rattle.rules.specs.Calls.{event_refusals};
-ghost use Rattle.rules.specs.Lent.{at_entry};
+ghost use Rattle.lent.specs.Lent.{lent_mut};
 
+use lent::TablesMut;
 use records::layout::{ANSWER_WIDTH, EVENT_WIDTH};
 use records::refusals::Refusal;
 use soundness::sound;
 
 // The book is not sound, another length than nine words, or an answer table of fewer than five.
-pub fn check_event(
-    header: &[i64],
-    accounts: &[i64],
-    journal: &[i64],
-    event: &[i64],
-    answer: &[i64],
-) -> Result<(), Refusal>
-    ensures { number_by result ≡ first (event_refusals (at_entry header.now accounts.now journal.now) event.now answer.now) }
+pub fn check_event(t: &TablesMut, event: &[i64], answer: &[i64]) -> Result<(), Refusal>
+    ensures { number_by result ≡ first (event_refusals (lent_mut t.now) event.now answer.now) }
 {
-    if !sound(header, accounts, journal) {
+    if !sound(t.read()) {
         return Err(Refusal::Unsound);
     }
     if (event.len() != EVENT_WIDTH) | (answer.len() < ANSWER_WIDTH) {

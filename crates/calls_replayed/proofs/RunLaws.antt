@@ -5,7 +5,7 @@ use lib.IntN.{ℤ, pos}
 use Rattle.rules.specs.Tables.{Tables}
 use Rattle.rules.specs.Calls.{Gives, open_call}
 use Rattle.replay.specs.Replay.{Report}
-use Rattle.replay.specs.Demand3.{Call, single, batch, called, tables_after, reports_at, reports}
+use Rattle.replay.specs.Demand3.{Call, single, batch, called, tables_after, reports}
 use Rattle.replay.proofs.Claim.{demand-3}
 use Rattle.calls_replayed.specs.Runs.{Step, event-step, batch-step, balance-step, topup-due-step, Run, none, more, step_reports, run_reports, CallsReplayed}
 

@@ -49,6 +49,7 @@ fn read_digits(bytes: &[u8]) -> Option<u64>
 }
 
 // The number that digits with no minus before them state.
+// Kept beside `read_minus`: a line each, of the library's sum and difference.
 fn read_plain(digits: &[u8]) -> Option<i64>
     ensures { result ≡ plain digits.now }
 {

@@ -9,6 +9,7 @@ use std::marker::Model;
 const TEXT_BYTES: usize = 65536;
 
 // A text, which clauses see as its bytes.
+// Kept: a fixed buffer with its length beside it, since there is no heap.
 #[derive(Drop)]
 pub struct Text {
     bytes: [u8; TEXT_BYTES],

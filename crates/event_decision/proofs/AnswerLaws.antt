@@ -23,7 +23,7 @@ use Rattle.records.specs.Updates.{of_kind}
 use Rattle.posting_laws.proofs.RefusalLaws.{at-kind, length-after, no-ceiling, rows-suffice}
 use Rattle.posting_laws.proofs.PutRowLaws.{length-put, no-ceiling-put}
 use Rattle.event_refusals.specs.Admissions.{Admitted}
-use Rattle.event_decision.specs.Decision.{decision_refusals, part, toll_and_fees, fee_settled, upheld_toll, credit_for}
+use Rattle.event_decision.specs.Decision.{decision_refusals, toll_and_fees, fee_settled, upheld_toll, credit_for}
 
 -- ---- the rows that each verdict leaves
 
@@ -44,7 +44,7 @@ module _ (b : Book) (e : Instruction) (k : e.kind ≡ event_decision) where
   rejected-change = at-kind (λ x. x.b is code_yes ≡ false → change_of x.kind b x ≡ put_row x.a (free_row b x) b) e 6 k (λ v. rw v)
 
   pub upheld-change : e.b is code_yes ≡ true → change_of e.kind b e ≡ add_row (credit_row b e) (with_rows (forgiven_rows b e) b)
-  unfolding change_of decide uphold with_fees credit_for toll_and_fees part
+  unfolding change_of decide uphold with_fees credit_for toll_and_fees
   upheld-change = at-kind (λ x. x.b is code_yes ≡ true → change_of x.kind b x ≡ add_row (credit_row b x) (with_rows (forgiven_rows b x) b)) e 6 k (λ v. rw v)
 
   pub length-forgiven : length (forgiven_rows b e) ≡ length b.rows

@@ -13,7 +13,7 @@ use Rattle.records.specs.Layout.{used_place}
 use Rattle.records.specs.Updates.{of_kind}
 use Rattle.records.specs.Encoding.{word, row_at, rows_of, StorableRow}
 use Rattle.lists.specs.Tests.{◌is◌}
-use Rattle.rules.specs.Rows.{Row, row_no, settle_whole, fee_naming}
+use Rattle.rules.specs.Rows.{Row, row_no, remaining, settle_whole, fee_naming}
 use Rattle.rules.specs.Settlement.{settle}
 use Rattle.rules.specs.Book.{Instruction, Book, with_rows, row}
 use Rattle.rules.specs.Events.{release}
@@ -39,7 +39,7 @@ use Rattle.posting_laws.proofs.EventLaws.{known-inside}
 use Rattle.posting.specs.Written.{UsedRows}
 use Rattle.posting_laws.proofs.UsedRowsLaws.{used-rows-before, rows-put, rows-map, used-rows-add, rows-settle, rows_written, used-rows-settles, small-before, small_put, small-map, small-add}
 use Rattle.posting_laws.proofs.PutRowLaws.{row-used, put-settles, put-posts}
-use Rattle.event_decision.specs.Decision.{fee_settled, upheld_toll, credit_for, row_named, Upholdable, UpheldRows, Releasable, ReleasedRow}
+use Rattle.event_decision.specs.Decision.{fee_settled, upheld_toll, credit_for, row_named, Upholdable, UpheldRows, Releasable, freed_row}
 use Rattle.event_decision.proofs.FeeLaws.{sum-small, same-or-whole}
 use Rattle.event_decision.proofs.AnswerLaws.{forgiven_rows, credit_row, free_row, rejected-change, upheld-change, length-forgiven, upheld-length}
 
@@ -119,7 +119,7 @@ module _ (t : Tables) (s : sound_tables t ≡ true) (e : Instruction) (k : e.kin
     toll = rw (row_read t s e.a, day-read t s) free-storable;
   }
 
-  module _ (v : e.b is code_yes ≡ false) (j : List ℤ) (w : ReleasedRow t.header t.journal j e) where
+  module _ (v : e.b is code_yes ≡ false) (j : List ℤ) (w : RowChanged t.journal j (e.a - 1) (freed_row t.header t.journal e)) where
     free : RowChanged t.journal j (e.a - 1) (free_row b e)
     free = rw (row_read t s e.a, day-read t s) at w
 
@@ -163,8 +163,8 @@ module _ (t : Tables) (s : sound_tables t ≡ true) (e : Instruction) (k : e.kin
         kind = omega arith;
         account = omega (arith, inside.1, accounts-le b.day b near);
         day = omega (arith, day-le b.day b near);
-        amount = rw (sound-rows t s) (sum-small t.journal (rows_used t) true e.a m);
-        settled = rw (sound-rows t s) (sum-small t.journal (rows_used t) false e.a m);
+        amount = rw (sound-rows t s) (sum-small t.journal (rows_used t) (λ r. r.amount) e.a (λ r. omega arith) m);
+        settled = rw (sound-rows t s) (sum-small t.journal (rows_used t) remaining e.a (λ r. omega arith) m);
         mark = omega arith;
         due = omega arith;
         dispute = omega arith;

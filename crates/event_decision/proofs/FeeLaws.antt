@@ -2,7 +2,7 @@
 use mathlib.Core.Path.{◌≡◌, refl, ◌∙◌}
 use mathlib.Core.Logic.{◌⊎◌, inl, inr}
 use mathlib.Core.Bool.{Bool, true, false, cond}
-use Prim.Native.Nat.{ℕ, zero, suc, ◌+◌, ◌*◌, ◌^◌, ◌≤◌, ◌<◌}
+use Prim.Native.Nat.{ℕ, zero, suc, ◌+◌, ◌^◌, ◌≤◌, ◌<◌}
 use native.Mathlib.Omega.{arith}
 use native.Mathlib.Decide.{dec_lt}
 use mathlib.Core.List.{List}
@@ -11,78 +11,67 @@ use lib.IntN.{ℤ}
 use Rattle.records.specs.Encoding.{row_at, rows_of}
 use Rattle.lists.specs.Lists.{sum_by, only, tabulate}
 use Rattle.lists.proofs.ListLaws.{length-tabulate, tabulate-at}
-use Rattle.lists.proofs.SumLaws.{sum_by-more, sum_by-small}
+use Rattle.lists.proofs.SumLaws.{sum_by-more}
 use Rattle.records.specs.Limits.{highest_refund}
 use Rattle.rules.specs.Rows.{Row, blank, row_no, with_settled, remaining, settle_whole, fee_naming}
 use Rattle.tables.specs.Changes.{RowIn}
 use Rattle.row_passes.specs.Passes.{RowLeft}
 use Rattle.settlement.specs.Settling.{Journal}
 use Rattle.posting.specs.Posts.{Amounts}
-use Rattle.event_decision.specs.Decision.{part, toll_and_fees, fee_settled}
+use Rattle.posting.proofs.MeasureLaws.{measured-small}
+use Rattle.event_decision.specs.Decision.{toll_and_fees, fee_settled}
 
 -- ---- a row
 
-pub part-le : (w : Bool) (r : Row) → part w r ≤ r.amount
-unfolding part
-part-le true r = omega arith
-part-le false r = omega arith
-
-module _ (w : Bool) (n : ℕ) where
+module _ (f : Row → ℕ) (n : ℕ) where
   -- what a row adds to the fees of toll n
   abbrev pub fee_part : Row → ℕ
-  fee_part = only (fee_naming n) (part w)
-
-  fee_part-le : (r : Row) → fee_part r ≤ r.amount
-  unfolding only
-  fee_part-le r = go (fee_naming n r)
-    where
-      go : (b : Bool) → cond b (part w r) 0 ≤ r.amount
-      go true = part-le w r
-      go false = omega arith
-
-  pub fee-adds : (r : Row) (b : Bool) → b ≡ fee_naming n r → cond b (part w r) 0 ≡ fee_part r
-  unfolding only
-  fee-adds r b e = rw e
+  fee_part = only (fee_naming n) f
 
 -- ---- the sum
 
-module _ (j : List ℤ) (used : ℕ) (w : Bool) (n : ℕ) where
+module _ (j : List ℤ) (used : ℕ) (f : Row → ℕ) (n : ℕ) where
   -- toll n and its fees among the first i rows
   abbrev pub sum_to : ℕ → ℕ
-  sum_to i = part w (row_no (rows_of j used) n) + sum_by (fee_part w n) (rows_of j i)
+  sum_to i = f (row_no (rows_of j used) n) + sum_by (fee_part f n) (rows_of j i)
 
-  pub sum-start : (r : Row) (x : ℕ) → r ≡ row_no (rows_of j used) n → x ≡ part w r → x ≡ sum_to 0
+  pub sum-start : (r : Row) (x : ℕ) → r ≡ row_no (rows_of j used) n → x ≡ f r → x ≡ sum_to 0
   unfolding sum_by tabulate
-  sum-start r x e f = (rw e at f) ∙ omega arith
+  sum-start r x e q = (rw e at q) ∙ omega arith
 
-  pub sum_more : (i sum x : ℕ) (r : Row) → sum ≡ sum_to i → r ≡ row_at j i → x ≡ fee_part w n r → sum + x ≡ sum_to (i + 1)
-  sum_more i sum x r e a b =
-      let z : x ≡ fee_part w n (row_at j i) = rw a at b in
-      omega (arith, sum_by-more (fee_part w n) (row_at j) i)
+  -- the next row is a fee of the toll, or none
+  pub sum-fee : (i sum x : ℕ) (r : Row) → sum ≡ sum_to i → r ≡ row_at j i → fee_naming n r ≡ true → x ≡ f r → sum + x ≡ sum_to (i + 1)
+  unfolding only
+  sum-fee i sum x r e a b q =
+      let z : fee_part f n (row_at j i) ≡ x = rw (← a, b, q) in
+      omega (arith, sum_by-more (fee_part f n) (row_at j) i)
 
-  module _ (m : Amounts j used) where
-    toll-small : part w (row_no (rows_of j used) n) ≤ highest_refund
+  pub sum-other : (i sum : ℕ) (r : Row) → sum ≡ sum_to i → r ≡ row_at j i → fee_naming n r ≡ false → sum ≡ sum_to (i + 1)
+  unfolding only
+  sum-other i sum r e a b =
+      let z : fee_part f n (row_at j i) ≡ 0 = rw (← a, b) in
+      omega (arith, sum_by-more (fee_part f n) (row_at j) i)
+
+  module _ (within : (r : Row) → f r ≤ r.amount) (m : Amounts j used) where
+    toll-small : f (row_no (rows_of j used) n) ≤ highest_refund
     toll-small = go n
       where
         at : (k : ℕ) → Dec (k < used) → (get_or (rows_of j used) k blank).amount ≤ highest_refund
         at k (yes h) = rw (tabulate-at (row_at j) used k blank h) (m.small k h)
         at k (no h) = rw (get_or-eq_default (rows_of j used) blank {n = k} (omega (arith, length-tabulate (row_at j) used))) (omega arith)
 
-        go : (k : ℕ) → part w (row_no (rows_of j used) k) ≤ highest_refund
-        go zero = omega (arith, part-le w blank)
-        go (suc k) = omega (arith, part-le w (get_or (rows_of j used) k blank), at k (dec_lt k used))
+        go : (k : ℕ) → f (row_no (rows_of j used) k) ≤ highest_refund
+        go zero = omega (arith, within blank)
+        go (suc k) = omega (arith, within (get_or (rows_of j used) k blank), at k (dec_lt k used))
 
-    fees-small : (i : ℕ) → i ≤ used → sum_by (fee_part w n) (rows_of j i) ≤ i * highest_refund
-    fees-small i h = sum_by-small (fee_part w n) (row_at j) highest_refund i (λ k l. omega (arith, fee_part-le w n (row_at j k), m.small k (omega arith)))
-
-    pub sum_fits : (i sum x : ℕ) (r : Row) → i < used → sum ≡ sum_to i → r ≡ row_at j i → x ≡ fee_part w n r → sum + x < 2 ^ 63
+    pub sum_fits : (i sum x : ℕ) (r : Row) → i < used → sum ≡ sum_to i → r ≡ row_at j i → x ≡ f r → sum + x < 2 ^ 63
     sum_fits i sum x r h e a b =
-        let q : x ≤ (row_at j i).amount = rw (b, a) (fee_part-le w n (row_at j i)) in
-        omega (arith, toll-small, fees-small i (omega arith), m.small i h, m.few)
+        let q : x ≤ (row_at j i).amount = rw (b, a) (within (row_at j i)) in
+        omega (arith, toll-small, measured-small j used m (fee_naming n) f within i (omega arith), m.small i h, m.few)
 
-    pub sum-small : toll_and_fees (rows_of j used) n (part w) < 2 ^ 63
+    pub sum-small : toll_and_fees (rows_of j used) n f < 2 ^ 63
     unfolding toll_and_fees
-    sum-small = omega (arith, toll-small, fees-small used (omega arith), m.few)
+    sum-small = omega (arith, toll-small, measured-small j used m (fee_naming n) f within used (omega arith), m.few)
 
 -- ---- a fee settled whole
 

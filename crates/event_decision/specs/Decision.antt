@@ -1,5 +1,5 @@
 -- Event 6: the refusals of its own, out of the table of all, in checking order; and what each verdict writes.
-use Rattle.std.specs.Prelude.{◌≡◌, Bool, true, false, not, cond, ◌&&◌, ℕ, ◌+◌, ◌-◌, ◌≤◌, List, [], ◌∷◌, length, ℤ, ltb}
+use Rattle.std.specs.Prelude.{◌≡◌, not, cond, ◌&&◌, ℕ, ◌+◌, ◌-◌, ◌≤◌, List, [], ◌∷◌, length, ℤ, ltb}
 use Rattle.records.specs.Numbers.{answer_no_row, answer_untimely, answer_full}
 use Rattle.records.specs.Codes.{dispute_upheld, code_yes}
 use Rattle.records.specs.Layout.{header_width, day_place, used_place}
@@ -22,10 +22,6 @@ decision_refusals b e =
 
 -- ---- a toll and its fees
 
--- of a row the whole amount, or what remains
-unfoldable pub part : Bool → Row → ℕ
-part whole r = cond whole r.amount (remaining r)
-
 -- what f gives for row n "plus all its fees"
 unfoldable pub toll_and_fees : List Row → ℕ → (Row → ℕ) → ℕ
 toll_and_fees rows n f = f (row_no rows n) + sum_by (only (fee_naming n) f) rows
@@ -43,8 +39,8 @@ upheld_toll r = settle_whole (with_hold_start 0 (with_dispute dispute_upheld r))
 -- "a credit of the toll plus all its fees settles what is unsettled of exactly these"
 unfoldable pub credit_for : List Row → ℕ → Instruction → Row
 credit_for rows today e =
-    with_reference e.a (with_settled (toll_and_fees rows e.a (part false))
-    (new_row kind_credit e.account today (toll_and_fees rows e.a (part true))))
+    with_reference e.a (with_settled (toll_and_fees rows e.a remaining)
+    (new_row kind_credit e.account today (toll_and_fees rows e.a (λ r. r.amount))))
 
 -- the row that the event names
 abbrev pub row_named : List ℤ → List ℤ → Instruction → Row
@@ -69,6 +65,10 @@ pub record UpheldRows (h h' j j' : List ℤ) (e : Instruction) : Type 0 where
 
 -- ---- verdict 0
 
+-- the row that the event names, free again
+abbrev pub freed_row : List ℤ → List ℤ → Instruction → Row
+freed_row h j e = release (word h day_place) (row_named h j e)
+
 -- the toll can be written free
 pub record Releasable (h j : List ℤ) (e : Instruction) : Type 0 where
   pub header : length h ≡ header_width
@@ -76,8 +76,4 @@ pub record Releasable (h j : List ℤ) (e : Instruction) : Type 0 where
   pub from : 1 ≤ e.a
   pub used : e.a ≤ word h used_place
   pub begun : (row_named h j e).hold ≤ word h day_place
-  pub toll : StorableRow (release (word h day_place) (row_named h j e))
-
--- it is written free
-abbrev pub ReleasedRow : List ℤ → List ℤ → List ℤ → Instruction → Type 0
-ReleasedRow h j j' e = RowChanged j j' (e.a - 1) (release (word h day_place) (row_named h j e))
+  pub toll : StorableRow (freed_row h j e)

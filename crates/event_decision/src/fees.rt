@@ -1,17 +1,15 @@
 // The fees of a toll: summed with it, and settled whole.
-ghost use Rattle.std.specs.Prelude.{◌≡◌, ◌^◌, ◌<◌};
+ghost use Rattle.std.specs.Prelude.{◌≡◌, ℕ, ◌^◌, ◌<◌};
 ghost use Rattle.records.specs.Encoding.{row_at, rows_of};
-ghost use Rattle.lists.specs.Lists.{only};
-ghost use Rattle.rules.specs.Rows.{fee_naming};
+ghost use Rattle.rules.specs.Rows.{Row, fee_naming};
 ghost use Rattle.tables.specs.Changes.{RowIn, RowChanged, RowsMapped};
 ghost use Rattle.settlement.specs.Settling.{Journal};
-ghost use Rattle.posting.specs.Posts.{Amounts};
-ghost use Rattle.event_decision.specs.Decision.{part, toll_and_fees, fee_settled};
+ghost use Rattle.posting.specs.Posts.{Amounts, Measures};
+ghost use Rattle.event_decision.specs.Decision.{toll_and_fees, fee_settled};
 
 use records::Row;
 use records::codes::KIND_FEE;
 use row_passes::change_rows;
-use row_tests::remaining_of;
 use table_rows::{put_settled, read_row, row_numbered};
 
 // A fee that names row n.
@@ -21,32 +19,19 @@ fn is_fee_of(r: Row, n: u64) -> bool
     (r.kind == KIND_FEE) & (r.reference == n)
 }
 
-// Of a row its whole amount, or what remains of it.
-fn part_of(r: Row, whole: bool) -> u64
-    ensures { result ≡ part whole r }
+// What part gives for toll n and its fees, summed.
+pub fn with_fees<F: Fn(Row) -> u64>(journal: &[i64], used: usize, n: u64, part: F) -> u64
+    requires { Amounts journal.now used
+        × (f : Row → ℕ)
+        × Measures F.Fn part f }
+    ensures { (f : Row → ℕ) → Measures F.Fn part f → result ≡ toll_and_fees (rows_of journal.now used) n f }
 {
-    if whole { r.amount } else { remaining_of(r) }
-}
-
-// The same of a fee of toll n, and 0 of any other row.
-fn fee_part(r: Row, n: u64, whole: bool) -> u64
-    ensures { result ≡ only (fee_naming n) (part whole) r }
-{
-    if is_fee_of(r, n) {
-        part_of(r, whole)
-    } else {
-        0
-    }
-}
-
-// Toll n and its fees: their whole amounts, or what remains of them.
-pub fn with_fees(journal: &[i64], used: usize, n: u64, whole: bool) -> u64
-    requires { Amounts journal.now used }
-    ensures { result ≡ toll_and_fees (rows_of journal.now used) n (part whole) }
-{
-    let mut sum = part_of(row_numbered(journal, used, n), whole);
+    let mut sum = part(row_numbered(journal, used, n));
     for i in 0..used {
-        sum += fee_part(read_row(journal, i), n, whole);
+        let r = read_row(journal, i);
+        if is_fee_of(r, n) {
+            sum += part(r);
+        }
     }
     sum
 }

@@ -11,19 +11,20 @@ ghost use Rattle.rules.specs.Tables.{book_of, sound_tables};
 ghost use Rattle.event_lookups.specs.Lookups.{LooksUp};
 ghost use Rattle.posting.specs.Posts.{Amounts, Posts};
 ghost use Rattle.event_refusals.specs.Admissions.{Admitted};
-ghost use Rattle.event_decision.specs.Decision.{upheld_toll, credit_for, Upholdable, UpheldRows, Releasable, ReleasedRow};
+ghost use Rattle.event_decision.specs.Decision.{upheld_toll, credit_for, Upholdable, UpheldRows, Releasable, freed_row};
 ghost use Rattle.records.specs.Codes.{event_decision};
-ghost use Rattle.rules.specs.Lent.{lent, at_entry, at_exit};
+ghost use Rattle.lent.specs.Lent.{lent_mut, SameTables};
 
 use self::fees::{settle_fees, with_fees};
 use event_lookups::Lookup;
+use lent::TablesMut;
 use posting::answers::posted;
 use posting::rows::{add_row, new_row, released};
 use records::codes::{DISPUTE_UPHELD, KIND_CREDIT, KIND_TOLL};
 use records::layout::{DAY_PLACE, ROW_WIDTH, USED_PLACE};
 use records::refusals::Refusal;
 use records::{Instruction, Posting, Row};
-use row_tests::held_toll;
+use row_tests::{held_toll, remaining_of};
 use settlement::settle_from;
 use table_rows::{row_numbered, write_row};
 use tables::words::get;
@@ -32,26 +33,21 @@ use tables::words::get;
 const YES: u64 = 1;
 
 // Why an admitted event 6 is refused, if it is.
-fn check_decision(
-    header: &[i64],
-    accounts: &[i64],
-    journal: &[i64],
-    e: Instruction,
-) -> Result<(), Refusal>
-    requires { (sound_tables (lent header.now accounts.now journal.now) ≡ true)
+fn check_decision(t: &TablesMut, e: Instruction) -> Result<(), Refusal>
+    requires { (sound_tables (lent_mut t.now) ≡ true)
         × (e.kind ≡ event_decision)
-        × Admitted (lent header.now accounts.now journal.now) e }
-    ensures { number_by result ≡ answer_number (book_of (at_entry header.now accounts.now journal.now)) e }
+        × Admitted (lent_mut t.now) e }
+    ensures { number_by result ≡ answer_number (book_of (lent_mut t.now)) e }
 {
-    let used = get(header, USED_PLACE) as usize;
-    let r = row_numbered(journal, used, e.a);
+    let used = t.used() as usize;
+    let r = row_numbered(t.journal, used, e.a);
     if !((r.kind == KIND_TOLL) & (r.account == e.account)) {
         return Err(Refusal::NoRow);
     }
     if !held_toll(r) {
         return Err(Refusal::Untimely);
     }
-    if (e.b == YES) & (journal.len() / ROW_WIDTH <= used) {
+    if (e.b == YES) & (t.journal.len() / ROW_WIDTH <= used) {
         return Err(Refusal::Full);
     }
     Ok(())
@@ -62,9 +58,9 @@ fn credit_for(journal: &[i64], used: usize, today: u64, e: Instruction) -> Row
     requires { Amounts journal.now used }
     ensures { result ≡ credit_for (rows_of journal.now used) today e }
 {
-    let whole = with_fees(journal, used, e.a, true);
+    let whole = with_fees(journal, used, e.a, |r| r.amount);
     let mut credit = new_row(KIND_CREDIT, e.account, today, whole);
-    credit.settled = with_fees(journal, used, e.a, false);
+    credit.settled = with_fees(journal, used, e.a, remaining_of);
     credit.reference = e.a;
     credit
 }
@@ -94,38 +90,33 @@ fn uphold(header: &mut [i64], journal: &mut [i64], e: Instruction)
     add_row(header, journal, credit);
 }
 
-// Verdict 0: the toll is free again.
-fn reject(header: &[i64], journal: &mut [i64], e: Instruction)
-    requires { Releasable header.now journal.old e }
-    ensures { ReleasedRow header.now journal.old journal.new e }
+// Verdict 0: the toll that event 6 names, free again.
+fn freed_row(t: &TablesMut, e: Instruction) -> Row
+    requires { Releasable t.now.header.now t.now.journal.now e }
+    ensures { result ≡ freed_row t.now.header.now t.now.journal.now e }
 {
-    let r = row_numbered(journal, get(header, USED_PLACE) as usize, e.a);
-    let free = released(r, get(header, DAY_PLACE));
-    write_row(journal, (e.a - 1) as usize, free);
+    let r = row_numbered(t.journal, t.used() as usize, e.a);
+    released(r, t.day())
 }
 
 // Event 6: the dispute is decided; then settlement.
-pub fn decide(
-    header: &mut [i64],
-    accounts: &[i64],
-    journal: &mut [i64],
-    e: Instruction,
-    k: Lookup,
-) -> Result<Posting, Refusal>
-    requires { (sound_tables (lent header.old accounts.now journal.old) ≡ true)
+pub fn decide(t: &mut TablesMut, e: Instruction, k: Lookup) -> Result<Posting, Refusal>
+    requires { (sound_tables (lent_mut t.old) ≡ true)
         × (e.kind ≡ event_decision)
-        × LooksUp (lent header.old accounts.now journal.old) e k
-        × Admitted (lent header.old accounts.now journal.old) e }
-    ensures { Posts (at_entry header.old accounts.now journal.old) (at_exit header.new accounts.now journal.new) e (answer_of result) }
+        × LooksUp (lent_mut t.old) e k
+        × Admitted (lent_mut t.old) e }
+    ensures same { SameTables t.old t.new }
+    ensures posts { Posts (lent_mut t.old) (lent_mut t.new) e (answer_of result) }
 {
-    check_decision(header, accounts, journal, e)?;
-    let used = get(header, USED_PLACE);
+    check_decision(t, e)?;
+    let used = t.used();
     if e.b == YES {
-        uphold(header, journal, e);
-        settle_from(journal, used as usize + 1, e.account, k.source, k.debit);
-        return Ok(posted(used, 1, 0, 0));
+        uphold(&mut *t.header, &mut *t.journal, e);
+        settle_from(t.journal, used as usize + 1, e.account, k.source, k.debit);
+        return Ok(posted(used, 1, 0, false));
     }
-    reject(header, journal, e);
-    settle_from(journal, used as usize, e.account, k.source, k.debit);
-    Ok(posted(used, 0, 0, 0))
+    let free = freed_row(t, e);
+    write_row(t.journal, (e.a - 1) as usize, free);
+    settle_from(t.journal, used as usize, e.account, k.source, k.debit);
+    Ok(posted(used, 0, 0, false))
 }

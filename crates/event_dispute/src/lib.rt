@@ -2,6 +2,7 @@
 #![tactic(auto)]
 
 ghost use Rattle.std.specs.Prelude.{◌≡◌, true};
+ghost use Rattle.rules.specs.Book.{row};
 ghost use Rattle.rules.specs.Events.{hold_from};
 ghost use Rattle.rules.specs.Refusals.{answer_number};
 ghost use Rattle.records.specs.Outcomes.{number_by, answer_of};
@@ -10,31 +11,25 @@ ghost use Rattle.event_lookups.specs.Lookups.{LooksUp};
 ghost use Rattle.posting.specs.Posts.{Posts};
 ghost use Rattle.event_refusals.specs.Admissions.{Admitted};
 ghost use Rattle.records.specs.Codes.{event_dispute};
-ghost use Rattle.rules.specs.Lent.{lent, at_entry, at_exit};
+ghost use Rattle.lent.specs.Lent.{lent_mut, SameTables};
 
 use event_lookups::Lookup;
+use lent::TablesMut;
 use posting::answers::posted;
 use records::codes::{DISPUTE_HELD, DISPUTE_NEVER, KIND_TOLL};
-use records::layout::{DAY_PLACE, USED_PLACE};
 use records::refusals::Refusal;
 use records::{Instruction, Posting, Row};
 use settlement::settle_from;
 use table_rows::{row_numbered, write_row};
-use tables::words::get;
 
 // Why an admitted event 5 is refused, if it is.
-fn check_dispute(
-    header: &[i64],
-    accounts: &[i64],
-    journal: &[i64],
-    e: Instruction,
-) -> Result<(), Refusal>
-    requires { (sound_tables (lent header.now accounts.now journal.now) ≡ true)
+fn check_dispute(t: &TablesMut, e: Instruction) -> Result<(), Refusal>
+    requires { (sound_tables (lent_mut t.now) ≡ true)
         × (e.kind ≡ event_dispute)
-        × Admitted (lent header.now accounts.now journal.now) e }
-    ensures { number_by result ≡ answer_number (book_of (at_entry header.now accounts.now journal.now)) e }
+        × Admitted (lent_mut t.now) e }
+    ensures { number_by result ≡ answer_number (book_of (lent_mut t.now)) e }
 {
-    let r = row_numbered(journal, get(header, USED_PLACE) as usize, e.a);
+    let r = row_numbered(t.journal, t.used() as usize, e.a);
     if !((r.kind == KIND_TOLL) & (r.account == e.account)) {
         return Err(Refusal::NoRow);
     }
@@ -55,25 +50,28 @@ fn held_from(r: Row, today: u64) -> Row
     }
 }
 
-// Event 5: the toll is held; then settlement.
-pub fn hold_toll(
-    header: &[i64],
-    accounts: &[i64],
-    journal: &mut [i64],
-    e: Instruction,
-    k: Lookup,
-) -> Result<Posting, Refusal>
-    requires { (sound_tables (lent header.now accounts.now journal.old) ≡ true)
-        × (e.kind ≡ event_dispute)
-        × LooksUp (lent header.now accounts.now journal.old) e k
-        × Admitted (lent header.now accounts.now journal.old) e }
-    ensures { Posts (at_entry header.now accounts.now journal.old) (at_exit header.now accounts.now journal.new) e (answer_of result) }
+// The toll that event 5 names, held from today on.
+fn held_row(t: &TablesMut, e: Instruction) -> Row
+    requires { sound_tables (lent_mut t.now) ≡ true }
+    ensures { result ≡ hold_from (book_of (lent_mut t.now)).day (row (book_of (lent_mut t.now)) e.a) }
 {
-    check_dispute(header, accounts, journal, e)?;
-    let used = get(header, USED_PLACE);
-    let r = row_numbered(journal, used as usize, e.a);
-    let held = held_from(r, get(header, DAY_PLACE));
-    write_row(journal, (e.a - 1) as usize, held);
-    settle_from(journal, used as usize, e.account, k.source, k.debit);
-    Ok(posted(used, 0, 0, 0))
+    let r = row_numbered(t.journal, t.used() as usize, e.a);
+    held_from(r, t.day())
+}
+
+// Event 5: the toll is held; then settlement.
+pub fn hold_toll(t: &mut TablesMut, e: Instruction, k: Lookup) -> Result<Posting, Refusal>
+    requires { (sound_tables (lent_mut t.old) ≡ true)
+        × (e.kind ≡ event_dispute)
+        × LooksUp (lent_mut t.old) e k
+        × Admitted (lent_mut t.old) e }
+    ensures same { SameTables t.old t.new }
+    ensures posts { Posts (lent_mut t.old) (lent_mut t.new) e (answer_of result) }
+{
+    check_dispute(t, e)?;
+    let used = t.used();
+    let held = held_row(t, e);
+    write_row(t.journal, (e.a - 1) as usize, held);
+    settle_from(t.journal, used as usize, e.account, k.source, k.debit);
+    Ok(posted(used, 0, 0, false))
 }

@@ -10,18 +10,20 @@ ghost use Rattle.rules.specs.Tables.{list_words, sound_tables};
 ghost use Rattle.tables.specs.Changes.{put_all};
 ghost use Rattle.posting.specs.Posts.{Posts};
 ghost use Rattle.event_refusals.specs.Admissions.{Admitted};
-ghost use Rattle.rules.specs.Lent.{lent, at_entry, at_exit};
+ghost use Rattle.lent.specs.Lent.{lent_mut, SameTables};
 
+use lent::TablesMut;
 use posting::answers::posted;
 use records::layout::{
     HEADER_LISTS, LIST_DAY_PLACE, LIST_RATES_PLACE, LIST_WIDTH, PLATE1_PLACE, PLATE2_PLACE,
-    PLATE3_PLACE, TAG1_PLACE, TAG2_PLACE, TAG3_PLACE, USED_PLACE,
+    PLATE3_PLACE, TAG1_PLACE, TAG2_PLACE, TAG3_PLACE,
 };
 use records::{Instruction, Posting};
 use table_lists::lists_used;
-use tables::words::{get, put};
+use tables::words::put;
 
 // The first four words of a list, from place p on: its first day, and the rates of class 1 and of class 2 by tag.
+// Kept: two halves of one list of stores, not two of a kind.
 fn put_first_words(header: &mut [i64], p: usize, e: Instruction)
     requires { (p + list_width ≤ length header.old) × (list_in_range (list_of e) ≡ true) }
     ensures { header.new ≡ put_all header.old p 0 (take 4 (list_words (list_of e))) }
@@ -42,15 +44,16 @@ fn put_last_words(header: &mut [i64], p: usize, e: Instruction)
 }
 
 // Event 10: words a to g become the first unused list. Admitted, it is not refused.
-pub fn add_list(header: &mut [i64], accounts: &[i64], journal: &[i64], e: Instruction) -> Posting
-    requires { (sound_tables (lent header.old accounts.now journal.now) ≡ true)
+pub fn add_list(t: &mut TablesMut, e: Instruction) -> Posting
+    requires { (sound_tables (lent_mut t.old) ≡ true)
         × (e.kind ≡ event_rate_list)
-        × Admitted (lent header.old accounts.now journal.now) e }
-    ensures { Posts (at_entry header.old accounts.now journal.now) (at_exit header.new accounts.now journal.now) e (answer_of (Ok result)) }
+        × Admitted (lent_mut t.old) e }
+    ensures same { SameTables t.old t.new }
+    ensures posts { Posts (lent_mut t.old) (lent_mut t.new) e (answer_of (Ok result)) }
 {
-    let used = get(header, USED_PLACE);
-    let p = HEADER_LISTS + lists_used(header) * LIST_WIDTH;
-    put_first_words(header, p, e);
-    put_last_words(header, p, e);
-    posted(used, 0, 0, 0)
+    let used = t.used();
+    let p = HEADER_LISTS + lists_used(t.read().header) * LIST_WIDTH;
+    put_first_words(t.header, p, e);
+    put_last_words(t.header, p, e);
+    posted(used, 0, 0, false)
 }

@@ -13,7 +13,7 @@ use Rattle.lists.specs.Tests.{◌is◌}
 use Rattle.lists.specs.Lists.{only, exists}
 use Rattle.lists.proofs.ListLaws.{tabulate-at}
 use Rattle.lists.proofs.SumLaws.{only-le}
-use Rattle.rules.specs.Rows.{Row, Test, blank, toll, debit, remaining, source_of, debit_of}
+use Rattle.rules.specs.Rows.{Row, Test, blank, toll, remaining, source_of, debit_of}
 use Rattle.tables.specs.Changes.{RowChanged, RowsMapped}
 use Rattle.settlement.specs.Settling.{Begun}
 use Rattle.posting.specs.Posts.{RowAdded}

@@ -10,14 +10,13 @@ ghost use Rattle.lists.specs.Lists.{exists};
 ghost use Rattle.rules.specs.Rows.{toll};
 ghost use Rattle.rules.specs.Tables.{sound_tables};
 ghost use Rattle.event_lookups.specs.Lookups.{LooksUp};
-ghost use Rattle.rules.specs.Lent.{lent, at_entry};
+ghost use Rattle.lent.specs.Lent.{lent_mut};
 
 use balances::topup_due;
+use lent::TablesMut;
 use records::Instruction;
 use records::codes::{EVENT_TOLL, EVENT_TOPUP_RESULT, KIND_TOLL};
-use records::layout::USED_PLACE;
 use table_rows::{kind_at, reference_at};
-use tables::words::get;
 
 // Of a toll, whether its passage number stands in the journal; of a top-up result, whether it is due; and the rows, counted from 0, from
 // which on a source and a debit of the account are looked for.
@@ -45,9 +44,9 @@ fn passage_found(journal: &[i64], used: usize, passage: u64) -> bool
 }
 
 // For one event: the journal is searched where it is a toll or a top-up result, and nothing is known of the account's rows.
-pub fn look_up(header: &[i64], accounts: &[i64], journal: &[i64], e: Instruction) -> Lookup
-    requires { sound_tables (lent header.now accounts.now journal.now) ≡ true }
-    ensures { LooksUp (at_entry header.now accounts.now journal.now) e result }
+pub fn look_up(t: &TablesMut, e: Instruction) -> Lookup
+    requires { sound_tables (lent_mut t.now) ≡ true }
+    ensures { LooksUp (lent_mut t.now) e result }
 {
     let mut found = Lookup {
         duplicate: false,
@@ -56,11 +55,11 @@ pub fn look_up(header: &[i64], accounts: &[i64], journal: &[i64], e: Instruction
         debit: 0,
     };
     if e.kind == EVENT_TOLL {
-        found.duplicate = passage_found(journal, get(header, USED_PLACE) as usize, e.a);
+        found.duplicate = passage_found(t.journal, t.used() as usize, e.a);
         return found;
     }
     if e.kind == EVENT_TOPUP_RESULT {
-        found.due = topup_due(header, accounts, journal, e.account);
+        found.due = topup_due(t.read(), e.account);
     }
     found
 }

@@ -11,8 +11,8 @@ use Rattle.lists.specs.Tests.{◌is◌}
 use Rattle.records.specs.Layout.{header_lists, header_rates, later_lists, list_width, list_rates_place, rates_width}
 use Rattle.records.specs.Encoding.{word}
 use Rattle.rules.specs.Schedule.{Rates, rate}
-use Rattle.rules.specs.RateLists.{RateList, list_no, in_force}
-use Rattle.rules.specs.Tables.{rates_from, first_list_in, list_from, lists_used, lists_in}
+use Rattle.rules.specs.RateLists.{RateList, in_force}
+use Rattle.rules.specs.Tables.{rates_from, first_list_in, list_from, lists_in}
 use Rattle.table_lists.specs.HeaderLists.{OnDay}
 use Rattle.table_lists.proofs.OnDayLaws.{later-list}
 use Rattle.event_rates.specs.declared.Class.{Class}

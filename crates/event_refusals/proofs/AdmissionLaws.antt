@@ -3,7 +3,7 @@ use mathlib.Core.Path.{◌≡◌, refl, sym, ◌∙◌}
 use mathlib.Core.Bool.{Bool, true, false, not, cond, ◌&&◌}
 use mathlib.Core.List.{List, [], ◌∷◌}
 use Rattle.records.specs.Numbers.{answer_malformed, answer_unknown, answer_taken, answer_closed, answer_list_refused}
-use Rattle.lists.specs.Tests.{◌is◌, first}
+use Rattle.lists.specs.Tests.{first}
 use Rattle.rules.specs.Book.{Account, Instruction, Book}
 use Rattle.rules.specs.Refusals.{well_formed, list_refused, unknown, taken, on_closed, shared_count, refusals, answer_number, shared_refusals}
 use Rattle.rules.specs.Tables.{Tables, later_list_at, lists_used, lists_in, book_of}

@@ -9,9 +9,10 @@ ghost use Rattle.records.specs.Outcomes.{number_by};
 ghost use Rattle.rules.specs.Refusals.{list_refused, unknown, taken, on_closed, shared_refusals};
 ghost use Rattle.rules.specs.Tables.{lists_in, sound_tables};
 ghost use Rattle.event_refusals.specs.Admissions.{Read, Admits};
-ghost use Rattle.rules.specs.Lent.{lent, at_entry};
+ghost use Rattle.lent.specs.Lent.{lent_mut};
 
 use event_forms::well_formed;
+use lent::TablesMut;
 use records::codes::{
     EVENT_CLOSE_REQUEST, EVENT_OPEN, EVENT_PAYMENT, EVENT_RATE_LIST, EVENT_TICK, EVENT_TOLL,
     EVENT_TOPUP_RESULT, STATE_CLOSED, STATE_UNUSED,
@@ -90,18 +91,13 @@ fn check_shared(late: bool, count: u64, e: Instruction, x: Account) -> Result<()
 }
 
 // The account that the event names, read once, or the shared refusal that applies to it.
-pub fn admit(
-    header: &[i64],
-    accounts: &[i64],
-    journal: &[i64],
-    e: Instruction,
-) -> Result<Account, Refusal>
-    requires { sound_tables (lent header.now accounts.now journal.now) ≡ true }
-    ensures { Admits (at_entry header.now accounts.now journal.now) e result }
+pub fn admit(t: &TablesMut, e: Instruction) -> Result<Account, Refusal>
+    requires { sound_tables (lent_mut t.now) ≡ true }
+    ensures { Admits (lent_mut t.now) e result }
 {
-    let late = list_refused(header, e);
-    let count = accounts.len() / ACCOUNT_WIDTH;
-    let x = account_numbered(accounts, count, e.account);
+    let late = list_refused(t.header, e);
+    let count = t.accounts.len() / ACCOUNT_WIDTH;
+    let x = account_numbered(t.accounts, count, e.account);
     check_shared(late, count as u64, e, x)?;
     Ok(x)
 }

@@ -13,13 +13,14 @@ ghost use Rattle.posting.specs.Posts.{RowRoom, RowAdded, Posts};
 ghost use Rattle.event_refusals.specs.Admissions.{Admitted, Names};
 ghost use Rattle.event_return.specs.Return.{Counts, ReturnCounted, Marks, Marked};
 ghost use Rattle.records.specs.Codes.{event_returned_check};
-ghost use Rattle.rules.specs.Lent.{lent, at_entry, at_exit};
+ghost use Rattle.lent.specs.Lent.{lent_mut, SameTables};
 
 use event_lookups::Lookup;
+use lent::TablesMut;
 use posting::answers::posted;
 use posting::rows::{add_row, new_row};
 use records::codes::{KIND_FEE, KIND_PAYMENT, KIND_REVERSAL, METHOD_CHECK, METHOD_CHECK_RETURNED};
-use records::layout::{DAY_PLACE, ROW_WIDTH, USED_PLACE};
+use records::layout::{DAY_PLACE, ROW_WIDTH};
 use records::limits::RETURN_FEE;
 use records::refusals::Refusal;
 use records::{Account, Instruction, Posting};
@@ -29,26 +30,21 @@ use table_rows::{row_numbered, write_row};
 use tables::words::get;
 
 // Why an admitted event 4 is refused, if it is.
-fn check_return(
-    header: &[i64],
-    accounts: &[i64],
-    journal: &[i64],
-    e: Instruction,
-) -> Result<(), Refusal>
-    requires { (sound_tables (lent header.now accounts.now journal.now) ≡ true)
+fn check_return(t: &TablesMut, e: Instruction) -> Result<(), Refusal>
+    requires { (sound_tables (lent_mut t.now) ≡ true)
         × (e.kind ≡ event_returned_check)
-        × Admitted (lent header.now accounts.now journal.now) e }
-    ensures { number_by result ≡ answer_number (book_of (at_entry header.now accounts.now journal.now)) e }
+        × Admitted (lent_mut t.now) e }
+    ensures { number_by result ≡ answer_number (book_of (lent_mut t.now)) e }
 {
-    let used = get(header, USED_PLACE) as usize;
-    let r = row_numbered(journal, used, e.a);
+    let used = t.used() as usize;
+    let r = row_numbered(t.journal, used, e.a);
     if (r.kind != KIND_PAYMENT) | (r.account != e.account) {
         return Err(Refusal::NoRow);
     }
     if r.mark != METHOD_CHECK {
         return Err(Refusal::Untimely);
     }
-    if journal.len() / ROW_WIDTH < used + 2 {
+    if t.journal.len() / ROW_WIDTH < used + 2 {
         return Err(Refusal::Full);
     }
     Ok(())
@@ -87,26 +83,31 @@ fn add_naming(header: &mut [i64], journal: &mut [i64], e: Instruction, kind: u64
 
 // Event 4: the account counts the return, the payment is marked, a reversal of its amount and a fee are added; then settlement.
 pub fn return_check(
-    header: &mut [i64],
-    accounts: &mut [i64],
-    journal: &mut [i64],
+    t: &mut TablesMut,
     e: Instruction,
     x: Account,
     k: Lookup,
 ) -> Result<Posting, Refusal>
-    requires { (sound_tables (lent header.old accounts.old journal.old) ≡ true)
+    requires { (sound_tables (lent_mut t.old) ≡ true)
         × (e.kind ≡ event_returned_check)
-        × LooksUp (lent header.old accounts.old journal.old) e k
-        × Admitted (lent header.old accounts.old journal.old) e
-        × Names (lent header.old accounts.old journal.old) e x }
-    ensures { Posts (at_entry header.old accounts.old journal.old) (at_exit header.new accounts.new journal.new) e (answer_of result) }
+        × LooksUp (lent_mut t.old) e k
+        × Admitted (lent_mut t.old) e
+        × Names (lent_mut t.old) e x }
+    ensures same { SameTables t.old t.new }
+    ensures posts { Posts (lent_mut t.old) (lent_mut t.new) e (answer_of result) }
 {
-    check_return(header, accounts, journal, e)?;
-    let used = get(header, USED_PLACE);
-    count_return(accounts, e.account, x);
-    let amount = mark_returned(journal, used as usize, e.a);
-    add_naming(header, journal, e, KIND_REVERSAL, amount);
-    add_naming(header, journal, e, KIND_FEE, e.b + RETURN_FEE);
-    settle_from(journal, used as usize + 2, e.account, k.source, k.debit);
-    Ok(posted(used, 2, 0, 0))
+    check_return(t, e)?;
+    let used = t.used();
+    count_return(t.accounts, e.account, x);
+    let amount = mark_returned(t.journal, used as usize, e.a);
+    add_naming(&mut *t.header, &mut *t.journal, e, KIND_REVERSAL, amount);
+    add_naming(
+        &mut *t.header,
+        &mut *t.journal,
+        e,
+        KIND_FEE,
+        e.b + RETURN_FEE,
+    );
+    settle_from(t.journal, used as usize + 2, e.account, k.source, k.debit);
+    Ok(posted(used, 2, 0, false))
 }

@@ -40,11 +40,7 @@ use Rattle.posting_laws.proofs.EventLaws.{known-inside}
 use Rattle.records.specs.Updates.{of_kind}
 use Rattle.posting_laws.proofs.RefusalLaws.{at-kind, length-after, no-ceiling}
 use Rattle.posting_laws.proofs.AddedLaws.{acceptance-plain, posts-accepted, row_written}
-use Rattle.event_toll.specs.Toll.{toll_refusals}
-
--- the row that event 2 adds
-abbrev pub toll_row : Book → Instruction → Row
-toll_row b e = with_reference e.a (with_due (b.day + b.schedule.stage) (new_row kind_toll e.account b.day (toll_rate b.lists e)))
+use Rattle.event_toll.specs.Toll.{toll_refusals, toll_row}
 
 -- ---- the number that event 2 gets
 

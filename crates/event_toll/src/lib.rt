@@ -11,37 +11,33 @@ ghost use Rattle.event_lookups.specs.Lookups.{LooksUp};
 ghost use Rattle.posting.specs.Posts.{Posts};
 ghost use Rattle.event_refusals.specs.Admissions.{Admitted};
 ghost use Rattle.records.specs.Codes.{event_toll};
-ghost use Rattle.rules.specs.Lent.{lent, at_entry, at_exit};
+ghost use Rattle.event_toll.specs.Toll.{toll_row};
+ghost use Rattle.lent.specs.Lent.{lent_mut, SameTables};
 
 use event_lookups::Lookup;
 use event_rates::{Class, class_of, rate_of};
+use lent::TablesMut;
 use posting::answers::posted;
 use posting::rows::{add_row, new_row};
 use records::codes::KIND_TOLL;
-use records::layout::{DAY_PLACE, HEADER_SCHEDULE, ROW_WIDTH, STAGE_PLACE, USED_PLACE};
+use records::layout::{HEADER_SCHEDULE, ROW_WIDTH, STAGE_PLACE};
 use records::limits::LATEST_DAYS;
 use records::refusals::Refusal;
-use records::{Instruction, Posting};
+use records::{Instruction, Posting, Row};
 use settlement::settle_from;
 use tables::words::get;
 
 // The class of the vehicle of an admitted event 2, or why the event is refused.
-fn check_toll(
-    header: &[i64],
-    accounts: &[i64],
-    journal: &[i64],
-    e: Instruction,
-    k: Lookup,
-) -> Result<Class, Refusal>
-    requires { (sound_tables (lent header.now accounts.now journal.now) ≡ true)
+fn check_toll(t: &TablesMut, e: Instruction, k: Lookup) -> Result<Class, Refusal>
+    requires { (sound_tables (lent_mut t.now) ≡ true)
         × (e.kind ≡ event_toll)
-        × LooksUp (lent header.now accounts.now journal.now) e k
-        × Admitted (lent header.now accounts.now journal.now) e }
-    ensures number { number_by result ≡ answer_number (book_of (at_entry header.now accounts.now journal.now)) e }
+        × LooksUp (lent_mut t.now) e k
+        × Admitted (lent_mut t.now) e }
+    ensures number { number_by result ≡ answer_number (book_of (lent_mut t.now)) e }
     ensures class { IfOk result (λ k. class_number k ≡ class e.c e.d) }
 {
-    let today = get(header, DAY_PLACE);
-    let used = get(header, USED_PLACE) as usize;
+    let today = t.day();
+    let used = t.used() as usize;
     let Some(class) = class_of(e.c, e.d) else {
         return Err(Refusal::Unclassed);
     };
@@ -51,38 +47,42 @@ fn check_toll(
     if k.duplicate {
         return Err(Refusal::Duplicate);
     }
-    if journal.len() / ROW_WIDTH <= used {
+    if t.journal.len() / ROW_WIDTH <= used {
         return Err(Refusal::Full);
     }
     Ok(class)
 }
 
-// Event 2: the toll row, at the rate of its passage day, due a stage length from today; then settlement.
-pub fn post_toll(
-    header: &mut [i64],
-    accounts: &[i64],
-    journal: &mut [i64],
-    e: Instruction,
-    k: Lookup,
-) -> Result<Posting, Refusal>
-    requires { (sound_tables (lent header.old accounts.now journal.old) ≡ true)
+// The row of a toll that is not refused: at the rate of its passage day, due a stage length from today.
+fn toll_row(t: &TablesMut, e: Instruction, vehicle: Class) -> Row
+    requires { (sound_tables (lent_mut t.now) ≡ true)
         × (e.kind ≡ event_toll)
-        × LooksUp (lent header.old accounts.now journal.old) e k
-        × Admitted (lent header.old accounts.now journal.old) e }
-    ensures { Posts (at_entry header.old accounts.now journal.old) (at_exit header.new accounts.now journal.new) e (answer_of result) }
+        × (0 ≡ answer_number (book_of (lent_mut t.now)) e)
+        × (class_number vehicle ≡ class e.c e.d) }
+    ensures { result ≡ toll_row (book_of (lent_mut t.now)) e }
 {
-    let class = check_toll(header, accounts, journal, e, k)?;
-    let today = get(header, DAY_PLACE);
-    let used = get(header, USED_PLACE);
-    let mut r = new_row(
-        KIND_TOLL,
-        e.account,
-        today,
-        rate_of(header, e.b, class, e.e),
-    );
-    r.due = today + get(header, HEADER_SCHEDULE + STAGE_PLACE);
-    r.reference = e.a;
-    add_row(header, journal, r);
-    settle_from(journal, used as usize + 1, e.account, k.source, k.debit);
-    Ok(posted(used, 1, 0, 0))
+    let today = t.day();
+    let amount = rate_of(t.header, e.b, vehicle, e.e);
+    Row {
+        due: today + get(t.header, HEADER_SCHEDULE + STAGE_PLACE),
+        reference: e.a,
+        ..new_row(KIND_TOLL, e.account, today, amount)
+    }
+}
+
+// Event 2: the toll's row; then settlement.
+pub fn post_toll(t: &mut TablesMut, e: Instruction, k: Lookup) -> Result<Posting, Refusal>
+    requires { (sound_tables (lent_mut t.old) ≡ true)
+        × (e.kind ≡ event_toll)
+        × LooksUp (lent_mut t.old) e k
+        × Admitted (lent_mut t.old) e }
+    ensures same { SameTables t.old t.new }
+    ensures posts { Posts (lent_mut t.old) (lent_mut t.new) e (answer_of result) }
+{
+    let class = check_toll(t, e, k)?;
+    let used = t.used();
+    let r = toll_row(t, e, class);
+    add_row(&mut *t.header, &mut *t.journal, r);
+    settle_from(t.journal, used as usize + 1, e.account, k.source, k.debit);
+    Ok(posted(used, 1, 0, false))
 }

@@ -11,7 +11,6 @@ use Rattle.records.specs.Layout.{topup_place, declines_place, declined_place}
 use Rattle.records.specs.Encoding.{accounts_of, StorableRow, StorableAccount}
 use Rattle.records.proofs.FieldLaws.{storable-set}
 use Rattle.records.specs.AccountOperations.{topup_paid}
-use Rattle.lists.specs.Tests.{◌is◌}
 use Rattle.rules.specs.Settlement.{settle}
 use Rattle.rules.specs.Book.{Account, Instruction, Book, account, put_account, add_row, with_rows}
 use Rattle.rules.specs.Events.{pay_topup, topup_result}

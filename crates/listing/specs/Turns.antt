@@ -1,6 +1,6 @@
 -- A turn of the program: a step of the listing, or a read, or the end of the input; and what is printed after it.
-use Rattle.std.specs.Prelude.{◌≡◌, Bool, true, false, cond, ◌||◌, ℕ, ◌<◌, List, [], ◌++◌, ℤ, leb, length}
-use Rattle.rules.specs.Tables.{Tables, tables_at}
+use Rattle.std.specs.Prelude.{◌≡◌, Bool, true, false, cond, ◌||◌, ℕ, ◌<◌, List, [], ◌++◌, leb, length}
+use Rattle.rules.specs.Tables.{Tables}
 use Rattle.listing_steps.specs.declared.Phase.TheVariants as phase
 use Rattle.listing_steps.specs.declared.Place.{Place}
 use Rattle.listing_steps.specs.Steps.{waits, over, Stands, to_list, Waiting, Stepped}
@@ -18,10 +18,9 @@ pub record State : Type 0 where
   pub out : List ℕ
   pub place : Place
 
--- the same, of the three tables' words
-abbrev pub state_at : List ℤ → List ℤ → List ℤ → List ℕ → List ℕ → Place → State
-state_at header accounts journal input out p =
-    record { tables = tables_at header accounts journal; input = input; out = out; place = p }
+-- the same, part by part
+abbrev pub state_at : Tables → List ℕ → List ℕ → Place → State
+state_at t input out p = record { tables = t; input = input; out = out; place = p }
 
 -- no line is taken
 abbrev pub start_place : Place

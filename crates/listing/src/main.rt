@@ -8,9 +8,10 @@ ghost use Rattle.listing_lines.specs.Lines.{Sized};
 ghost use Rattle.listing_steps.specs.Steps.{waits};
 ghost use Rattle.listing.specs.Turns.{state_at, Standing, Reads, Turned, due, unprinted};
 ghost use Rattle.listing.specs.Runs.{Ran};
-ghost use Rattle.rules.specs.Lent.{lent, at_exit};
+ghost use Rattle.lent.specs.Lent.{lent_mut, SameTables};
 
 use decimal::Text;
+use lent::TablesMut;
 use listing_input::Input;
 use listing_steps::{Phase, Place, take_next, write_rest};
 use records::layout::{ACCOUNT_WIDTH, HEADER_WIDTH, ROW_WIDTH};
@@ -66,22 +67,21 @@ fn print_due(rt: &HostRuntime, p: Place, out: &mut Text) -> io::Result<()>
 // No whole line is left: reads more of the input. Where none comes the input has ended, and the bytes that wait are its last line.
 fn read_on(
     rt: &HostRuntime,
-    header: &mut [i64],
-    accounts: &mut [i64],
-    journal: &mut [i64],
+    t: &mut TablesMut,
     input: &mut Input,
     p: Place,
     out: &mut Text,
 ) -> Place
-    requires { Standing (state_at header.old accounts.old journal.old input.old out.old p)
+    requires { Standing (state_at (lent_mut t.old) input.old out.old p)
         × (waits p ≡ true) }
-    ensures { Reads
-        (state_at header.old accounts.old journal.old input.old out.old p)
-        (state_at header.new accounts.new journal.new input.new out.new result) }
+    ensures same { SameTables t.old t.new }
+    ensures reads { Reads
+        (state_at (lent_mut t.old) input.old out.old p)
+        (state_at (lent_mut t.new) input.new out.new result) }
 {
     let more = input.read_more(rt);
     if more == 0 {
-        write_rest(header, accounts, journal, input.as_bytes(), p.lines, out);
+        write_rest(t, input.as_bytes(), p.lines, out);
         return Place {
             lines: p.lines,
             phase: Phase::Over,
@@ -94,23 +94,16 @@ fn read_on(
 }
 
 // One line, or more input where it waits for it.
-fn turn(
-    rt: &HostRuntime,
-    header: &mut [i64],
-    accounts: &mut [i64],
-    journal: &mut [i64],
-    input: &mut Input,
-    p: Place,
-    out: &mut Text,
-) -> Place
-    requires { Standing (state_at header.old accounts.old journal.old input.old out.old p) }
-    ensures { Turned
-        (state_at header.old accounts.old journal.old input.old out.old p)
-        (state_at header.new accounts.new journal.new input.new out.new result) }
+fn turn(rt: &HostRuntime, t: &mut TablesMut, input: &mut Input, p: Place, out: &mut Text) -> Place
+    requires { Standing (state_at (lent_mut t.old) input.old out.old p) }
+    ensures same { SameTables t.old t.new }
+    ensures turned { Turned
+        (state_at (lent_mut t.old) input.old out.old p)
+        (state_at (lent_mut t.new) input.new out.new result) }
 {
     match p.phase {
-        Phase::Waiting => read_on(rt, header, accounts, journal, input, p, out),
-        _ => take_next(header, accounts, journal, input, p, out),
+        Phase::Waiting => read_on(rt, t, input, p, out),
+        _ => take_next(t, input, p, out),
     }
 }
 
@@ -118,18 +111,12 @@ fn turn(
 
 // Lists standard input, and returns why it ends. An input of fewer bytes than a third of MOST_TURNS does not use the turns up
 // (RunLaws.ran-long).
-fn run(
-    rt: &HostRuntime,
-    header: &mut [i64],
-    accounts: &mut [i64],
-    journal: &mut [i64],
-    input: &mut Input,
-    out: &mut Text,
-) -> Ending
-    requires { Sized (lent header.old accounts.old journal.old)
+fn run(rt: &HostRuntime, t: &mut TablesMut, input: &mut Input, out: &mut Text) -> Ending
+    requires { Sized (lent_mut t.old)
         × (input.old ≡ []) × (out.old ≡ []) }
-    ensures { Ran
-        (at_exit header.new accounts.new journal.new)
+    ensures same { SameTables t.old t.new }
+    ensures ran { Ran
+        (lent_mut t.new)
         input.new out.new result }
 {
     let mut p = Place {
@@ -137,7 +124,7 @@ fn run(
         phase: Phase::Waiting,
     };
     for taken in 0..MOST_TURNS {
-        p = turn(rt, header, accounts, journal, input, p, out);
+        p = turn(rt, t, input, p, out);
         if print_due(rt, p, out).is_err() {
             return Ending::Unprinted;
         }
@@ -154,12 +141,10 @@ fn main(rt: HostRuntime) {
     let mut journal = [0i64; LISTED_ROWS * ROW_WIDTH];
     let mut input = Input::new();
     let mut out = Text::new();
-    run(
-        &rt,
-        &mut header,
-        &mut accounts,
-        &mut journal,
-        &mut input,
-        &mut out,
-    );
+    let mut t = TablesMut {
+        header: &mut header,
+        accounts: &mut accounts,
+        journal: &mut journal,
+    };
+    run(&rt, &mut t, &mut input, &mut out);
 }

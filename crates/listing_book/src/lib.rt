@@ -15,17 +15,18 @@ ghost use Rattle.posting.specs.Posts.{Amounts};
 ghost use Rattle.listing_rules.specs.Texts.{field, line, row_text, account_text, book_text};
 ghost use Rattle.listing_rules.specs.Sizes.{most_row_bytes, most_day_bytes, most_account_bytes, book_names_bytes, most_field_bytes};
 ghost use Rattle.listing_book.specs.Listed.{Dated};
-ghost use Rattle.rules.specs.Lent.{lent, at_entry};
+ghost use Rattle.lent.specs.Lent.{lent_mut};
 
 use balances::sums_of;
 use decimal::Text;
+use lent::TablesMut;
 use listing_text::write_field;
 use records::codes::STATE_UNUSED;
-use records::layout::{ACCOUNT_WIDTH, USED_PLACE};
+use records::layout::ACCOUNT_WIDTH;
 use records::{Account, Row};
 use table_accounts::read_account;
 use table_rows::read_row;
-use tables::words::{get, minus};
+use tables::words::minus;
 
 // ---- rows
 
@@ -109,16 +110,22 @@ fn write_accounts(out: &mut Text, accounts: &[i64], count: usize, journal: &[i64
 // ---- the book
 
 // Writes the rows and the used accounts of a sound book, each part with its names before it.
-pub fn write_book(header: &[i64], accounts: &[i64], journal: &[i64], out: &mut Text)
-    requires sound { sound_tables (lent header.now accounts.now journal.now) ≡ true }
+pub fn write_book(t: &TablesMut, out: &mut Text)
+    requires sound { sound_tables (lent_mut t.now) ≡ true }
     requires room { length out.old + book_names_bytes
-        + rows_used (lent header.now accounts.now journal.now) * most_row_bytes
-        + accounts_in (lent header.now accounts.now journal.now) * most_account_bytes ≤ text_bytes }
-    ensures { out.new ≡ out.old ++ book_text (book_of (at_entry header.now accounts.now journal.now)) }
+        + rows_used (lent_mut t.now) * most_row_bytes
+        + accounts_in (lent_mut t.now) * most_account_bytes ≤ text_bytes }
+    ensures { out.new ≡ out.old ++ book_text (book_of (lent_mut t.now)) }
 {
-    let used = get(header, USED_PLACE) as usize;
+    let used = t.used() as usize;
     out.extend_from_slice(b"row,account,kind,date,amount,settled\n");
-    write_rows(out, journal, used);
+    write_rows(out, t.journal, used);
     out.extend_from_slice(b"account,state,balance\n");
-    write_accounts(out, accounts, accounts.len() / ACCOUNT_WIDTH, journal, used);
+    write_accounts(
+        out,
+        t.accounts,
+        t.accounts.len() / ACCOUNT_WIDTH,
+        t.journal,
+        used,
+    );
 }

@@ -13,6 +13,8 @@ use std::marker::Model;
 const INPUT_BYTES: usize = 65536;
 
 // The input, which clauses see as the bytes that are read and not yet taken.
+// Kept: a fixed buffer as `decimal::Text` is, since there is no heap; bytes are taken from its front, and a text only grows: they
+// share `new` and `as_bytes`, of a line each.
 #[derive(Drop)]
 pub struct Input {
     bytes: [u8; INPUT_BYTES],

@@ -6,12 +6,13 @@ ghost use Rattle.decimal.specs.Bytes.{text_bytes};
 ghost use Rattle.listing_rules.specs.Listing.{most_lines, is_good};
 ghost use Rattle.listing_rules.specs.Sizes.{most_answer_bytes};
 ghost use Rattle.listing_lines.specs.Lines.{answer_names, Ready, Judged, Carried, Taken};
-ghost use Rattle.rules.specs.Lent.{lent, at_entry, at_exit};
+ghost use Rattle.lent.specs.Lent.{lent_mut, SameTables};
 
 use call_opening::open_book;
 use call_words::read_event;
 use decimal::{Text, read_numbers};
 use events::post_event;
+use lent::TablesMut;
 use listing_text::{write_answer, write_bad_line};
 use records::Answer;
 use records::layout::{EVENT_WIDTH, OPENING_WIDTH};
@@ -37,20 +38,16 @@ fn first_line(line: &[u8]) -> Result<(), BadLine>
 }
 
 // Line 2: the opening's values.
-fn second_line(
-    header: &mut [i64],
-    accounts: &mut [i64],
-    journal: &mut [i64],
-    line: &[u8],
-) -> Result<(), BadLine>
-    requires { Ready 1 (lent header.old accounts.old journal.old) }
-    ensures { Judged 1
-        (at_entry header.old accounts.old journal.old)
-        (at_exit header.new accounts.new journal.new)
+fn second_line(t: &mut TablesMut, line: &[u8]) -> Result<(), BadLine>
+    requires { Ready 1 (lent_mut t.old) }
+    ensures same { SameTables t.old t.new }
+    ensures judged { Judged 1
+        (lent_mut t.old)
+        (lent_mut t.new)
         line.now result }
 {
     let values = read_numbers::<OPENING_WIDTH>(line).ok_or(BadLine)?;
-    if open_book(header, accounts, journal, &values).is_err() {
+    if open_book(t, &values).is_err() {
         return Err(BadLine);
     }
     Ok(())
@@ -71,68 +68,51 @@ fn third_line(line: &[u8], out: &mut Text) -> Result<(), BadLine>
 }
 
 // An event line, n lines before it: posted, its answer printed.
-fn event_line(
-    header: &mut [i64],
-    accounts: &mut [i64],
-    journal: &mut [i64],
-    line: &[u8],
-    n: u64,
-    out: &mut Text,
-) -> Result<(), BadLine>
+fn event_line(t: &mut TablesMut, line: &[u8], n: u64, out: &mut Text) -> Result<(), BadLine>
     requires { (length out.old + most_answer_bytes ≤ text_bytes) × (3 ≤ n) × (n < most_lines)
-        × Ready n (lent header.old accounts.old journal.old) }
-    ensures { Carried n
-        (at_entry header.old accounts.old journal.old)
-        (at_exit header.new accounts.new journal.new)
+        × Ready n (lent_mut t.old) }
+    ensures same { SameTables t.old t.new }
+    ensures carried { Carried n
+        (lent_mut t.old)
+        (lent_mut t.new)
         line.now out.old out.new result }
 {
     let values = read_numbers::<EVENT_WIDTH>(line).ok_or(BadLine)?;
-    let outcome = post_event(header, accounts, journal, read_event(&values));
+    let outcome = post_event(t, read_event(&values));
     write_answer(out, n - 2, Answer::from(outcome));
     Ok(())
 }
 
 // Any line, n lines before it. Nothing is printed for a bad one.
-fn carry_out(
-    header: &mut [i64],
-    accounts: &mut [i64],
-    journal: &mut [i64],
-    line: &[u8],
-    n: u64,
-    out: &mut Text,
-) -> Result<(), BadLine>
+fn carry_out(t: &mut TablesMut, line: &[u8], n: u64, out: &mut Text) -> Result<(), BadLine>
     requires { (length out.old + most_answer_bytes ≤ text_bytes) × (n < most_lines)
-        × Ready n (lent header.old accounts.old journal.old) }
-    ensures { Carried n
-        (at_entry header.old accounts.old journal.old)
-        (at_exit header.new accounts.new journal.new)
+        × Ready n (lent_mut t.old) }
+    ensures same { SameTables t.old t.new }
+    ensures carried { Carried n
+        (lent_mut t.old)
+        (lent_mut t.new)
         line.now out.old out.new result }
 {
+    // Kept: a switch over the lines, whose functions take different parameters.
     match n {
         0 => first_line(line),
-        1 => second_line(header, accounts, journal, line),
+        1 => second_line(t, line),
         2 => third_line(line, out),
-        _ => event_line(header, accounts, journal, line, n, out),
+        _ => event_line(t, line, n, out),
     }
 }
 
 // Any line, n lines before it.
-pub fn take_line(
-    header: &mut [i64],
-    accounts: &mut [i64],
-    journal: &mut [i64],
-    line: &[u8],
-    n: u64,
-    out: &mut Text,
-) -> Result<(), BadLine>
+pub fn take_line(t: &mut TablesMut, line: &[u8], n: u64, out: &mut Text) -> Result<(), BadLine>
     requires { (length out.old + most_answer_bytes ≤ text_bytes) × (n < most_lines)
-        × Ready n (lent header.old accounts.old journal.old) }
-    ensures { Taken n
-        (at_entry header.old accounts.old journal.old)
-        (at_exit header.new accounts.new journal.new)
+        × Ready n (lent_mut t.old) }
+    ensures same { SameTables t.old t.new }
+    ensures taken { Taken n
+        (lent_mut t.old)
+        (lent_mut t.new)
         line.now out.old out.new result }
 {
-    let taken = carry_out(header, accounts, journal, line, n, out);
+    let taken = carry_out(t, line, n, out);
     if taken.is_err() {
         write_bad_line(out, n + 1);
     }

@@ -9,9 +9,10 @@ ghost use Rattle.listing_rules.specs.Listing.{most_lines, listed};
 ghost use Rattle.listing_rules.specs.Sizes.{most_answer_bytes, most_book_bytes, most_end_bytes};
 ghost use Rattle.listing_lines.specs.Lines.{Ready};
 ghost use Rattle.listing_steps.specs.Steps.{Stands, Awaits, Stepped};
-ghost use Rattle.rules.specs.Lent.{lent, at_entry, at_exit};
+ghost use Rattle.lent.specs.Lent.{lent_mut, SameTables};
 
 use decimal::Text;
+use lent::TablesMut;
 use listing_book::write_book;
 use listing_input::Input;
 use listing_lines::take_line;
@@ -58,25 +59,19 @@ fn unended_line(input: &Input, lines: u64, out: &mut Text) -> Place
 }
 
 // Takes the next line, where it is whole.
-pub fn take_next(
-    header: &mut [i64],
-    accounts: &mut [i64],
-    journal: &mut [i64],
-    input: &mut Input,
-    p: Place,
-    out: &mut Text,
-) -> Place
-    requires { Stands (lent header.old accounts.old journal.old) out.old p }
-    ensures { Stepped
-        (at_entry header.old accounts.old journal.old)
-        (at_exit header.new accounts.new journal.new)
+pub fn take_next(t: &mut TablesMut, input: &mut Input, p: Place, out: &mut Text) -> Place
+    requires { Stands (lent_mut t.old) out.old p }
+    ensures same { SameTables t.old t.new }
+    ensures stepped { Stepped
+        (lent_mut t.old)
+        (lent_mut t.new)
         input.old input.new out.old out.new p result }
 {
     let Some(stop) = input.line_end() else {
         return unended_line(input, p.lines, out);
     };
     let line = &input.as_bytes()[..stop];
-    let taken = take_line(header, accounts, journal, line, p.lines, out);
+    let taken = take_line(t, line, p.lines, out);
     input.skip(stop + 1);
     Place {
         lines: p.lines + 1,
@@ -89,35 +84,29 @@ pub fn take_next(
 }
 
 // Every line is taken: prints what the end of the input brings.
-fn write_end(header: &[i64], accounts: &[i64], journal: &[i64], lines: u64, out: &mut Text)
-    requires { Ready lines (lent header.now accounts.now journal.now) × (length out.old + most_book_bytes ≤ text_bytes) }
-    ensures { out.new ≡ out.old ++ listed lines (book_of (at_entry header.now accounts.now journal.now)) [] }
+fn write_end(t: &TablesMut, lines: u64, out: &mut Text)
+    requires { Ready lines (lent_mut t.now) × (length out.old + most_book_bytes ≤ text_bytes) }
+    ensures { out.new ≡ out.old ++ listed lines (book_of (lent_mut t.now)) [] }
 {
     if lines < FIRST_LINES {
         write_bad_line(out, lines + 1);
     } else {
-        write_book(header, accounts, journal, out);
+        write_book(t, out);
     }
 }
 
 // The input is over: takes the bytes that are left, without a line feed, as its last line, and prints what comes after it.
-pub fn write_rest(
-    header: &mut [i64],
-    accounts: &mut [i64],
-    journal: &mut [i64],
-    rest: &[u8],
-    lines: u64,
-    out: &mut Text,
-)
-    requires { Ready lines (lent header.old accounts.old journal.old)
+pub fn write_rest(t: &mut TablesMut, rest: &[u8], lines: u64, out: &mut Text)
+    requires { Ready lines (lent_mut t.old)
         × (index_of 10 rest.now ≡ length rest.now) × (length out.old + most_end_bytes ≤ text_bytes) × (lines < most_lines) }
-    ensures { out.new ≡ out.old ++ listed lines (book_of (at_entry header.old accounts.old journal.old)) (lines_of rest.now) }
+    ensures same { SameTables t.old t.new }
+    ensures text { out.new ≡ out.old ++ listed lines (book_of (lent_mut t.old)) (lines_of rest.now) }
 {
     if rest.is_empty() {
-        write_end(header, accounts, journal, lines, out);
+        write_end(t, lines, out);
         return;
     }
-    if take_line(header, accounts, journal, rest, lines, out).is_ok() {
-        write_end(header, accounts, journal, lines + 1, out);
+    if take_line(t, rest, lines, out).is_ok() {
+        write_end(t, lines + 1, out);
     }
 }

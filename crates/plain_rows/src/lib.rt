@@ -4,43 +4,20 @@
 
 pub mod accounts; // accounts.rt: an account's words
 
-ghost use Rattle.std.specs.Prelude.{◌≡◌, ◌*◌, ◌^◌, ◌<◌, length};
-ghost use Rattle.records.specs.Layout.{row_width};
+ghost use Rattle.std.specs.Prelude.{◌≡◌, ◌^◌, ◌<◌, length};
 ghost use Rattle.records.specs.Encoding.{nat_of, word, row_at};
 ghost use Rattle.tables.specs.Changes.{RowIn};
-ghost use Rattle.plain_rows.specs.Alike.{Alike, AlikeRow, RowBy};
+ghost use Rattle.plain_rows.specs.Alike.{Alike, AlikeRow};
 
 use records::Row;
-use records::layout::{
-    ACCOUNT_PLACE, AMOUNT_PLACE, DISPUTE_PLACE, DUE_PLACE, HOLD_PLACE, KIND_PLACE, MARK_PLACE,
-    REFERENCE_PLACE, ROW_DAY_PLACE, ROW_WIDTH, SETTLED_PLACE,
-};
+use records::layout::{ACCOUNT_PLACE, AMOUNT_PLACE, ROW_WIDTH, SETTLED_PLACE};
+use table_rows::row_by;
 
 // A word's bits as a number: from 2^63 on where it is negative. The same bits, so nothing is computed.
 fn bits(x: i64) -> u64
     ensures { Alike result (nat_of x) }
 {
     x.cast_unsigned()
-}
-
-// Row i, counted from 0, each word by `read`.
-pub fn row_by<F: Fn(i64) -> u64>(journal: &[i64], i: usize, read: F) -> Row
-    requires { RowIn journal.now i × F.IsAlwaysCallable read }
-    ensures { RowBy (F.post read) journal.now (i * row_width) result }
-{
-    let p = i * ROW_WIDTH;
-    Row {
-        kind: read(journal[p + KIND_PLACE]),
-        account: read(journal[p + ACCOUNT_PLACE]),
-        day: read(journal[p + ROW_DAY_PLACE]),
-        amount: read(journal[p + AMOUNT_PLACE]),
-        settled: read(journal[p + SETTLED_PLACE]),
-        mark: read(journal[p + MARK_PLACE]),
-        due: read(journal[p + DUE_PLACE]),
-        dispute: read(journal[p + DISPUTE_PLACE]),
-        hold: read(journal[p + HOLD_PLACE]),
-        reference: read(journal[p + REFERENCE_PLACE]),
-    }
 }
 
 // Row i, with its words as they are.
@@ -60,6 +37,7 @@ fn get_small(t: &[i64], i: usize) -> u64
 }
 
 // One word of row i, where it is known to be small.
+// Kept: three functions of one line over `get_small`, as `table_rows` has five over `get`: each names the word at a call.
 pub fn small_account(journal: &[i64], i: usize) -> u64
     requires { RowIn journal.now i × ((row_at journal.now i).account < 2 ^ 63) }
     ensures { result ≡ (row_at journal.now i).account }

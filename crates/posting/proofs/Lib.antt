@@ -1,1 +1,2 @@
 pub mod BookLaws
+pub mod MeasureLaws

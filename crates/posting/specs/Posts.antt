@@ -1,5 +1,6 @@
 -- What posting an event leaves of the tables and answers.
 use Rattle.std.specs.Prelude.{ℕ, ◌+◌, ◌*◌, ◌≤◌, ◌<◌, ◌≡◌, cond, List, ℤ, pos, length, set}
+use Rattle.std.specs.Fn.{Shared}
 use Rattle.records.specs.Layout.{header_width, used_place, row_width}
 use Rattle.records.specs.Encoding.{word, row_at}
 use Rattle.lists.specs.Tests.{◌is◌}
@@ -16,6 +17,12 @@ pub record Amounts (t : List ℤ) (used : ℕ) : Type 0 where
   pub room : used * row_width ≤ length t
   pub few : used ≤ most_rows
   pub small : (k : ℕ) → k < used → (row_at t k).amount ≤ highest_refund
+
+-- code measures a row by f, which is at most the row's amount
+pub record Measures {F : Type 0} (g : Shared F (Row × Unit {0}) ℕ) (part : F) (f : Row → ℕ) : Type 0 where
+  pub takes : (r : Row) → g.pre part (r, tt)
+  pub gives : (r : Row) (x : ℕ) → g.post part (r, tt) x → x ≡ f r
+  pub within : (r : Row) → f r ≤ r.amount
 
 -- the answer of an accepted event: `used` rows before it, `added` by it
 abbrev pub acceptance_of : ℕ → ℕ → ℕ → ℕ → Answer

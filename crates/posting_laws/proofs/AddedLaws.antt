@@ -14,12 +14,11 @@ use Rattle.records.specs.Outcomes.{number_of, answer_of}
 use Rattle.records.proofs.OutcomeLaws.{number_of-not_0}
 use Rattle.records.specs.Layout.{day_place, used_place}
 use Rattle.records.specs.Encoding.{word, row_at, rows_of, accounts_of}
-use Rattle.lists.specs.Tests.{◌is◌}
 use Rattle.rules.specs.Rows.{Row}
 use Rattle.rules.specs.Settlement.{settle}
 use Rattle.rules.specs.Book.{Account, Instruction, Answer, Book}
 use Rattle.rules.specs.Refusals.{whole_book, after, answer_number}
-use Rattle.rules.specs.Posting.{new_rows, removes_topup, acceptance, refusal_by}
+use Rattle.rules.specs.Posting.{new_rows, removes_topup, acceptance}
 use Rattle.rules.specs.Tables.{Tables, accounts_in, room_in, rows_used, book_of, tables_of, sound_tables}
 use Rattle.rules.proofs.PostingLaws.{post-refused, post-accepted}
 use Rattle.rules.proofs.SettlementLaws.{length-settle}

@@ -4,10 +4,9 @@ use Prim.Native.Nat.{ℕ, ◌+◌, ◌*◌, ◌≤◌}
 use native.Mathlib.Omega.{arith}
 use mathlib.Core.List.{List, ◌∷◌}
 use lib.IntN.{ℤ}
-use Rattle.lists.specs.Lists.{tabulate, count}
+use Rattle.lists.specs.Lists.{count}
 use Rattle.lists.proofs.ListLaws.{tabulate-same}
 use Rattle.records.specs.Layout.{header_schedule, header_lists, header_rates, header_first_day, later_lists, list_width}
-use Rattle.records.specs.Encoding.{word}
 use Rattle.rules.specs.RateLists.{RateList}
 use Rattle.rules.specs.Tables.{schedule_from, rates_from, first_list_in, list_from, later_list_at, lists_used, lists_in}
 use Rattle.posting.specs.Written.{Fixed}

@@ -73,13 +73,13 @@ pub struct Instruction {
     pub g: u64,
 }
 
-// What an accepted event did: the first new row (0 if none), how many, how many tolls rose, 1 if the top-up was removed.
+// What an accepted event did: the first new row (0 if none), how many, how many tolls rose, whether the top-up was removed.
 #[derive(Clone, Copy)]
 pub struct Posting {
     pub first: u64,
     pub added: u64,
     pub raised: u64,
-    pub removed: u64,
+    pub removed: bool,
 }
 
 // The five words of the answer to an event.

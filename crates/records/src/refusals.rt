@@ -44,7 +44,7 @@ impl From<Result<Posting, Refusal>> for Answer {
                 first: p.first,
                 added: p.added,
                 raised: p.raised,
-                removed: p.removed,
+                removed: u64::from(p.removed),
             },
             Err(refusal) => Answer {
                 number: refusal.number(),

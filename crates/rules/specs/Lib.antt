@@ -12,6 +12,5 @@ pub mod Posting
 pub mod Opening
 pub mod Soundness
 pub mod Tables
-pub mod Lent
 pub mod Calls
 pub mod SoundFacts

@@ -79,6 +79,7 @@ pub fn settle_from(journal: &mut [i64], used: usize, account: u64, source: usize
     let mut j = debit;
     'sources: for i in source..used {
         let mut x = unused(journal, i, account);
+        // Kept: it goes by the money that is left of the source, and counts no index.
         while 0 < x {
             j = next_debit(journal, used, j, account);
             if used <= j {

@@ -7,9 +7,10 @@ ghost use Rattle.rules.specs.Opening.{day_fits, sizes_fit};
 ghost use Rattle.rules.specs.Schedule.{rates_fit, schedule_fits};
 ghost use Rattle.rules.specs.Tables.{schedule_from, rates_from, lengths_fit};
 ghost use Rattle.sound_header.specs.Clauses.{ScheduleIn, RatesIn};
-ghost use Rattle.rules.specs.Lent.{at_entry};
+ghost use Rattle.lent.specs.Lent.{lent};
 
 use super::tests::between;
+use lent::Tables;
 use records::layout::{
     ACCOUNT_WIDTH, FEE2_PLACE, FEE3_PLACE, FEE4_PLACE, HEADER_WIDTH, PLATE1_PLACE, PLATE2_PLACE,
     PLATE3_PLACE, ROW_WIDTH, STAGE_PLACE, TAG1_PLACE, TAG2_PLACE, TAG3_PLACE,
@@ -32,13 +33,17 @@ pub fn sizes_fit(count: usize, room: usize) -> bool
 }
 
 // "The lengths are exactly those above": no word over, and neither too few nor too many records.
-pub fn lengths_fit(header: &[i64], accounts: &[i64], journal: &[i64]) -> bool
-    ensures { result ≡ lengths_fit (at_entry header.now accounts.now journal.now) }
+pub fn lengths_fit(t: Tables) -> bool
+    ensures { result ≡ lengths_fit (lent t.entry) }
 {
-    let whole = (header.len() == HEADER_WIDTH)
-        & (accounts.len() % ACCOUNT_WIDTH == 0)
-        & (journal.len() % ROW_WIDTH == 0);
-    whole & sizes_fit(accounts.len() / ACCOUNT_WIDTH, journal.len() / ROW_WIDTH)
+    let whole = (t.header.len() == HEADER_WIDTH)
+        & (t.accounts.len() % ACCOUNT_WIDTH == 0)
+        & (t.journal.len() % ROW_WIDTH == 0);
+    whole
+        & sizes_fit(
+            t.accounts.len() / ACCOUNT_WIDTH,
+            t.journal.len() / ROW_WIDTH,
+        )
 }
 
 fn rate_fits(t: &[i64], i: usize) -> bool

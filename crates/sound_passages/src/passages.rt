@@ -13,6 +13,7 @@ use table_rows::{kind_at, reference_at};
 pub const ROW_CELLS: usize = 4;
 
 // For the most rows of a journal: 64 KiB of a caller's stack.
+// Kept: trees in an array, since the ledger takes no memory from a heap.
 pub const CELLS: usize = MOST_ROWS * ROW_CELLS;
 
 // A passage number's bits spread by an odd multiplier: the first of 32 choose the tree, the others the way down.
@@ -31,6 +32,7 @@ pub fn cell_for(journal: &[i64], cells: &[u16], space: usize, n: usize, x: u64) 
     // A product chooses the root: a division by a number that is no constant would be slow.
     let mut c = y * space / 2147483648;
     let mut s = usize::from(cells[c]);
+    // Kept: it goes down a tree, and counts no index.
     while s != 0 {
         if reference_at(journal, s - 1) == x {
             return None;

@@ -27,6 +27,7 @@ fn kind_fits(r: Row) -> bool
 fn most_of(kind: u64) -> u64
     ensures { result ≡ most_of kind }
 {
+    // Kept: a switch over the kinds, a number each, as the rules have it.
     match kind {
         KIND_TOLL => HIGHEST_RATE,
         KIND_FEE => HIGHEST_FEE,

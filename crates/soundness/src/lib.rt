@@ -6,9 +6,10 @@ ghost use Rattle.std.specs.Prelude.{◌≡◌, ◌+◌, ◌*◌, ◌≤◌, ◌<
 ghost use Rattle.records.specs.Limits.{most_rows};
 ghost use Rattle.rules.specs.Tables.{sound_tables};
 ghost use Rattle.soundness.specs.Book.{Stands};
-ghost use Rattle.rules.specs.Lent.{at_entry};
+ghost use Rattle.lent.specs.Lent.{lent};
 
 use account_sums::{SLOTS, Sums};
+use lent::Tables;
 use records::layout::{
     ACCOUNT_WIDTH, DAY_PLACE, HEADER_SCHEDULE, ROW_WIDTH, STAGE_PLACE, USED_PLACE,
 };
@@ -69,37 +70,37 @@ fn book_passes(f: &Frame) -> bool
 
 // Whether the tables are sound. It takes 92 KiB of the stack, 64 for passage numbers, 16 for fees and 12 for sums; of at most FEW_ROWS rows
 // only 22 are cleared.
-pub fn sound(header: &[i64], accounts: &[i64], journal: &[i64]) -> bool
-    ensures { result ≡ sound_tables (at_entry header.now accounts.now journal.now) }
+pub fn sound(t: Tables) -> bool
+    ensures { result ≡ sound_tables (lent t.entry) }
 {
-    if !lengths_fit(header, accounts, journal) {
+    if !lengths_fit(t) {
         return false;
     }
-    let today = get(header, DAY_PLACE);
+    let today = get(t.header, DAY_PLACE);
     if !day_fits(today) {
         return false;
     }
-    if !schedule_fits(header, HEADER_SCHEDULE) {
+    if !schedule_fits(t.header, HEADER_SCHEDULE) {
         return false;
     }
-    if !lists_stand(header) {
+    if !lists_stand(t.header) {
         return false;
     }
-    let used = get(header, USED_PLACE);
-    let room = journal.len() / ROW_WIDTH;
+    let used = get(t.header, USED_PLACE);
+    let room = t.journal.len() / ROW_WIDTH;
     if used > room as u64 {
         return false;
     }
-    if !later_rows_zero(journal, used as usize, room) {
+    if !later_rows_zero(t.journal, used as usize, room) {
         return false;
     }
     let f = Frame {
-        accounts,
-        journal,
-        count: accounts.len() / ACCOUNT_WIDTH,
+        accounts: t.accounts,
+        journal: t.journal,
+        count: t.accounts.len() / ACCOUNT_WIDTH,
         used: used as usize,
         today,
-        stage: get(header, HEADER_SCHEDULE + STAGE_PLACE),
+        stage: get(t.header, HEADER_SCHEDULE + STAGE_PLACE),
     };
     book_passes(&f)
 }

@@ -6,33 +6,43 @@ ghost use Rattle.records.specs.Layout.{account_width};
 ghost use Rattle.records.specs.Encoding.{account_at, accounts_of, account_words, StorableAccount};
 ghost use Rattle.rules.specs.Book.{unused, account_no};
 ghost use Rattle.tables.specs.Changes.{AccountIn, put_all, AccountChanged};
+ghost use Rattle.table_accounts.specs.Reads.{AccountBy};
 
 use records::Account;
 use records::layout::{
     ACCOUNT_WIDTH, DECLINED_PLACE, DECLINES_PLACE, REQUEST_PLACE, RETURNED_PLACE, STATE_PLACE,
     THRESHOLD_PLACE, TOPUP_PLACE,
 };
-use tables::words::{get, put};
+use records::words::natural;
+use tables::words::put;
+
+// Account i, counted from 0, each word by `read`.
+pub fn account_by<F: Fn(i64) -> u64>(accounts: &[i64], i: usize, read: F) -> Account
+    requires { AccountIn accounts.now i × F.IsAlwaysCallable read }
+    ensures { AccountBy (F.post read) accounts.now (i * account_width) result }
+{
+    let p = i * ACCOUNT_WIDTH;
+    Account {
+        state: read(accounts[p + STATE_PLACE]),
+        request: read(accounts[p + REQUEST_PLACE]),
+        returned: read(accounts[p + RETURNED_PLACE]),
+        threshold: read(accounts[p + THRESHOLD_PLACE]),
+        topup: read(accounts[p + TOPUP_PLACE]),
+        declines: read(accounts[p + DECLINES_PLACE]),
+        declined: read(accounts[p + DECLINED_PLACE]),
+    }
+}
 
 // Account i, counted from 0.
 pub fn read_account(accounts: &[i64], i: usize) -> Account
     requires { AccountIn accounts.now i }
     ensures { result ≡ account_at accounts.now i }
 {
-    let p = i * ACCOUNT_WIDTH;
-    Account {
-        state: get(accounts, p + STATE_PLACE),
-        request: get(accounts, p + REQUEST_PLACE),
-        returned: get(accounts, p + RETURNED_PLACE),
-        threshold: get(accounts, p + THRESHOLD_PLACE),
-        topup: get(accounts, p + TOPUP_PLACE),
-        declines: get(accounts, p + DECLINES_PLACE),
-        declined: get(accounts, p + DECLINED_PLACE),
-    }
+    account_by(accounts, i, natural)
 }
 
 // Account number n of the table's, counted from 1; unused where there is none.
-// Kept: the definitions' account is total too (Book.account_no), and what is asked of one is whether it is used.
+// Kept: the definitions' account is total too (Book.account_no): where there is none it is an unused one.
 pub fn account_numbered(accounts: &[i64], count: usize, n: u64) -> Account
     requires { count * account_width ≤ length accounts.now }
     ensures { result ≡ account_no (accounts_of accounts.now count) n }
@@ -47,6 +57,7 @@ pub fn account_numbered(accounts: &[i64], count: usize, n: u64) -> Account
 }
 
 // The first four words of an account, from place p on; the last three follow.
+// Kept: two halves of one list of stores, not two of a kind.
 fn put_first_words(accounts: &mut [i64], p: usize, x: Account)
     requires { (p + account_width ≤ length accounts.old) × StorableAccount x }
     ensures { accounts.new ≡ put_all accounts.old p 0 (take 4 (account_words x)) }

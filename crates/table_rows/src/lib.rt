@@ -6,32 +6,42 @@ ghost use Rattle.records.specs.Layout.{row_width};
 ghost use Rattle.records.specs.Encoding.{row_at, rows_of, row_words, StorableRow};
 ghost use Rattle.rules.specs.Rows.{blank, with_settled, row_no};
 ghost use Rattle.tables.specs.Changes.{RowIn, put_all, RowChanged};
+ghost use Rattle.table_rows.specs.Reads.{RowBy};
 
 use records::Row;
 use records::layout::{
     ACCOUNT_PLACE, AMOUNT_PLACE, DISPUTE_PLACE, DUE_PLACE, HOLD_PLACE, KIND_PLACE, MARK_PLACE,
     REFERENCE_PLACE, ROW_DAY_PLACE, ROW_WIDTH, SETTLED_PLACE,
 };
+use records::words::natural;
 use tables::words::{get, put};
+
+// Row i, counted from 0, each word by `read`.
+pub fn row_by<F: Fn(i64) -> u64>(journal: &[i64], i: usize, read: F) -> Row
+    requires { RowIn journal.now i × F.IsAlwaysCallable read }
+    ensures { RowBy (F.post read) journal.now (i * row_width) result }
+{
+    let p = i * ROW_WIDTH;
+    Row {
+        kind: read(journal[p + KIND_PLACE]),
+        account: read(journal[p + ACCOUNT_PLACE]),
+        day: read(journal[p + ROW_DAY_PLACE]),
+        amount: read(journal[p + AMOUNT_PLACE]),
+        settled: read(journal[p + SETTLED_PLACE]),
+        mark: read(journal[p + MARK_PLACE]),
+        due: read(journal[p + DUE_PLACE]),
+        dispute: read(journal[p + DISPUTE_PLACE]),
+        hold: read(journal[p + HOLD_PLACE]),
+        reference: read(journal[p + REFERENCE_PLACE]),
+    }
+}
 
 // Row i, counted from 0.
 pub fn read_row(journal: &[i64], i: usize) -> Row
     requires { RowIn journal.now i }
     ensures { result ≡ row_at journal.now i }
 {
-    let p = i * ROW_WIDTH;
-    Row {
-        kind: get(journal, p + KIND_PLACE),
-        account: get(journal, p + ACCOUNT_PLACE),
-        day: get(journal, p + ROW_DAY_PLACE),
-        amount: get(journal, p + AMOUNT_PLACE),
-        settled: get(journal, p + SETTLED_PLACE),
-        mark: get(journal, p + MARK_PLACE),
-        due: get(journal, p + DUE_PLACE),
-        dispute: get(journal, p + DISPUTE_PLACE),
-        hold: get(journal, p + HOLD_PLACE),
-        reference: get(journal, p + REFERENCE_PLACE),
-    }
+    row_by(journal, i, natural)
 }
 
 // One word of row i, where a pass reads no other, or this one first.
@@ -87,6 +97,7 @@ pub fn row_numbered(journal: &[i64], used: usize, n: u64) -> Row
 }
 
 // The first five words of a row, from place p on; the last five follow.
+// Kept: two halves of one list of stores, here and of an account and of a list, not two of a kind.
 fn put_first_words(journal: &mut [i64], p: usize, r: Row)
     requires { (p + row_width ≤ length journal.old) × StorableRow r }
     ensures { journal.new ≡ put_all journal.old p 0 (take 5 (row_words r)) }

@@ -37,7 +37,7 @@ pub fn fee_of_stage(header: &[i64], stage: u64) -> u64
 }
 
 // The fee that the row brings at the tick to `today`, 0 for none.
-// Kept: (d) a number, since the rules' `stage_fee` is one: a fee of 0 and no fee are the same, no row for either.
+// Kept: a number, since the rules' `stage_fee` is one: a fee of 0 and no fee are the same, no row for either.
 pub fn fee_due(header: &[i64], r: Row, today: u64) -> u64
     requires { header_width ≤ length header.now }
     ensures { result ≡ cond (rises today r) (stage_fee (schedule_from header.now header_schedule) (r.mark + 1)) 0 }

@@ -9,6 +9,8 @@ use records::codes::{KIND_CREDIT, KIND_PAYMENT};
 use table_rows::kind_at;
 
 // By account number what remains of the account's sources, its money, and of its debits, what it owes. 4 KiB of a caller's stack.
+// Kept: two arrays; as one of pairs, a tick on 8,192 rows takes 0.55 of plain C in place of 0.51, and a batch of 4,096 events 0.27 in
+// place of 0.26.
 #[derive(Drop)]
 pub struct Remains {
     pub money: [u64; SLOTS],

@@ -11,18 +11,18 @@ ghost use Rattle.tables.specs.Changes.{RowIn, RowChanged, RowsMapped};
 ghost use Rattle.posting.specs.Written.{Written};
 ghost use Rattle.tick_close.specs.Closing.{closes_by, Closable, ClosedOne, use_up_by, Usable, UsableRows};
 ghost use Rattle.tick_close.specs.Closing.{AllClosable, ClosedTo, ReadyToClose};
-ghost use Rattle.rules.specs.Lent.{lent, at_entry, at_exit};
+ghost use Rattle.lent.specs.Lent.{lent_mut, SameTables};
 
 use account_sums::SLOTS;
+use lent::TablesMut;
 use posting::rows::{add_row, new_row};
 use records::Account;
 use records::codes::KIND_REFUND;
-use records::layout::{ACCOUNT_WIDTH, DAY_PLACE, USED_PLACE};
+use records::layout::ACCOUNT_WIDTH;
 use row_passes::change_rows;
 use row_tests::is_source;
 use table_accounts::{read_account, write_account};
 use table_rows::{account_at, put_settled, read_row};
-use tables::words::get;
 use tick_base::days::days_over;
 use tick_base::sums::Remains;
 
@@ -65,64 +65,55 @@ fn use_rows(accounts: &[i64], journal: &mut [i64], used: usize, today: u64, owed
 }
 
 // Account i, of number i + 1, closes if it is to; its money leaves as a row that is settled whole.
-fn close_account(
-    header: &mut [i64],
-    accounts: &mut [i64],
-    journal: &mut [i64],
-    i: usize,
-    today: u64,
-    money: u64,
-    owed: u64,
-)
-    requires { Closable header.old accounts.old journal.old i today money owed }
-    ensures { ClosedOne header.old header.new accounts.old accounts.new
-        journal.old journal.new i today money owed }
+fn close_account(t: &mut TablesMut, i: usize, today: u64, money: u64, owed: u64)
+    requires { Closable t.old.header.now t.old.accounts.now t.old.journal.now i today money owed }
+    ensures same { SameTables t.old t.new }
+    ensures closed { ClosedOne t.old.header.now t.new.header.now t.old.accounts.now t.new.accounts.now
+        t.old.journal.now t.new.journal.now i today money owed }
 {
-    let x = read_account(accounts, i);
+    let x = read_account(t.read().accounts, i);
     if !is_closing(x, today, owed) {
         return;
     }
-    write_account(accounts, i, x.close());
+    write_account(t.accounts, i, x.close());
     if money == 0 {
         return;
     }
     let mut r = new_row(KIND_REFUND, i as u64 + 1, today, money);
     r.settled = money;
-    add_row(header, journal, r);
+    add_row(&mut *t.header, &mut *t.journal, r);
 }
 
 // The accounts in order of their numbers.
-fn close_each(
-    header: &mut [i64],
-    accounts: &mut [i64],
-    journal: &mut [i64],
-    today: u64,
-    remains: &Remains,
-)
-    requires { AllClosable header.old accounts.old journal.old today remains.now }
-    ensures { ClosedTo header.old accounts.old journal.old header.new
-        accounts.new journal.new today remains.now
-        (length accounts.old / account_width) }
+fn close_each(t: &mut TablesMut, today: u64, remains: &Remains)
+    requires { AllClosable t.old.header.now t.old.accounts.now t.old.journal.now today remains.now }
+    ensures same { SameTables t.old t.new }
+    ensures closed { ClosedTo t.old.header.now t.old.accounts.now t.old.journal.now t.new.header.now
+        t.new.accounts.now t.new.journal.now today remains.now
+        (length t.old.accounts.now / account_width) }
 {
-    for i in 0..accounts.len() / ACCOUNT_WIDTH {
+    for i in 0..t.accounts.len() / ACCOUNT_WIDTH {
         let money = remains.money[i + 1];
         let owed = remains.owed[i + 1];
-        close_account(header, accounts, journal, i, today, money, owed);
+        close_account(t, i, today, money, owed);
     }
 }
 
 // What remains is summed first: an account is judged on the book before any closes. On most days none closes, and nothing changes.
-pub fn close_accounts(header: &mut [i64], accounts: &mut [i64], journal: &mut [i64], closing: bool)
-    requires { ReadyToClose (lent header.old accounts.old journal.old) closing }
-    ensures { Written (at_entry header.old accounts.old journal.old) (at_exit header.new accounts.new journal.new)
-        (close_accounts (book_of (at_entry header.old accounts.old journal.old))) }
+pub fn close_accounts(t: &mut TablesMut, closing: bool)
+    requires { ReadyToClose (lent_mut t.old) closing }
+    ensures same { SameTables t.old t.new }
+    ensures written { Written (lent_mut t.old) (lent_mut t.new)
+        (close_accounts (book_of (lent_mut t.old))) }
 {
     if !closing {
         return;
     }
-    let used = get(header, USED_PLACE) as usize;
-    let today = get(header, DAY_PLACE);
-    let remains = Remains::of_rows(journal, used);
+    let used = t.used() as usize;
+    let today = t.day();
+    let remains = Remains::of_rows(t.read().journal, used);
+    let accounts = &mut *t.accounts;
+    let journal = &mut *t.journal;
     use_rows(accounts, journal, used, today, &remains.owed);
-    close_each(header, accounts, journal, today, &remains);
+    close_each(t, today, &remains);
 }

@@ -2,7 +2,7 @@
 // have changed.
 #![tactic(auto)]
 
-ghost use Rattle.std.specs.Prelude.{◌≤◌};
+ghost use Rattle.std.specs.Prelude.{◌≡◌, ◌≤◌};
 ghost use Rattle.records.specs.Encoding.{row_at};
 ghost use Rattle.records.specs.Limits.{most_accounts, slot_count};
 ghost use Rattle.rules.specs.Tick.{end_hold};
@@ -10,15 +10,15 @@ ghost use Rattle.tables.specs.Changes.{RowIn, RowChanged, RowsMapped};
 ghost use Rattle.account_sums.specs.Tallies.{Tallied, Countable};
 ghost use Rattle.settlement.specs.Settling.{Journal};
 ghost use Rattle.tick_holds.specs.Holds.{ends_of, Ending, EndingRows, Ends, SettledThose, UnraisedRows};
-ghost use Rattle.rules.specs.Lent.{lent, at_entry};
+ghost use Rattle.lent.specs.Lent.{lent_mut, SameTables};
 
 use account_sums::SLOTS;
+use lent::TablesMut;
 use posting::rows::released;
-use records::layout::{ACCOUNT_WIDTH, DAY_PLACE, USED_PLACE};
+use records::layout::ACCOUNT_WIDTH;
 use row_passes::change_rows;
 use settlement::settle;
 use table_rows::{read_row, write_row};
-use tables::words::get;
 use tick_base::days::hold_ends;
 use tick_base::holds::{count_held, ends_at};
 
@@ -68,16 +68,20 @@ fn settle_freed(journal: &mut [i64], used: usize, count: usize, ends: &[u64; SLO
 }
 
 // The holds that end at the tick to the next day, and the settlement that they allow. On most days none ends, and nothing changes.
-pub fn free_and_settle(header: &[i64], accounts: &[i64], journal: &mut [i64], ending: bool)
-    requires { Ends (lent header.now accounts.now journal.old) ending }
-    ensures { UnraisedRows (at_entry header.now accounts.now journal.old) journal.new }
+pub fn free_and_settle(t: &mut TablesMut, ending: bool)
+    requires { Ends (lent_mut t.old) ending }
+    ensures same { SameTables t.old t.new }
+    ensures header { t.new.header.now ≡ t.old.header.now }
+    ensures accounts { t.new.accounts.now ≡ t.old.accounts.now }
+    ensures rows { UnraisedRows (lent_mut t.old) t.new.journal.now }
 {
     if !ending {
         return;
     }
-    let used = get(header, USED_PLACE) as usize;
-    let today = get(header, DAY_PLACE) + 1;
-    let ends = count_ends(journal, used, today);
-    end_holds(journal, used, today);
-    settle_freed(journal, used, accounts.len() / ACCOUNT_WIDTH, &ends);
+    let used = t.used() as usize;
+    let today = t.day() + 1;
+    let ends = count_ends(t.read().journal, used, today);
+    end_holds(t.journal, used, today);
+    let count = t.accounts.len() / ACCOUNT_WIDTH;
+    settle_freed(t.journal, used, count, &ends);
 }

@@ -9,12 +9,12 @@ mod refunds; // refunds.rt: the accounts that will close, and those of them with
 ghost use Rattle.std.specs.Prelude.{◌≡◌, true};
 ghost use Rattle.rules.specs.Tables.{book_of, sound_tables};
 ghost use Rattle.tick_plan.specs.Plans.{Planned};
-ghost use Rattle.rules.specs.Lent.{lent, at_entry};
+ghost use Rattle.lent.specs.Lent.{lent_mut};
 
-use records::layout::{ACCOUNT_WIDTH, DAY_PLACE, USED_PLACE};
+use lent::TablesMut;
+use records::layout::ACCOUNT_WIDTH;
 use refunds::{any_closes, refunds_added};
 use rows::RowCounts;
-use tables::words::get;
 
 // How many rows the tick adds, whether a hold ends, and whether an account closes.
 #[derive(Clone, Copy)]
@@ -24,22 +24,22 @@ pub struct Plan {
     pub closing: bool,
 }
 
-pub fn plan_tick(header: &[i64], accounts: &[i64], journal: &[i64]) -> Plan
-    requires { sound_tables (lent header.now accounts.now journal.now) ≡ true }
-    ensures { Planned (book_of (at_entry header.now accounts.now journal.now)) result }
+pub fn plan_tick(t: &TablesMut) -> Plan
+    requires { sound_tables (lent_mut t.now) ≡ true }
+    ensures { Planned (book_of (lent_mut t.now)) result }
 {
-    let used = get(header, USED_PLACE) as usize;
-    let today = get(header, DAY_PLACE) + 1;
-    let counts = RowCounts::of_rows(header, journal, used, today);
-    let count = accounts.len() / ACCOUNT_WIDTH;
-    if !any_closes(accounts, count, today, &counts) {
+    let used = t.used() as usize;
+    let today = t.day() + 1;
+    let counts = RowCounts::of_rows(t.header, t.journal, used, today);
+    let count = t.accounts.len() / ACCOUNT_WIDTH;
+    if !any_closes(t.accounts, count, today, &counts) {
         return Plan {
             added: counts.fees,
             ending: counts.ending,
             closing: false,
         };
     }
-    let refunds = refunds_added(accounts, count, today, &counts);
+    let refunds = refunds_added(t.accounts, count, today, &counts);
     Plan {
         added: counts.fees + refunds,
         ending: counts.ending,

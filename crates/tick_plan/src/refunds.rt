@@ -30,6 +30,7 @@ pub fn any_closes(accounts: &[i64], count: usize, today: u64, counts: &RowCounts
 }
 
 // Account n, which is x, will close with money left, which brings a refund row.
+// Kept beside `will_close`: of three tests the last is another, and their contracts are two definitions (Plans).
 fn will_refund(n: usize, x: Account, today: u64, counts: &RowCounts) -> bool
     requires { n < slot_count }
     ensures { result ≡ refunds_at today counts.now n x }

@@ -16,6 +16,7 @@ use tick_base::sums::Remains;
 #[derive(Drop)]
 pub struct RowCounts {
     pub remains: Remains,
+    // Kept: an array of its own, since `count_held` counts into an array of numbers, which `tick_holds` shares.
     pub stays: [u64; SLOTS],
     pub fees: usize,
     pub ending: bool,

@@ -12,12 +12,13 @@ ghost use Rattle.posting.specs.Written.{Written};
 ghost use Rattle.tick_base.specs.Midway.{Midway};
 ghost use Rattle.tick_raise.specs.Raising.{Raisable, RowRaised};
 ghost use Rattle.records.specs.Codes.{kind_fee};
-ghost use Rattle.rules.specs.Lent.{lent, at_entry, at_exit};
+ghost use Rattle.lent.specs.Lent.{lent_mut, SameTables};
 
+use lent::TablesMut;
 use posting::rows::{add_row, new_row};
 use records::Row;
 use records::codes::KIND_FEE;
-use records::layout::{DAY_PLACE, HEADER_SCHEDULE, STAGE_PLACE, USED_PLACE};
+use records::layout::{HEADER_SCHEDULE, STAGE_PLACE};
 use table_rows::{due_at, read_row, write_row};
 use tables::words::get;
 use tick_base::stages::{fee_of_stage, is_rising};
@@ -68,19 +69,19 @@ fn raise_row(header: &mut [i64], journal: &mut [i64], i: usize, today: u64) -> b
 }
 
 // The tolls due today are raised, in row order. The result is how many.
-pub fn raise_tolls(header: &mut [i64], accounts: &[i64], journal: &mut [i64]) -> u64
-    requires { Midway (word header.old day_place - 1) (lent header.old accounts.now journal.old)
-        × (length (raise_tolls (book_of (lent header.old accounts.now journal.old))).rows ≤ length journal.old / row_width) }
-    ensures { (result
-        ≡ count (rises (word header.old day_place)) (book_of (at_entry header.old accounts.now journal.old)).rows)
-        × Written (at_entry header.old accounts.now journal.old) (at_exit header.new accounts.now journal.new)
-        (raise_tolls (book_of (at_entry header.old accounts.now journal.old))) }
+pub fn raise_tolls(t: &mut TablesMut) -> u64
+    requires { Midway (word t.old.header.now day_place - 1) (lent_mut t.old)
+        × (length (raise_tolls (book_of (lent_mut t.old))).rows ≤ length t.old.journal.now / row_width) }
+    ensures same { SameTables t.old t.new }
+    ensures accounts { t.new.accounts.now ≡ t.old.accounts.now }
+    ensures raised { result ≡ count (rises (word t.old.header.now day_place)) (book_of (lent_mut t.old)).rows }
+    ensures written { Written (lent_mut t.old) (lent_mut t.new) (raise_tolls (book_of (lent_mut t.old))) }
 {
-    let today = get(header, DAY_PLACE);
-    let used = get(header, USED_PLACE) as usize;
+    let today = t.day();
+    let used = t.used() as usize;
     let mut n = 0;
     for i in 0..used {
-        n += raise_row(header, journal, i, today) as u64;
+        n += raise_row(&mut *t.header, &mut *t.journal, i, today) as u64;
     }
     n
 }

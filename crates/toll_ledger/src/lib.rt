@@ -6,12 +6,13 @@ ghost use Rattle.std.specs.Prelude.{◌≡◌, [], pos};
 ghost use Rattle.records.specs.Outcomes.{number_by};
 ghost use Rattle.call_questions.specs.Values.{value_of};
 ghost use Rattle.rules.specs.Calls.{Gives, Replies, open_call, event_call, batch_call, balance_call, topup_due_call};
-ghost use Rattle.rules.specs.Lent.{at_entry, at_exit};
+ghost use Rattle.rules.specs.Tables.{tables_at};
 
 use call_batch::batch_call;
 use call_event::event_call;
 use call_opening::open_book;
 use call_questions::{balance, topup_due};
+use lent::{Tables, TablesMut};
 use records::Event;
 use records::refusals::Refusal;
 
@@ -49,13 +50,18 @@ pub fn toll_ledger_open(
     journal: &mut [i64],
     schedule: &[i64],
 ) -> i64
-    ensures { Gives (open_call (at_entry header.old accounts.old journal.old)
+    ensures { Gives (open_call (tables_at header.old accounts.old journal.old)
         schedule.now)
         result
-        (at_exit header.new accounts.new journal.new)
+        (tables_at header.new accounts.new journal.new)
         [] }
 {
-    number_of(open_book(header, accounts, journal, schedule))
+    let mut t = TablesMut {
+        header,
+        accounts,
+        journal,
+    };
+    number_of(open_book(&mut t, schedule))
 }
 
 // Posts one event of nine words; the answer's five words are written wherever there is room for them.
@@ -66,14 +72,19 @@ pub fn toll_ledger_event(
     event: &[i64],
     answer: &mut [i64],
 ) -> i64
-    ensures { Gives (event_call (at_entry header.old accounts.old journal.old)
+    ensures { Gives (event_call (tables_at header.old accounts.old journal.old)
         event.now
         answer.old)
         result
-        (at_exit header.new accounts.new journal.new)
+        (tables_at header.new accounts.new journal.new)
         answer.new }
 {
-    number_of(event_call(header, accounts, journal, event, answer))
+    let mut t = TablesMut {
+        header,
+        accounts,
+        journal,
+    };
+    number_of(event_call(&mut t, event, answer))
 }
 
 // The account's balance, 0 where the question is refused.
@@ -84,11 +95,16 @@ pub fn toll_ledger_balance(
     account: i64,
     value: &mut i64,
 ) -> i64
-    ensures { Replies (balance_call (at_entry header.now accounts.now journal.now) account)
+    ensures { Replies (balance_call (tables_at header.now accounts.now journal.now) account)
         result
         value.new }
 {
-    reply(balance(header, accounts, journal, account), value)
+    let t = Tables {
+        header,
+        accounts,
+        journal,
+    };
+    reply(balance(t, account), value)
 }
 
 // 1 where the account's top-up is due, 0 where it is not or the question is refused.
@@ -99,11 +115,16 @@ pub fn toll_ledger_topup_due(
     account: i64,
     value: &mut i64,
 ) -> i64
-    ensures { Replies (topup_due_call (at_entry header.now accounts.now journal.now) account)
+    ensures { Replies (topup_due_call (tables_at header.now accounts.now journal.now) account)
         result
         value.new }
 {
-    let due = topup_due(header, accounts, journal, account);
+    let t = Tables {
+        header,
+        accounts,
+        journal,
+    };
+    let due = topup_due(t, account);
     reply(due.map(i64::from), value)
 }
 
@@ -115,12 +136,17 @@ pub fn toll_ledger_batch(
     events: &[Event],
     answers: &mut [i64],
 ) -> i64
-    ensures { Gives (batch_call (at_entry header.old accounts.old journal.old)
+    ensures { Gives (batch_call (tables_at header.old accounts.old journal.old)
         events.now
         answers.old)
         result
-        (at_exit header.new accounts.new journal.new)
+        (tables_at header.new accounts.new journal.new)
         answers.new }
 {
-    number_of(batch_call(header, accounts, journal, events, answers))
+    let mut t = TablesMut {
+        header,
+        accounts,
+        journal,
+    };
+    number_of(batch_call(&mut t, events, answers))
 }

@@ -1,10 +1,11 @@
 // The exports of the static library that C hosts link: each calls toll_ledger's function of the same name, and has its clauses. Every table
 // is a pointer and its length in words; include/toll_ledger.h declares them.
+// Kept beside toll_ledger: an export cannot stand in a library crate, and each table comes as a pointer and a length.
 #![tactic(auto)]
 
 ghost use Rattle.std.specs.Prelude.{[]};
 ghost use Rattle.rules.specs.Calls.{Gives, Replies, open_call, event_call, batch_call, balance_call, topup_due_call};
-ghost use Rattle.rules.specs.Lent.{at_entry, at_exit};
+ghost use Rattle.rules.specs.Tables.{tables_at};
 
 use records::Event;
 
@@ -16,10 +17,10 @@ pub extern "C" fn toll_ledger_open(
     journal: &mut [i64],
     schedule: &[i64],
 ) -> i64
-    ensures { Gives (open_call (at_entry header.old accounts.old journal.old)
+    ensures { Gives (open_call (tables_at header.old accounts.old journal.old)
         schedule.now)
         result
-        (at_exit header.new accounts.new journal.new)
+        (tables_at header.new accounts.new journal.new)
         [] }
 {
     toll_ledger::toll_ledger_open(header, accounts, journal, schedule)
@@ -34,11 +35,11 @@ pub extern "C" fn toll_ledger_event(
     event: &[i64],
     answer: &mut [i64],
 ) -> i64
-    ensures { Gives (event_call (at_entry header.old accounts.old journal.old)
+    ensures { Gives (event_call (tables_at header.old accounts.old journal.old)
         event.now
         answer.old)
         result
-        (at_exit header.new accounts.new journal.new)
+        (tables_at header.new accounts.new journal.new)
         answer.new }
 {
     toll_ledger::toll_ledger_event(header, accounts, journal, event, answer)
@@ -53,7 +54,7 @@ pub extern "C" fn toll_ledger_balance(
     account: i64,
     value: &mut i64,
 ) -> i64
-    ensures { Replies (balance_call (at_entry header.now accounts.now journal.now) account)
+    ensures { Replies (balance_call (tables_at header.now accounts.now journal.now) account)
         result
         value.new }
 {
@@ -69,7 +70,7 @@ pub extern "C" fn toll_ledger_topup_due(
     account: i64,
     value: &mut i64,
 ) -> i64
-    ensures { Replies (topup_due_call (at_entry header.now accounts.now journal.now) account)
+    ensures { Replies (topup_due_call (tables_at header.now accounts.now journal.now) account)
         result
         value.new }
 {
@@ -85,11 +86,11 @@ pub extern "C" fn toll_ledger_batch(
     events: &[Event],
     answers: &mut [i64],
 ) -> i64
-    ensures { Gives (batch_call (at_entry header.old accounts.old journal.old)
+    ensures { Gives (batch_call (tables_at header.old accounts.old journal.old)
         events.now
         answers.old)
         result
-        (at_exit header.new accounts.new journal.new)
+        (tables_at header.new accounts.new journal.new)
         answers.new }
 {
     toll_ledger::toll_ledger_batch(header, accounts, journal, events, answers)

@@ -9,14 +9,14 @@ use Rattle.event_refusals.proofs.AdmissionLaws.{admits-refused}
 use Rattle.batch_index.proofs.KeptLaws.{update-asked}
 use Rattle.call_batch.proofs.post_indexed.Goals as goal
 
-pub returns-in_err-x : goal.returns-in_err-x
-returns-in_err-x c =
+pub returns-in_err-x-clause-posts : goal.returns-in_err-x-clause-posts
+returns-in_err-x-clause-posts c =
     let q : c.from_residual.result ≡ Err c.in_err-x.field-0.0 = search rules in
-    (rw q (posts-refused _ c.requires.0 _ _ (admits-refused _ _ _ c.in_err-x.ensures)), c.requires.1)
+    rw q (posts-refused _ c.requires.0 _ _ (admits-refused _ _ _ c.in_err-x.ensures))
 
-pub get-before-requires : goal.get-before-requires
-get-before-requires c = omega (arith, header-length _ c.requires.0)
+pub used-before-requires : goal.used-before-requires
+used-before-requires c = omega (arith, header-length _ c.requires.0)
 
 pub update-requires : goal.update-requires
 update-requires c =
-    update-asked _ _ _ _ _ c.get-before.ensures c.requires.0 c.post_admitted-outcome.ensures _ c.requires.1
+    update-asked _ _ _ _ _ c.used-before.ensures c.requires.0 c.post_admitted-outcome.ensures.posts _ c.requires.1

@@ -5,9 +5,9 @@ use Rattle.call_batch.proofs.post_record.Goals as goal
 
 pub write_answer-requires : goal.write_answer-requires
 write_answer-requires c =
-    (c.requires.1, rw c.from-2.ensures (answer-storable _ c.requires.0 _ _ c.post_indexed-outcome.ensures.0.answer))
+    (c.requires.1, rw c.from-2.ensures (answer-storable _ c.requires.0 _ _ c.post_indexed-outcome.ensures.posts.answer))
 
-pub returns : goal.returns
-returns c =
-    let q = rw c.from.ensures at c.post_indexed-outcome.ensures.0 in
-    (record { tables = q.tables; answers = c.write_answer.ensures ∙ rw (c.from-2.ensures, q.answer) }, c.post_indexed-outcome.ensures.1)
+pub returns-clause-posts : goal.returns-clause-posts
+returns-clause-posts c =
+    let q = rw c.from.ensures at c.post_indexed-outcome.ensures.posts in
+    record { tables = q.tables; answers = c.write_answer.ensures ∙ rw (c.from-2.ensures, q.answer) }

@@ -5,8 +5,8 @@ use native.Mathlib.Omega.{arith}
 use Rattle.call_event.proofs.EventCallLaws.{taken, refused-answers, posted-answers}
 use Rattle.call_event.proofs.post_call.Goals as goal
 
-pub returns-in_err-check_event : goal.returns-in_err-check_event
-returns-in_err-check_event c =
+pub returns-in_err-check_event-clause-answers : goal.returns-in_err-check_event-clause-answers
+returns-in_err-check_event-clause-answers c =
     let q : c.from_residual.result ≡ Err c.in_err-check_event.field-0.0 = search rules in
     rw q (refused-answers _ _ _ _ c.in_err-check_event.ensures)
 
@@ -16,5 +16,5 @@ read_event-e-requires c = omega (arith, (taken _ _ _ c.in_ok-check_event.ensures
 pub post_event-requires : goal.post_event-requires
 post_event-requires c = (taken _ _ _ c.in_ok-check_event.ensures).sound
 
-pub returns : goal.returns
-returns c = posted-answers _ _ _ _ _ c.in_ok-check_event.ensures (rw c.read_event-e.ensures at c.post_event.ensures)
+pub returns-clause-answers : goal.returns-clause-answers
+returns-clause-answers c = posted-answers _ _ _ _ _ c.in_ok-check_event.ensures (rw c.read_event-e.ensures at c.post_event.ensures.posts)

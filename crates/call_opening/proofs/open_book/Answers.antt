@@ -10,15 +10,15 @@ use Rattle.call_opening.proofs.open_book.Goals as goal
 use Rattle.call_opening.proofs.open_book.Goals.{Else-not-lengths_fit}
 
 -- the lengths, once tested
-fit : (e : Else-not-lengths_fit) → lengths_fit (tables_at e.args.header.now e.args.accounts.now e.args.journal.now) ≡ true
-fit e = sym e.lengths_fit.ensures ∙ not-false _ e.if-not-lengths_fit.false-raw
+fit : (e : Else-not-lengths_fit) → lengths_fit (tables_at e.args.t.now.header.now e.args.t.now.accounts.now e.args.t.now.journal.now) ≡ true
+fit e = sym (rw e.read.ensures.tables at e.lengths_fit.ensures) ∙ not-false _ e.if-not-lengths_fit.false-raw
 
-pub returns-then-not-lengths_fit : goal.returns-then-not-lengths_fit
-returns-then-not-lengths_fit c = lengths-refused _ _ _ _ (sym c.lengths_fit.ensures ∙ not-true _ c.if-not-lengths_fit.true-raw)
+pub returns-then-not-lengths_fit-clause-gives : goal.returns-then-not-lengths_fit-clause-gives
+returns-then-not-lengths_fit-clause-gives c = lengths-refused _ _ _ _ (sym (rw c.read.ensures.tables at c.lengths_fit.ensures) ∙ not-true _ c.if-not-lengths_fit.true-raw)
 
-pub returns-then-not-opening_fits : goal.returns-then-not-opening_fits
-returns-then-not-opening_fits c =
-    let e = (goal.at.returns-then-not-opening_fits c).Else-not-lengths_fit in
+pub returns-then-not-opening_fits-clause-gives : goal.returns-then-not-opening_fits-clause-gives
+returns-then-not-opening_fits-clause-gives c =
+    let e = (goal.at.returns-then-not-opening_fits-clause-gives c).Else-not-lengths_fit in
     words-refused _ _ _ _ (fit e) (sym c.opening_fits.ensures ∙ not-true _ c.if-not-opening_fits.true-raw)
 
 pub write_header-requires : goal.write_header-requires
@@ -26,8 +26,8 @@ write_header-requires c =
     let e = (goal.at.write_header-requires c).Else-not-lengths_fit in
     ((lengths-known _ _ _ (fit e)).words, sym c.opening_fits.ensures ∙ not-false _ c.if-not-opening_fits.false-raw)
 
-pub returns : goal.returns
-returns c =
-    let e = (goal.at.returns c).Else-not-lengths_fit in
-    rw (c.write_header.ensures (tables_at c.args.header.now c.args.accounts.now c.args.journal.now), c.fill.ensures.after (λ y e. e), c.fill-2.ensures.after (λ y e. e))
+pub returns-clause-gives : goal.returns-clause-gives
+returns-clause-gives c =
+    let e = (goal.at.returns-clause-gives c).Else-not-lengths_fit in
+    rw (c.write_header.ensures (tables_at c.args.t.now.header.now c.args.t.now.accounts.now c.args.t.now.journal.now), c.fill.ensures.after (λ y e. e), c.fill-2.ensures.after (λ y e. e))
     (opened _ _ _ _ (fit e) (sym c.opening_fits.ensures ∙ not-false _ c.if-not-opening_fits.false-raw))

@@ -1,9 +1,8 @@
 -- `write_header` meets its contract: each step's list is the one before it with the words stored, and the last is the opened book's.
-use Rattle.std.proofs.Common.{rules, to_z, of_z, w64, get_or, pos, drop, length, take, ◌-◌}
-use lib.Seq.{take_all}
+use Rattle.std.proofs.Common.{rules, to_z, of_z, w64, get_or, pos}
 use Rattle.call_opening.proofs.OpenedLaws.{words-given, copied-fits, header-written}
 use native.Mathlib.Omega.{arith}
-use mathlib.Core.Path.{◌≡◌, ◌∙◌}
+use mathlib.Core.Path.{◌≡◌}
 use Rattle.call_opening.proofs.write_header.Goals as goal
 
 pub bounds-schedule-0 : goal.bounds-schedule-0

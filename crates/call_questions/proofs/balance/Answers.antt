@@ -23,7 +23,7 @@ numbered c = c.natural-n.ensures ∙ ap nat_of (to_z-of_z c.ranges.account)
 
 -- the lent tables
 abbrev lent : Start → Tables
-lent s = tables_at s.args.header.now s.args.accounts.now s.args.journal.now
+lent s = tables_at s.args.t.header.now s.args.t.accounts.now s.args.t.journal.now
 
 -- a book that was not refused
 asked : (e : In_ok-check_question) → sound_tables (lent e.before.before.before.before) ≡ true
@@ -36,7 +36,7 @@ returns-in_err-check_question c =
     rw q (question-refused book.balance (lent (goal.at.returns-in_err-check_question c).Start) _ _ (numbered (goal.at.returns-in_err-check_question c).After-natural-n) _ c.in_err-check_question.ensures)
 
 pub get-used-requires : goal.get-used-requires
-get-used-requires c = omega (arith, header-length _ (asked c))
+get-used-requires c = omega (arith, header-length _ (asked (goal.at.get-used-requires c).In_ok-check_question))
 
 pub sums_of-s-requires : goal.sums_of-s-requires
 sums_of-s-requires c = rw c.get-used.ensures (journal-summable _ (asked (goal.at.sums_of-s-requires c).In_ok-check_question))

@@ -18,7 +18,7 @@ numbered c = c.natural-n.ensures ∙ ap nat_of (to_z-of_z c.ranges.number)
 
 -- the lent tables
 abbrev lent : Start → Tables
-lent s = tables_at s.args.header.now s.args.accounts.now s.args.journal.now
+lent s = tables_at s.args.t.header.now s.args.t.accounts.now s.args.t.journal.now
 
 -- a row that is used
 there : (e : Else-not-row_used) → sound_tables (lent e.before.before.before) && e.natural-n.result from 1 to rows_used (lent e.before.before.before) ≡ true
@@ -39,11 +39,11 @@ overflow_mul-start c = omega (arith, (inside c).few)
 pub overflow_add-end : goal.overflow_add-end
 overflow_add-end c = omega (arith, (inside c).few)
 
-pub offset_bounds-journal-start : goal.offset_bounds-journal-start
-offset_bounds-journal-start c = omega (arith, (inside c).few)
+pub offset_bounds-t-start : goal.offset_bounds-t-start
+offset_bounds-t-start c = omega (arith, (inside (goal.at.offset_bounds-t-start c).Else-not-row_used).few)
 
 pub slice_bounds-result-end-2 : goal.slice_bounds-result-end-2
-slice_bounds-result-end-2 c = omega (arith, (inside c).room)
+slice_bounds-result-end-2 c = omega (arith, (inside (goal.at.slice_bounds-result-end-2 c).Else-not-row_used).room)
 
 pub returns : goal.returns
 returns c = row-part _ _ _ (numbered (goal.at.returns c).After-natural-n) _ (there (goal.at.returns c).Else-not-row_used) refl _

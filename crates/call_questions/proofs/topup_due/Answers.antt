@@ -20,7 +20,7 @@ numbered c = c.natural-n.ensures ∙ ap nat_of (to_z-of_z c.ranges.account)
 
 -- the lent tables
 abbrev lent : Start → Tables
-lent s = tables_at s.args.header.now s.args.accounts.now s.args.journal.now
+lent s = tables_at s.args.t.header.now s.args.t.accounts.now s.args.t.journal.now
 
 -- a book that was not refused
 asked : (e : In_ok-check_question) → sound_tables (lent e.before.before.before.before) ≡ true

@@ -16,16 +16,16 @@ write_account-requires c =
     let q = open-accepted _ c.requires.0 _ c.requires.1 c.requires.2 in
     (named_in _ c.requires.0 _ (rw c.requires.1) q, rw c.«open».ensures (open-storable _ c.requires.0 _ c.requires.1 q))
 
-pub get-requires : goal.get-requires
-get-requires c = omega (arith, header-length _ c.requires.0)
+pub used-requires : goal.used-requires
+used-requires c = omega (arith, header-length _ c.requires.0)
 
 pub posted-requires : goal.posted-requires
 posted-requires c =
-    let u = c.get.ensures in
+    let u = c.used.ensures in
     omega (arith, used-small _ c.requires.0)
 
-pub returns : goal.returns
-returns c =
-    let o = (goal.at.returns c).After-open in
+pub returns-clause-posts : goal.returns-clause-posts
+returns-clause-posts c =
+    let o = (goal.at.returns-clause-posts c).After-open in
     let q = open-accepted _ c.requires.0 _ c.requires.1 c.requires.2 in
     rw c.posted.ensures (open-posts _ c.requires.0 _ c.requires.1 q _ (rw o.«open».ensures at c.write_account.ensures))

@@ -11,9 +11,9 @@ use Rattle.posting_laws.proofs.AccountEventLaws.{named-inside, named_in}
 use Rattle.event_accounts.proofs.RequestLaws.{request-by, request-storable, request-posts}
 use Rattle.event_accounts.proofs.request_close.Goals as goal
 
-pub returns-then-x-eq-STATE_PENDING : goal.returns-then-x-eq-STATE_PENDING
+pub returns-then-x-eq-STATE_PENDING-clause-posts : goal.returns-then-x-eq-STATE_PENDING-clause-posts
 unfolding first
-returns-then-x-eq-STATE_PENDING c =
+returns-then-x-eq-STATE_PENDING-clause-posts c =
     posts-refused _ c.requires.0 _ Untimely
     (request-by _ c.requires.0 _ c.requires.1 c.requires.2 true (rw (← c.requires.3) (eq-eqb _ _ c.if-x-eq-STATE_PENDING.true)))
 
@@ -22,8 +22,8 @@ unfolding first
 overflow_sub-e c =
     (named-inside _ c.requires.0 _ (rw c.requires.1) (request-by _ c.requires.0 _ c.requires.1 c.requires.2 false (rw (← c.requires.3) (ne_eqb _ _ c.if-x-eq-STATE_PENDING.false)))).0
 
-pub get-requires : goal.get-requires
-get-requires c = omega (arith, header-length _ c.requires.0)
+pub day-requires : goal.day-requires
+day-requires c = omega (arith, header-length _ c.requires.0)
 
 pub write_account-requires : goal.write_account-requires
 unfolding first
@@ -31,21 +31,21 @@ write_account-requires c =
     let s = c.requires.0 in
     let q = request-by _ s _ c.requires.1 c.requires.2 false (rw (← c.requires.3) (ne_eqb _ _ c.if-x-eq-STATE_PENDING.false)) in (
       named_in _ s _ (rw c.requires.1) q,
-      rw (c.request_close.ensures, c.get.ensures, c.requires.3, day-read _ s) (request-storable _ s c.args.e),
+      rw (c.request_close-pending.ensures, c.day.ensures, c.requires.3, day-read _ s) (request-storable _ s c.args.e),
     )
 
-pub get-requires-2 : goal.get-requires-2
-get-requires-2 c = omega (arith, header-length _ c.requires.0)
+pub used-requires : goal.used-requires
+used-requires c = omega (arith, header-length _ c.requires.0)
 
 pub posted-requires : goal.posted-requires
 posted-requires c =
-    let u = c.get-2.ensures in
+    let u = c.used.ensures in
     omega (arith, used-small _ c.requires.0)
 
-pub returns : goal.returns
+pub returns-clause-posts : goal.returns-clause-posts
 unfolding first
-returns c =
+returns-clause-posts c =
     let s = c.requires.0 in
     let q = request-by _ s _ c.requires.1 c.requires.2 false (rw (← c.requires.3) (ne_eqb _ _ c.if-x-eq-STATE_PENDING.false)) in
     rw c.posted.ensures
-    (request-posts _ s _ c.requires.1 q _ (rw (c.request_close.ensures, c.get.ensures, c.requires.3, day-read _ s) at c.write_account.ensures))
+    (request-posts _ s _ c.requires.1 q _ (rw (c.request_close-pending.ensures, c.day.ensures, c.requires.3, day-read _ s) at c.write_account.ensures))

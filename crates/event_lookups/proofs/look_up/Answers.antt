@@ -5,19 +5,19 @@ use Rattle.posting.proofs.BookLaws.{used-room}
 use Rattle.event_lookups.proofs.LookupLaws.{looks-up-all}
 use Rattle.event_lookups.proofs.look_up.Goals as goal
 
-pub get-requires : goal.get-requires
-get-requires c = omega (arith, header-length _ c.requires)
+pub used-requires : goal.used-requires
+used-requires c = omega (arith, header-length _ c.requires)
 
 pub passage_found-requires : goal.passage_found-requires
-passage_found-requires c = rw c.get.ensures (used-room _ c.requires)
+passage_found-requires c = rw c.used.ensures (used-room _ c.requires)
 
 pub returns-then-e-eq-EVENT_TOLL : goal.returns-then-e-eq-EVENT_TOLL
 returns-then-e-eq-EVENT_TOLL c =
-    looks-up-all _ _ _ _ (λ k. rw (sound-rows _ c.requires, ← c.get.ensures) c.passage_found.ensures)
+    looks-up-all _ _ _ _ (λ k. rw (sound-rows _ c.requires, ← c.used.ensures) c.passage_found.ensures)
     (λ k. absurd (omega (arith, c.if-e-eq-EVENT_TOLL.true)))
 
 pub returns-then-e-eq-EVENT_TOPUP_RESULT : goal.returns-then-e-eq-EVENT_TOPUP_RESULT
-returns-then-e-eq-EVENT_TOPUP_RESULT c = looks-up-all _ _ _ _ (λ k. absurd (c.if-e-eq-EVENT_TOLL.false k)) (λ k. c.topup_due.ensures)
+returns-then-e-eq-EVENT_TOPUP_RESULT c = looks-up-all _ _ _ _ (λ k. absurd (c.if-e-eq-EVENT_TOLL.false k)) (λ k. rw c.read.ensures.tables at c.topup_due.ensures)
 
 pub returns-else-e-eq-EVENT_TOPUP_RESULT : goal.returns-else-e-eq-EVENT_TOPUP_RESULT
 returns-else-e-eq-EVENT_TOPUP_RESULT c = looks-up-all _ _ _ _ (λ k. absurd (c.if-e-eq-EVENT_TOLL.false k)) (λ k. absurd (c.if-e-eq-EVENT_TOPUP_RESULT.false k))

@@ -1,8 +1,6 @@
 -- `passage_found` meets its contract: no row passed has the passage number.
-use Prim.Native.Nat.{◌-◌}
 use native.Mathlib.Omega.{arith}
 use mathlib.Core.Path.{◌≡◌, sym, ◌∙◌}
-use mathlib.Core.Bool.{false}
 use Rattle.records.specs.Encoding.{row_at}
 use Rattle.rules.specs.Rows.{Row}
 use Rattle.event_lookups.proofs.PassageLaws.{other-kind, other-passage, passage-found, passage-passed, passage-absent}

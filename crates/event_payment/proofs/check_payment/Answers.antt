@@ -12,17 +12,15 @@ pub returns-then-e-x : goal.returns-then-e-x
 unfolding first
 returns-then-e-x c = answer-by _ _ c.requires.1 c.requires.2 true _ (rw (← c.requires.3) c.if-e-x.true) refl
 
-pub get-requires : goal.get-requires
-get-requires c = omega (arith, header-length _ c.requires.0)
+pub used-requires : goal.used-requires
+used-requires c = omega (arith, header-length _ c.requires.0)
 
-pub returns-then-journal-get : goal.returns-then-journal-get
+pub returns-then-t-used : goal.returns-then-t-used
 unfolding first
-returns-then-journal-get c =
-    let u = c.get.ensures in
-    answer-by _ _ c.requires.1 c.requires.2 false true (rw (← c.requires.3) c.if-e-x.false) (rows-lack _ c.requires.0 1 (omega (arith, c.if-journal-get.true)))
+returns-then-t-used c =
+    answer-by _ _ c.requires.1 c.requires.2 false true (rw (← c.requires.3) c.if-e-x.false) (rows-lack _ c.requires.0 1 (omega (arith, c.used.ensures, c.if-t-used.true)))
 
 pub returns : goal.returns
 unfolding first
 returns c =
-    let u = c.get.ensures in
-    answer-by _ _ c.requires.1 c.requires.2 false false (rw (← c.requires.3) c.if-e-x.false) (rows-suffice _ c.requires.0 1 (omega (arith, c.if-journal-get.false)))
+    answer-by _ _ c.requires.1 c.requires.2 false false (rw (← c.requires.3) c.if-e-x.false) (rows-suffice _ c.requires.0 1 (omega (arith, c.used.ensures, c.if-t-used.false)))

@@ -2,20 +2,19 @@
 use Rattle.std.proofs.Common.{rules}
 use Rattle.std.specs.Prelude.{◌≡◌, Err}
 use native.Mathlib.Omega.{arith}
-use mathlib.Core.Path.{sym, ◌∙◌}
 use Rattle.rules.proofs.TableLaws.{header-length}
 use Rattle.posting.proofs.BookLaws.{used-small}
 use Rattle.posting_laws.proofs.AddedLaws.{posts-refused}
 use Rattle.event_return.proofs.ReturnLaws.{charge-le, return-counts, return-marks, marked-read, amount-read, reversal-read, reversal-storable, reversal-room, fee-read, fee-storable, fee-room, return-settles, return-begins, return-posts}
 use Rattle.event_return.proofs.return_check.Goals as goal
 
-pub returns-in_err-check_return : goal.returns-in_err-check_return
-returns-in_err-check_return c =
+pub returns-in_err-check_return-clause-posts : goal.returns-in_err-check_return-clause-posts
+returns-in_err-check_return-clause-posts c =
     let q : c.from_residual.result ≡ Err c.in_err-check_return.field-0.0 = search rules in
     rw q (posts-refused _ c.requires.0 _ _ c.in_err-check_return.ensures)
 
-pub get-used-requires : goal.get-used-requires
-get-used-requires c = omega (arith, header-length _ c.requires.0)
+pub used-used-requires : goal.used-used-requires
+used-used-requires c = omega (arith, header-length _ c.requires.0)
 
 pub count_return-requires : goal.count_return-requires
 count_return-requires c =
@@ -29,14 +28,14 @@ mark_returned-amount-requires c =
     let s = c.requires.0 in
     let k = c.requires.1 in
     let q = c.in_ok-check_return.ensures in
-    return-marks _ s _ k q _ c.get-used.ensures
+    return-marks _ s _ k q _ c.used-used.ensures
 
 pub add_naming-requires : goal.add_naming-requires
 add_naming-requires c =
     let s = c.requires.0 in
     let k = c.requires.1 in
     let q = c.in_ok-check_return.ensures in
-    let u = c.get-used.ensures in
+    let u = c.used-used.ensures in
     let d = c.mark_returned-amount.ensures in
     let m = marked-read _ s _ k q _ _ _ u d in
     (reversal-room _ s _ k q _ m, rw (reversal-read _ s _ k q _ (amount-read _ s _ k q _ _ _ u d)) (reversal-storable _ s _ k q))
@@ -53,7 +52,7 @@ add_naming-requires-2 c =
     let s = c.requires.0 in
     let k = c.requires.1 in
     let q = c.in_ok-check_return.ensures in
-    let u = c.get-used.ensures in
+    let u = c.used-used.ensures in
     let d = c.mark_returned-amount.ensures in
     let m = marked-read _ s _ k q _ _ _ u d in
     let w = rw (reversal-read _ s _ k q _ (amount-read _ s _ k q _ _ _ u d)) at c.add_naming.ensures in
@@ -61,7 +60,7 @@ add_naming-requires-2 c =
 
 pub overflow_add-used : goal.overflow_add-used
 overflow_add-used c =
-    let u = c.get-used.ensures in
+    let u = c.used-used.ensures in
     omega (arith, used-small _ c.requires.0)
 
 pub settle_from-requires : goal.settle_from-requires
@@ -69,7 +68,7 @@ settle_from-requires c =
     let s = c.requires.0 in
     let k = c.requires.1 in
     let q = c.in_ok-check_return.ensures in
-    let u = c.get-used.ensures in
+    let u = c.used-used.ensures in
     let d = c.mark_returned-amount.ensures in
     let m = marked-read _ s _ k q _ _ _ u d in
     let w = rw (reversal-read _ s _ k q _ (amount-read _ s _ k q _ _ _ u d)) at c.add_naming.ensures in
@@ -78,15 +77,15 @@ settle_from-requires c =
 
 pub posted-requires : goal.posted-requires
 posted-requires c =
-    let u = c.get-used.ensures in
+    let u = c.used-used.ensures in
     omega (arith, used-small _ c.requires.0)
 
-pub returns : goal.returns
-returns c =
+pub returns-clause-posts : goal.returns-clause-posts
+returns-clause-posts c =
     let s = c.requires.0 in
     let k = c.requires.1 in
     let q = c.in_ok-check_return.ensures in
-    let u = c.get-used.ensures in
+    let u = c.used-used.ensures in
     let d = c.mark_returned-amount.ensures in
     let m = marked-read _ s _ k q _ _ _ u d in
     let w = rw (reversal-read _ s _ k q _ (amount-read _ s _ k q _ _ _ u d)) at c.add_naming.ensures in

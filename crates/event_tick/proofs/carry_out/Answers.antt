@@ -5,60 +5,67 @@ use Rattle.posting.proofs.BookLaws.{day-small, used-small}
 use Rattle.event_tick.proofs.StepLaws.{unraised-midway, unraised-room, late-closing, end-header, end-longer, tick-posts}
 use Rattle.event_tick.proofs.carry_out.Goals as goal
 
-pub get-used-requires : goal.get-used-requires
-get-used-requires c = omega (arith, header-length _ c.requires.sound)
+pub used-used-requires : goal.used-used-requires
+used-used-requires c = omega (arith, header-length _ c.requires.sound)
 
 pub free_and_settle-requires : goal.free_and_settle-requires
 free_and_settle-requires c = record { sound = c.requires.sound; told = c.requires.plan.ending }
 
-pub get-requires : goal.get-requires
-get-requires c = omega (arith, header-length _ c.requires.sound)
+pub day-today-requires : goal.day-today-requires
+day-today-requires c = rw c.free_and_settle.ensures.header (omega (arith, header-length _ c.requires.sound))
 
-pub overflow_add-get : goal.overflow_add-get
-overflow_add-get c = omega (arith, c.get.ensures, day-small _ c.requires.sound)
+pub overflow_add-today : goal.overflow_add-today
+overflow_add-today c =
+    let d = rw c.free_and_settle.ensures.header at c.day-today.ensures in
+    omega (arith, d, day-small _ c.requires.sound)
 
 pub put-requires : goal.put-requires
 put-requires c =
     let s = c.requires.sound in
-    (omega (arith, header-length _ s), omega (arith, c.get.ensures, day-small _ s))
+    let h = c.free_and_settle.ensures.header in
+    let d = rw h at c.day-today.ensures in
+    (rw h (omega (arith, header-length _ s)), omega (arith, d, day-small _ s))
 
 pub raise_tolls-raised-requires : goal.raise_tolls-raised-requires
 raise_tolls-raised-requires c =
     let a = c.requires in
-    let d = c.free_and_settle.ensures in
-    let h = rw c.get.ensures at c.put.ensures in
-    (rw h (unraised-midway _ a.sound _ a.kind a.taken _ d), rw h (unraised-room _ a.sound _ a.kind a.taken _ d))
+    let f = c.free_and_settle.ensures in
+    let h = rw (c.day-today.ensures, f.header) at c.put.ensures in
+    (rw (h, f.accounts) (unraised-midway _ a.sound _ a.kind a.taken _ f.rows), rw (h, f.accounts) (unraised-room _ a.sound _ a.kind a.taken _ f.rows))
 
 pub close_accounts-requires : goal.close_accounts-requires
 close_accounts-requires c =
     let a = c.requires in
-    let d = c.free_and_settle.ensures in
-    let h = rw c.get.ensures at c.put.ensures in
-    let w = rw h at c.raise_tolls-raised.ensures.1 in
-    late-closing _ a.sound _ a.kind a.taken _ d _ w _ a.plan
+    let f = c.free_and_settle.ensures in
+    let h = rw (c.day-today.ensures, f.header) at c.put.ensures in
+    let w = rw (h, f.accounts) at c.raise_tolls-raised.ensures.written in
+    late-closing _ a.sound _ a.kind a.taken _ f.rows _ w _ a.plan
 
-pub get-requires-2 : goal.get-requires-2
-get-requires-2 c =
+pub used-requires : goal.used-requires
+used-requires c =
     let a = c.requires in
-    let h = rw c.get.ensures at c.put.ensures in
-    let w = rw h at c.raise_tolls-raised.ensures.1 in
-    omega (arith, end-header _ a.sound _ a.kind a.taken _ c.free_and_settle.ensures _ w _ c.close_accounts.ensures)
+    let f = c.free_and_settle.ensures in
+    let h = rw (c.day-today.ensures, f.header) at c.put.ensures in
+    let w = rw (h, f.accounts) at c.raise_tolls-raised.ensures.written in
+    omega (arith, end-header _ a.sound _ a.kind a.taken _ f.rows _ w _ c.close_accounts.ensures.written)
 
-pub overflow_sub-get : goal.overflow_sub-get
-overflow_sub-get c =
+pub overflow_sub-used : goal.overflow_sub-used
+overflow_sub-used c =
     let a = c.requires in
-    let h = rw c.get.ensures at c.put.ensures in
-    let w = rw h at c.raise_tolls-raised.ensures.1 in
-    rw (c.get-used.ensures, c.get-2.ensures) (end-longer _ a.sound _ a.kind a.taken _ c.free_and_settle.ensures _ w _ c.close_accounts.ensures)
+    let f = c.free_and_settle.ensures in
+    let h = rw (c.day-today.ensures, f.header) at c.put.ensures in
+    let w = rw (h, f.accounts) at c.raise_tolls-raised.ensures.written in
+    rw (c.used-used.ensures, c.used.ensures) (end-longer _ a.sound _ a.kind a.taken _ f.rows _ w _ c.close_accounts.ensures.written)
 
 pub posted-requires : goal.posted-requires
 posted-requires c =
-    omega (arith, c.get-used.ensures, used-small _ c.requires.sound)
+    omega (arith, c.used-used.ensures, used-small _ c.requires.sound)
 
-pub returns : goal.returns
-returns c =
+pub returns-clause-posts : goal.returns-clause-posts
+returns-clause-posts c =
     let a = c.requires in
-    let h = rw c.get.ensures at c.put.ensures in
-    let w = rw h at c.raise_tolls-raised.ensures.1 in
-    rw (c.posted.ensures, c.get-used.ensures, c.get-2.ensures)
-    (tick-posts _ a.sound _ a.kind a.taken _ c.free_and_settle.ensures _ w _ c.close_accounts.ensures _ (rw h at c.raise_tolls-raised.ensures.0))
+    let f = c.free_and_settle.ensures in
+    let h = rw (c.day-today.ensures, f.header) at c.put.ensures in
+    let w = rw (h, f.accounts) at c.raise_tolls-raised.ensures.written in
+    rw (c.posted.ensures, c.used-used.ensures, c.used.ensures)
+    (tick-posts _ a.sound _ a.kind a.taken _ f.rows _ w _ c.close_accounts.ensures.written _ (rw (h, f.accounts) at c.raise_tolls-raised.ensures.raised))

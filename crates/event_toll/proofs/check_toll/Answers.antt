@@ -17,11 +17,11 @@ use Rattle.event_toll.proofs.check_toll.Goals.{In-Some}
 classed : (c : In-Some) → class c.args.e.c c.args.e.d is 0 ≡ false
 classed c = rw (← c.in-Some.ensures) (class_number-not_0 c.in-Some.class)
 
-pub get-today-requires : goal.get-today-requires
-get-today-requires c = omega (arith, header-length _ c.requires.0)
+pub day-today-requires : goal.day-today-requires
+day-today-requires c = omega (arith, header-length _ c.requires.0)
 
-pub get-used-requires : goal.get-used-requires
-get-used-requires c = omega (arith, header-length _ c.requires.0)
+pub used-used-requires : goal.used-used-requires
+used-used-requires c = omega (arith, header-length _ c.requires.0)
 
 pub returns-in_default-clause-number : goal.returns-in_default-clause-number
 unfolding first
@@ -36,26 +36,26 @@ pub returns-then-today-e-clause-number : goal.returns-then-today-e-clause-number
 unfolding first
 returns-then-today-e-clause-number c =
     answer-by _ _ c.requires.1 c.requires.3 false true _ _ (classed (goal.at.returns-then-today-e-clause-number c).In-Some)
-    (rw (← day-read _ c.requires.0, ← c.get-today.ensures) c.if-today-e.true) refl refl
+    (rw (← day-read _ c.requires.0, ← c.day-today.ensures) c.if-today-e.true) refl refl
 
 pub returns-then-k-clause-number : goal.returns-then-k-clause-number
 unfolding first
 returns-then-k-clause-number c =
     answer-by _ _ c.requires.1 c.requires.3 false false true _ (classed (goal.at.returns-then-k-clause-number c).In-Some)
-    (rw (← day-read _ c.requires.0, ← c.get-today.ensures) c.if-today-e.false) (sym (c.requires.2.duplicate c.requires.1) ∙ c.if-k.true) refl
+    (rw (← day-read _ c.requires.0, ← c.day-today.ensures) c.if-today-e.false) (sym (c.requires.2.duplicate c.requires.1) ∙ c.if-k.true) refl
 
-pub returns-then-journal-used-clause-number : goal.returns-then-journal-used-clause-number
+pub returns-then-t-used-clause-number : goal.returns-then-t-used-clause-number
 unfolding first
-returns-then-journal-used-clause-number c =
-    let u = c.get-used.ensures in
-    answer-by _ _ c.requires.1 c.requires.3 false false false true (classed (goal.at.returns-then-journal-used-clause-number c).In-Some)
-    (rw (← day-read _ c.requires.0, ← c.get-today.ensures) c.if-today-e.false) (sym (c.requires.2.duplicate c.requires.1) ∙ c.if-k.false)
-    (rows-lack _ c.requires.0 1 (omega (arith, c.if-journal-used.true)))
+returns-then-t-used-clause-number c =
+    let u = c.used-used.ensures in
+    answer-by _ _ c.requires.1 c.requires.3 false false false true (classed (goal.at.returns-then-t-used-clause-number c).In-Some)
+    (rw (← day-read _ c.requires.0, ← c.day-today.ensures) c.if-today-e.false) (sym (c.requires.2.duplicate c.requires.1) ∙ c.if-k.false)
+    (rows-lack _ c.requires.0 1 (omega (arith, c.if-t-used.true)))
 
 pub returns-clause-number : goal.returns-clause-number
 unfolding first
 returns-clause-number c =
-    let u = c.get-used.ensures in
+    let u = c.used-used.ensures in
     answer-by _ _ c.requires.1 c.requires.3 false false false false (classed (goal.at.returns-clause-number c).In-Some)
-    (rw (← day-read _ c.requires.0, ← c.get-today.ensures) c.if-today-e.false) (sym (c.requires.2.duplicate c.requires.1) ∙ c.if-k.false)
-    (rows-suffice _ c.requires.0 1 (omega (arith, c.if-journal-used.false)))
+    (rw (← day-read _ c.requires.0, ← c.day-today.ensures) c.if-today-e.false) (sym (c.requires.2.duplicate c.requires.1) ∙ c.if-k.false)
+    (rows-suffice _ c.requires.0 1 (omega (arith, c.if-t-used.false)))

@@ -13,17 +13,17 @@ unfolding first
 returns-then-not-k c =
     result_by _ c.requires.0 _ c.requires.1 c.requires.3 false _ (sym (c.requires.2.due c.requires.1) ∙ not-true _ c.if-not-k.true) refl
 
-pub get-requires : goal.get-requires
-get-requires c = omega (arith, header-length _ c.requires.0)
+pub used-requires : goal.used-requires
+used-requires c = omega (arith, header-length _ c.requires.0)
 
-pub returns-then-e-journal : goal.returns-then-e-journal
+pub returns-then-e-t : goal.returns-then-e-t
 unfolding first
-returns-then-e-journal c =
+returns-then-e-t c =
     result_by _ c.requires.0 _ c.requires.1 c.requires.3 true true (sym (c.requires.2.due c.requires.1) ∙ not-false _ c.if-not-k.false)
-    (rw (no-row-left _ c.requires.0 _ refl, ← c.get.ensures) c.if-e-journal.true)
+    (rw (no-row-left _ c.requires.0 _ refl, ← c.used.ensures) c.if-e-t.true)
 
 pub returns : goal.returns
 unfolding first
 returns c =
     result_by _ c.requires.0 _ c.requires.1 c.requires.3 true false (sym (c.requires.2.due c.requires.1) ∙ not-false _ c.if-not-k.false)
-    (rw (no-row-left _ c.requires.0 _ refl, ← c.get.ensures) c.if-e-journal.false)
+    (rw (no-row-left _ c.requires.0 _ refl, ← c.used.ensures) c.if-e-t.false)

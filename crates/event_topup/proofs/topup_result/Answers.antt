@@ -2,7 +2,6 @@
 use Rattle.std.proofs.Common.{rules}
 use Rattle.std.specs.Prelude.{◌≡◌, Err}
 use native.Mathlib.Omega.{arith}
-use mathlib.Core.Path.{sym, ◌∙◌}
 use Rattle.rules.proofs.TableLaws.{header-length}
 use Rattle.posting.proofs.BookLaws.{day-read, used-small}
 use Rattle.posting_laws.proofs.AddedLaws.{posts-refused}
@@ -10,8 +9,8 @@ use Rattle.posting_laws.proofs.AccountEventLaws.{named-inside, named_in}
 use Rattle.event_topup.proofs.DeclinedLaws.{declined-storable, declined-posts}
 use Rattle.event_topup.proofs.topup_result.Goals as goal
 
-pub returns-in_err-check_result : goal.returns-in_err-check_result
-returns-in_err-check_result c =
+pub returns-in_err-check_result-clause-posts : goal.returns-in_err-check_result-clause-posts
+returns-in_err-check_result-clause-posts c =
     let q : c.from_residual.result ≡ Err c.in_err-check_result.field-0.0 = search rules in
     rw q (posts-refused _ c.requires.0 _ _ c.in_err-check_result.ensures)
 
@@ -19,8 +18,8 @@ pub pay_topup-requires : goal.pay_topup-requires
 pay_topup-requires c =
     (record { sound = c.requires.0; kind = c.requires.1; accepted = c.in_ok-check_result.ensures; paid = c.if-e-eq1.true }, c.requires.2, c.requires.4)
 
-pub get-requires : goal.get-requires
-get-requires c = omega (arith, header-length _ c.requires.0)
+pub day-requires : goal.day-requires
+day-requires c = omega (arith, header-length _ c.requires.0)
 
 pub overflow_sub-e : goal.overflow_sub-e
 overflow_sub-e c =
@@ -30,20 +29,20 @@ pub write_account-requires : goal.write_account-requires
 write_account-requires c =
     let s = c.requires.0 in (
       named_in _ s _ (rw c.requires.1) (c.in_ok-check_result.ensures),
-      rw (c.decline-declined.ensures, c.get.ensures, c.requires.4, day-read _ s) (declined-storable _ s c.args.e),
+      rw (c.decline-declined.ensures, c.day.ensures, c.requires.4, day-read _ s) (declined-storable _ s c.args.e),
     )
 
-pub get-requires-2 : goal.get-requires-2
-get-requires-2 c = omega (arith, header-length _ c.requires.0)
+pub used-requires : goal.used-requires
+used-requires c = omega (arith, header-length _ c.requires.0)
 
 pub posted-requires : goal.posted-requires
 posted-requires c =
-    let u = c.get-2.ensures in
+    let u = c.used.ensures in
     omega (arith, used-small _ c.requires.0)
 
-pub returns : goal.returns
-returns c =
+pub returns-clause-posts : goal.returns-clause-posts
+returns-clause-posts c =
     let s = c.requires.0 in
-    let changed = rw (c.decline-declined.ensures, c.get.ensures, c.requires.4, day-read _ s) at c.write_account.ensures in
+    let changed = rw (c.decline-declined.ensures, c.day.ensures, c.requires.4, day-read _ s) at c.write_account.ensures in
     rw (c.posted.ensures, c.removed_by_decline.ensures, c.requires.4)
     (declined-posts _ s _ c.requires.1 (c.in_ok-check_result.ensures) c.if-e-eq1.false _ changed)

@@ -7,24 +7,24 @@ use Rattle.listing_rules.specs.Texts.{bytes_of, line}
 use Rattle.listing_book.proofs.ListedLaws.{sound-dated, book-listed}
 use Rattle.listing_book.proofs.write_book.Goals as goal
 
-pub get-used-requires : goal.get-used-requires
-get-used-requires c = omega (arith, header-length _ c.requires.sound)
+pub used-used-requires : goal.used-used-requires
+used-used-requires c = omega (arith, header-length _ c.requires.sound)
 
 pub write_rows-requires : goal.write_rows-requires
 write_rows-requires c =
-    let t = tables_at c.args.header.now c.args.accounts.now c.args.journal.now in
-    let g = c.get-used.ensures in
+    let t = tables_at c.args.t.now.header.now c.args.t.now.accounts.now c.args.t.now.journal.now in
+    let g = c.used-used.ensures in
     (omega (arith, g, c.requires.room), rw g (sound-dated t c.requires.sound))
 
 pub write_accounts-requires : goal.write_accounts-requires
 write_accounts-requires c =
-    let t = tables_at c.args.header.now c.args.accounts.now c.args.journal.now in
-    let g = c.get-used.ensures in
+    let t = tables_at c.args.t.now.header.now c.args.t.now.accounts.now c.args.t.now.journal.now in
+    let g = c.used-used.ensures in
     (omega (arith, g, c.requires.room), omega (arith, accounts-length t c.requires.sound), rw g (journal-summable t c.requires.sound))
 
 pub returns : goal.returns
 unfolding line bytes_of
 returns c =
     let a = c.args in
-    book-listed (tables_at a.header.now a.accounts.now a.journal.now) c.requires.sound _ c.get-used.ensures _ _ _ _ _
+    book-listed (tables_at a.t.now.header.now a.t.now.accounts.now a.t.now.journal.now) c.requires.sound _ c.used-used.ensures _ _ _ _ _
     c.extend_from_slice.ensures.text c.write_rows.ensures.text c.extend_from_slice-2.ensures.text c.write_accounts.ensures.text

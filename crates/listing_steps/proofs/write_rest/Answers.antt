@@ -3,21 +3,21 @@ use Rattle.std.proofs.Common.{arith, rules, sym, ◌∙◌}
 use Rattle.listing_steps.proofs.StepLaws.{rest-none, rest-bad, rest-ready, rest-good}
 use Rattle.listing_steps.proofs.write_rest.Goals as goal
 
-pub returns-then-is_empty : goal.returns-then-is_empty
-returns-then-is_empty c = rw (← rest-none c.args.lines _ c.args.rest.now (search rules)) c.write_end.ensures
+pub returns-then-is_empty-clause-text : goal.returns-then-is_empty-clause-text
+returns-then-is_empty-clause-text c = rw (← rest-none c.args.lines _ c.args.rest.now (search rules)) c.write_end.ensures
 
 pub write_end-requires-then-is_ok : goal.write_end-requires-then-is_ok
 write_end-requires-then-is_ok c =
-    let w = c.take_line.ensures in
+    let w = c.take_line.ensures.taken in
     let good = sym c.is_ok.ensures.value ∙ c.if-is_ok.true in
     (rest-ready c.args.lines _ _ c.args.rest.now _ _ _ w c.requires.1 (search rules) good, omega (arith, w.short))
 
-pub returns-then-is_ok : goal.returns-then-is_ok
-returns-then-is_ok c =
+pub returns-then-is_ok-clause-text : goal.returns-then-is_ok-clause-text
+returns-then-is_ok-clause-text c =
     let good = sym c.is_ok.ensures.value ∙ c.if-is_ok.true in
-    rest-good c.args.lines _ _ c.args.rest.now _ _ _ c.take_line.ensures c.requires.1 (search rules) good _ c.write_end-then-is_ok.ensures
+    rest-good c.args.lines _ _ c.args.rest.now _ _ _ c.take_line.ensures.taken c.requires.1 (search rules) good _ c.write_end-then-is_ok.ensures
 
-pub returns-else-is_ok : goal.returns-else-is_ok
-returns-else-is_ok c =
+pub returns-else-is_ok-clause-text : goal.returns-else-is_ok-clause-text
+returns-else-is_ok-clause-text c =
     let bad = sym c.is_ok.ensures.value ∙ c.if-is_ok.false in
-    rest-bad c.args.lines _ _ c.args.rest.now _ _ _ c.take_line.ensures c.requires.1 (search rules) bad
+    rest-bad c.args.lines _ _ c.args.rest.now _ _ _ c.take_line.ensures.taken c.requires.1 (search rules) bad

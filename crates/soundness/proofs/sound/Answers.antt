@@ -11,13 +11,13 @@ use Rattle.soundness.proofs.sound.Goals as goal
 use Rattle.soundness.proofs.sound.Goals.{After-get, Else-not-lengths_fit}
 
 -- what the passed tests have shown
-lengths : (e : Else-not-lengths_fit) → Lengths e.args.header.now e.args.accounts.now e.args.journal.now
+lengths : (e : Else-not-lengths_fit) → Lengths e.args.t.header.now e.args.t.accounts.now e.args.t.journal.now
 lengths e = lengths-known _ _ _ (sym e.lengths_fit.ensures ∙ not-false _ e.if-not-lengths_fit.false-raw)
 
 fit : (g : After-get)
-    → Fit g.args.header.now
-    g.args.accounts.now
-    g.args.journal.now
+    → Fit g.args.t.header.now
+    g.args.t.accounts.now
+    g.args.t.journal.now
     g.get-used.result
     g.get-today.result
     g.get.result
@@ -38,12 +38,12 @@ pub returns-then-not-lengths_fit : goal.returns-then-not-lengths_fit
 returns-then-not-lengths_fit c = sym (unfit-lengths _ (sym c.lengths_fit.ensures ∙ not-true _ c.if-not-lengths_fit.true-raw))
 
 pub get-today-requires : goal.get-today-requires
-get-today-requires c = omega (arith, (lengths c).words)
+get-today-requires c = omega (arith, (lengths (goal.at.get-today-requires c).Else-not-lengths_fit).words)
 
 pub returns-then-not-day_fits : goal.returns-then-not-day_fits
 unfolding book_of
 returns-then-not-day_fits c =
-    sym (unfit-day (tables_at c.args.header.now c.args.accounts.now c.args.journal.now) (ap day_fits (sym c.get-today.ensures) ∙ sym c.day_fits.ensures ∙ not-true _ c.if-not-day_fits.true-raw))
+    sym (unfit-day (tables_at c.args.t.header.now c.args.t.accounts.now c.args.t.journal.now) (ap day_fits (sym c.get-today.ensures) ∙ sym c.day_fits.ensures ∙ not-true _ c.if-not-day_fits.true-raw))
 
 pub schedule_fits-requires : goal.schedule_fits-requires
 schedule_fits-requires c = omega (arith, (lengths (goal.at.schedule_fits-requires c).Else-not-lengths_fit).words)
@@ -51,14 +51,14 @@ schedule_fits-requires c = omega (arith, (lengths (goal.at.schedule_fits-require
 pub returns-then-not-schedule_fits : goal.returns-then-not-schedule_fits
 unfolding book_of
 returns-then-not-schedule_fits c =
-    sym (unfit-schedule (tables_at c.args.header.now c.args.accounts.now c.args.journal.now) (sym c.schedule_fits.ensures ∙ not-true _ c.if-not-schedule_fits.true-raw))
+    sym (unfit-schedule (tables_at c.args.t.header.now c.args.t.accounts.now c.args.t.journal.now) (sym c.schedule_fits.ensures ∙ not-true _ c.if-not-schedule_fits.true-raw))
 
 pub lists_stand-requires : goal.lists_stand-requires
 lists_stand-requires c = (lengths (goal.at.lists_stand-requires c).Else-not-lengths_fit).words
 
 pub returns-then-not-lists_stand : goal.returns-then-not-lists_stand
 returns-then-not-lists_stand c =
-    sym (unfit-lists (tables_at c.args.header.now c.args.accounts.now c.args.journal.now) (sym c.lists_stand.ensures ∙ not-true _ c.if-not-lists_stand.true-raw))
+    sym (unfit-lists (tables_at c.args.t.header.now c.args.t.accounts.now c.args.t.journal.now) (sym c.lists_stand.ensures ∙ not-true _ c.if-not-lists_stand.true-raw))
 
 pub get-used-requires : goal.get-used-requires
 get-used-requires c = omega (arith, (lengths (goal.at.get-used-requires c).Else-not-lengths_fit).words)
@@ -66,7 +66,7 @@ get-used-requires c = omega (arith, (lengths (goal.at.get-used-requires c).Else-
 pub returns-then-used-room : goal.returns-then-used-room
 unfolding used_fits
 returns-then-used-room c =
-    let t = tables_at c.args.header.now c.args.accounts.now c.args.journal.now in
+    let t = tables_at c.args.t.header.now c.args.t.accounts.now c.args.t.journal.now in
     sym (unfit-used t (lt-leb (rows_used t) (room_in t) (omega (arith, c.get-used.ensures))))
 
 pub later_rows_zero-requires : goal.later_rows_zero-requires
@@ -77,14 +77,14 @@ later_rows_zero-requires c =
 pub returns-then-not-later_rows_zero : goal.returns-then-not-later_rows_zero
 unfolding later_rows_zero
 returns-then-not-later_rows_zero c =
-    sym (unfit-later (tables_at c.args.header.now c.args.accounts.now c.args.journal.now) (unfold rest_zero in (rw c.get-used.ensures at (sym c.later_rows_zero.ensures ∙ not-true _ c.if-not-later_rows_zero.true-raw))))
+    sym (unfit-later (tables_at c.args.t.header.now c.args.t.accounts.now c.args.t.journal.now) (unfold rest_zero in (rw c.get-used.ensures at (sym c.later_rows_zero.ensures ∙ not-true _ c.if-not-later_rows_zero.true-raw))))
 
 pub get-requires : goal.get-requires
 get-requires c = omega (arith, (lengths (goal.at.get-requires c).Else-not-lengths_fit).words)
 
 pub invariant_of-f : goal.invariant_of-f
-invariant_of-f c = record { bounds = fit-bounds c.args.header.now c.args.accounts.now c.args.journal.now _ _ _ (fit c) }
+invariant_of-f c = record { bounds = fit-bounds c.args.t.header.now c.args.t.accounts.now c.args.t.journal.now _ _ _ (fit c) }
 
 pub returns : goal.returns
 returns c =
-    c.book_passes.ensures ∙ fit-sound c.args.header.now c.args.accounts.now c.args.journal.now _ _ _ (fit (goal.at.returns c).After-get)
+    c.book_passes.ensures ∙ fit-sound c.args.t.header.now c.args.t.accounts.now c.args.t.journal.now _ _ _ (fit (goal.at.returns c).After-get)

@@ -7,33 +7,33 @@ use Rattle.tick_base.proofs.MidwayLaws.{sound-midway, midway-countable}
 use Rattle.tick_holds.proofs.HoldLaws.{sound-ending, mapped-journal, unraised-written, unraised-same}
 use Rattle.tick_holds.proofs.free_and_settle.Goals as goal
 
-pub returns-then-not-ending : goal.returns-then-not-ending
-returns-then-not-ending c = unraised-same _ _ c.requires (not-true _ c.if-not-ending.true-raw)
+pub returns-then-not-ending-clause-rows : goal.returns-then-not-ending-clause-rows
+returns-then-not-ending-clause-rows c = unraised-same _ _ c.requires (not-true _ c.if-not-ending.true-raw)
 
-pub get-used-requires : goal.get-used-requires
-get-used-requires c = omega (arith, header-length _ c.requires.sound)
+pub used-used-requires : goal.used-used-requires
+used-used-requires c = omega (arith, header-length _ c.requires.sound)
 
-pub get-today-requires : goal.get-today-requires
-get-today-requires c = omega (arith, header-length _ c.requires.sound)
+pub day-today-requires : goal.day-today-requires
+day-today-requires c = omega (arith, header-length _ c.requires.sound)
 
 pub overflow_add-today : goal.overflow_add-today
-overflow_add-today c = omega (arith, c.get-today.ensures, day-small _ c.requires.sound)
+overflow_add-today c = omega (arith, c.day-today.ensures, day-small _ c.requires.sound)
 
 pub count_ends-ends-requires : goal.count_ends-ends-requires
-count_ends-ends-requires c = rw c.get-used.ensures (midway-countable _ _ (sound-midway _ c.requires.sound))
+count_ends-ends-requires c = rw (c.used-used.ensures, c.read.ensures.journal) (midway-countable _ _ (sound-midway _ c.requires.sound))
 
 pub end_holds-requires : goal.end_holds-requires
-end_holds-requires c = rw (c.get-used.ensures, c.get-today.ensures) (sound-ending _ c.requires.sound)
+end_holds-requires c = rw (c.used-used.ensures, c.day-today.ensures) (sound-ending _ c.requires.sound)
 
 pub settle_freed-requires : goal.settle_freed-requires
 settle_freed-requires c =
     let s = c.requires.sound in
-    let u = c.get-used.ensures in
+    let u = c.used-used.ensures in
     (rw u (mapped-journal _ _ _ _ (journal-settles _ s) (rw u at c.end_holds.ensures)), count_small _ s)
 
-pub returns : goal.returns
-returns c =
+pub returns-clause-rows : goal.returns-clause-rows
+returns-clause-rows c =
     let s = c.requires.sound in
-    let u = c.get-used.ensures in
-    let d = c.get-today.ensures in
-    unraised-written _ s _ _ _ (rw (u, d) at c.count_ends-ends.ensures) (rw (u, d) at c.end_holds.ensures) (rw u at c.settle_freed.ensures) (count_small _ s)
+    let u = c.used-used.ensures in
+    let d = c.day-today.ensures in
+    unraised-written _ s _ _ _ (rw (u, d, c.read.ensures.journal) at c.count_ends-ends.ensures) (rw (u, d) at c.end_holds.ensures) (rw u at c.settle_freed.ensures) (count_small _ s)

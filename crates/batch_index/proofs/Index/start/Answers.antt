@@ -4,15 +4,15 @@ use Rattle.rules.proofs.TableLaws.{header-length}
 use Rattle.batch_index.proofs.IndexLaws.{empty-trees, sound-indexable, index-made}
 use Rattle.batch_index.proofs.Index.start.Goals as goal
 
-pub get-used-requires : goal.get-used-requires
-get-used-requires c = omega (arith, header-length _ c.requires.0)
+pub used-used-requires : goal.used-used-requires
+used-used-requires c = omega (arith, header-length _ c.requires.0)
 
 pub index_passages-requires : goal.index_passages-requires
 index_passages-requires c =
-    (rw c.get-used.ensures (sound-indexable _ c.requires.0), omega arith, empty-trees _ _ c.requires.1)
+    (rw c.used-used.ensures (sound-indexable _ c.requires.0), omega arith, empty-trees _ _ c.requires.1)
 
 pub index_slots-requires : goal.index_slots-requires
-index_slots-requires c = rw c.get-used.ensures (sound-indexable _ c.requires.0).rows
+index_slots-requires c = rw c.used-used.ensures (sound-indexable _ c.requires.0).rows
 
 pub returns : goal.returns
-returns c = index-made _ _ _ c.get-used.ensures c.index_passages.ensures c.index_slots.ensures
+returns c = index-made _ _ _ c.used-used.ensures c.index_passages.ensures c.index_slots.ensures

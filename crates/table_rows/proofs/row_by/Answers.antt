@@ -1,6 +1,6 @@
 -- `row_by` meets its contract: ten words, read in the layout's order.
 use borrow.Author.Rules.{rules}
-use Rattle.plain_rows.proofs.row_by.Goals as goal
+use Rattle.table_rows.proofs.row_by.Goals as goal
 
 pub returns : goal.returns
 returns g c =
