@@ -4,13 +4,13 @@ use Rattle.std.specs.Prelude.{◌≡◌, Err}
 use native.Mathlib.Omega.{arith}
 use mathlib.Core.Path.{refl}
 use Rattle.lent.proofs.LentLaws.{same-none, same-same}
-use Rattle.posting.specs.Posts.{tables_at}
 use Rattle.call_batch.proofs.BatchCallLaws.{Taken, taken, batch-refused, after_none, after-sound, after-room, after_more, after-all}
 use Rattle.call_batch.proofs.batch_call.Goals as goal
+use Rattle.lent.specs.Lent.{lent_mut}
 use Rattle.call_batch.proofs.batch_call.Goals.{In_ok-check_batch}
 
 -- a batch that is not refused
-run : (c : In_ok-check_batch) → Taken (tables_at c.args.t.now.header.now c.args.t.now.accounts.now c.args.t.now.journal.now) c.args.events.now c.args.answers.now
+run : (c : In_ok-check_batch) → Taken (lent_mut c.args.t.now) c.args.events.now c.args.answers.now
 run c = taken _ _ _ (c.in_ok-check_batch.ensures c.args.events.now refl)
 
 pub returns-in_err-check_batch-clause-gives : goal.returns-in_err-check_batch-clause-gives

@@ -11,29 +11,25 @@ use native.Mathlib.Omega.{arith}
 use mathlib.Core.Path.{◌≡◌, ap, ◌∙◌}
 use mathlib.Core.Bool.{true}
 use Rattle.records.specs.Encoding.{nat_of}
-use Rattle.rules.specs.Tables.{Tables, sound_tables}
-use Rattle.posting.specs.Posts.{tables_at}
+use Rattle.rules.specs.Tables.{sound_tables}
 use borrow.Author.Rules.{sfits_of}
 use Rattle.call_questions.proofs.balance.Goals as goal
-use Rattle.call_questions.proofs.balance.Goals.{After-natural-n, In_ok-check_question, Start}
+use Rattle.lent.specs.Lent.{lent}
+use Rattle.call_questions.proofs.balance.Goals.{After-natural-n, In_ok-check_question}
 
 -- the account's number
 numbered : (c : After-natural-n) → c.natural-n.result ≡ nat_of c.args.account
 numbered c = c.natural-n.ensures ∙ ap nat_of (to_z-of_z c.ranges.account)
 
--- the lent tables
-abbrev lent : Start → Tables
-lent s = tables_at s.args.t.header.now s.args.t.accounts.now s.args.t.journal.now
-
 -- a book that was not refused
-asked : (e : In_ok-check_question) → sound_tables (lent e.before.before.before.before) ≡ true
-asked e = asked-sound (lent e.before.before.before.before) e.natural-n.result e.in_ok-check_question.ensures
+asked : (e : In_ok-check_question) → sound_tables (lent e.before.before.before.before.args.t) ≡ true
+asked e = asked-sound (lent e.before.before.before.before.args.t) e.natural-n.result e.in_ok-check_question.ensures
 
 pub returns-in_err-check_question : goal.returns-in_err-check_question
 unfolding balance_call
 returns-in_err-check_question c =
     let q : c.from_residual.result ≡ Err c.in_err-check_question.field-0.0 = search rules in
-    rw q (question-refused book.balance (lent (goal.at.returns-in_err-check_question c).Start) _ _ (numbered (goal.at.returns-in_err-check_question c).After-natural-n) _ c.in_err-check_question.ensures)
+    rw q (question-refused book.balance (lent c.args.t) _ _ (numbered (goal.at.returns-in_err-check_question c).After-natural-n) _ c.in_err-check_question.ensures)
 
 pub get-used-requires : goal.get-used-requires
 get-used-requires c = omega (arith, header-length _ (asked (goal.at.get-used-requires c).In_ok-check_question))
@@ -43,11 +39,11 @@ sums_of-s-requires c = rw c.get-used.ensures (journal-summable _ (asked (goal.at
 
 pub minus-requires : goal.minus-requires
 minus-requires c =
-    let h = sums-small (lent (goal.at.minus-requires c).Start) (asked (goal.at.minus-requires c).In_ok-check_question) _ c.get-used.ensures _ _ c.sums_of-s.ensures in
+    let h = sums-small (lent c.args.t) (asked (goal.at.minus-requires c).In_ok-check_question) _ c.get-used.ensures _ _ c.sums_of-s.ensures in
     (omega arith, omega arith)
 
 pub returns : goal.returns
 unfolding balance_call
 returns c =
-    question-answered book.balance (lent (goal.at.returns c).Start) _ _ (numbered (goal.at.returns c).After-natural-n) c.in_ok-check_question.ensures _
-    (to_z-of_z {w = w64} (sfits_of c.minus.type_inv) ∙ c.minus.ensures ∙ balance-read (lent (goal.at.returns c).Start) (asked (goal.at.returns c).In_ok-check_question) _ c.get-used.ensures _ _ c.sums_of-s.ensures)
+    question-answered book.balance (lent c.args.t) _ _ (numbered (goal.at.returns c).After-natural-n) c.in_ok-check_question.ensures _
+    (to_z-of_z {w = w64} (sfits_of c.minus.type_inv) ∙ c.minus.ensures ∙ balance-read (lent c.args.t) (asked (goal.at.returns c).In_ok-check_question) _ c.get-used.ensures _ _ c.sums_of-s.ensures)

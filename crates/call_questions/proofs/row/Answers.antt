@@ -5,27 +5,23 @@ use native.Mathlib.Omega.{arith}
 use mathlib.Core.Path.{◌≡◌, refl, sym, ap, ◌∙◌}
 use mathlib.Core.Bool.{true, ◌&&◌}
 use Rattle.lists.specs.Tests.{◌from◌to◌}
-use Rattle.rules.specs.Tables.{Tables, rows_used, sound_tables}
-use Rattle.posting.specs.Posts.{tables_at}
+use Rattle.rules.specs.Tables.{rows_used, sound_tables}
 use mir.Facts.{to_z-of_z}
 use Rattle.records.specs.Encoding.{nat_of}
 use Rattle.call_questions.proofs.row.Goals as goal
-use Rattle.call_questions.proofs.row.Goals.{After-natural-n, Else-not-row_used, Start}
+use Rattle.lent.specs.Lent.{lent}
+use Rattle.call_questions.proofs.row.Goals.{After-natural-n, Else-not-row_used}
 
 -- the row's number
 numbered : (c : After-natural-n) → c.natural-n.result ≡ nat_of c.args.number
 numbered c = c.natural-n.ensures ∙ ap nat_of (to_z-of_z c.ranges.number)
 
--- the lent tables
-abbrev lent : Start → Tables
-lent s = tables_at s.args.t.header.now s.args.t.accounts.now s.args.t.journal.now
-
 -- a row that is used
-there : (e : Else-not-row_used) → sound_tables (lent e.before.before.before) && e.natural-n.result from 1 to rows_used (lent e.before.before.before) ≡ true
+there : (e : Else-not-row_used) → sound_tables (lent e.before.before.before.args.t) && e.natural-n.result from 1 to rows_used (lent e.before.before.before.args.t) ≡ true
 there e = sym e.row_used.ensures ∙ not-false _ e.if-not-row_used.false-raw
 
-inside : (e : Else-not-row_used) → Inside (lent e.before.before.before) e.natural-n.result
-inside e = row_inside (lent e.before.before.before) e.natural-n.result (there e)
+inside : (e : Else-not-row_used) → Inside (lent e.before.before.before.args.t) e.natural-n.result
+inside e = row_inside (lent e.before.before.before.args.t) e.natural-n.result (there e)
 
 pub returns-then-not-row_used : goal.returns-then-not-row_used
 returns-then-not-row_used c = no_row _ _ _ (numbered (goal.at.returns-then-not-row_used c).After-natural-n) (sym c.row_used.ensures ∙ not-true _ c.if-not-row_used.true-raw) _

@@ -3,8 +3,7 @@ use Rattle.call_questions.proofs.QuestionLaws.{asked-sound, question-refused, qu
 use Rattle.rules.specs.Book as book
 use Rattle.rules.specs.Calls.{topup_due_call}
 use Rattle.records.specs.Encoding.{nat_of}
-use Rattle.rules.specs.Tables.{Tables, sound_tables}
-use Rattle.posting.specs.Posts.{tables_at}
+use Rattle.rules.specs.Tables.{sound_tables}
 use mir.Facts.{to_z-of_z}
 use lib.IntN.{pos}
 use mathlib.Core.Bool.{true, cond}
@@ -12,19 +11,16 @@ use Rattle.std.proofs.Common.{rules}
 use Rattle.std.specs.Prelude.{Err}
 use mathlib.Core.Path.{◌≡◌, ap, ◌∙◌}
 use Rattle.call_questions.proofs.topup_due.Goals as goal
-use Rattle.call_questions.proofs.topup_due.Goals.{After-natural-n, In_ok-check_question, Start}
+use Rattle.lent.specs.Lent.{lent}
+use Rattle.call_questions.proofs.topup_due.Goals.{After-natural-n, In_ok-check_question}
 
 -- the account's number
 numbered : (c : After-natural-n) → c.natural-n.result ≡ nat_of c.args.account
 numbered c = c.natural-n.ensures ∙ ap nat_of (to_z-of_z c.ranges.account)
 
--- the lent tables
-abbrev lent : Start → Tables
-lent s = tables_at s.args.t.header.now s.args.t.accounts.now s.args.t.journal.now
-
 -- a book that was not refused
-asked : (e : In_ok-check_question) → sound_tables (lent e.before.before.before.before) ≡ true
-asked e = asked-sound (lent e.before.before.before.before) e.natural-n.result e.in_ok-check_question.ensures
+asked : (e : In_ok-check_question) → sound_tables (lent e.before.before.before.before.args.t) ≡ true
+asked e = asked-sound (lent e.before.before.before.before.args.t) e.natural-n.result e.in_ok-check_question.ensures
 
 pub returns-in_err-check_question : goal.returns-in_err-check_question
 unfolding topup_due_call

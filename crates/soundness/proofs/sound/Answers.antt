@@ -1,6 +1,6 @@
 -- `sound` meets its contract: the first test that fails decides, and behind the lengths and the header the rest is book_passes.
 use Rattle.soundness.proofs.SoundParts.{unfit-lengths, unfit-used, unfit-later, unfit-day, unfit-schedule, unfit-lists, Fit, fit-sound, fit-bounds}
-use Rattle.sound_header.specs.Clauses.{tables_at, rest_zero}
+use Rattle.sound_header.specs.Clauses.{rest_zero}
 use Rattle.sound_header.proofs.LengthLaws.{Lengths, lengths-known}
 use Rattle.rules.specs.Tables.{book_of, used_fits, later_rows_zero, rows_used, room_in}
 use Rattle.rules.specs.Opening.{day_fits}
@@ -8,6 +8,7 @@ use borrow.Author.Tests.{not-true, not-false, lt-leb}
 use mathlib.Core.Path.{sym, ap, ◌∙◌}
 use native.Mathlib.Omega.{arith}
 use Rattle.soundness.proofs.sound.Goals as goal
+use Rattle.lent.specs.Lent.{lent}
 use Rattle.soundness.proofs.sound.Goals.{After-get, Else-not-lengths_fit}
 
 -- what the passed tests have shown
@@ -43,7 +44,7 @@ get-today-requires c = omega (arith, (lengths (goal.at.get-today-requires c).Els
 pub returns-then-not-day_fits : goal.returns-then-not-day_fits
 unfolding book_of
 returns-then-not-day_fits c =
-    sym (unfit-day (tables_at c.args.t.header.now c.args.t.accounts.now c.args.t.journal.now) (ap day_fits (sym c.get-today.ensures) ∙ sym c.day_fits.ensures ∙ not-true _ c.if-not-day_fits.true-raw))
+    sym (unfit-day (lent c.args.t) (ap day_fits (sym c.get-today.ensures) ∙ sym c.day_fits.ensures ∙ not-true _ c.if-not-day_fits.true-raw))
 
 pub schedule_fits-requires : goal.schedule_fits-requires
 schedule_fits-requires c = omega (arith, (lengths (goal.at.schedule_fits-requires c).Else-not-lengths_fit).words)
@@ -51,14 +52,14 @@ schedule_fits-requires c = omega (arith, (lengths (goal.at.schedule_fits-require
 pub returns-then-not-schedule_fits : goal.returns-then-not-schedule_fits
 unfolding book_of
 returns-then-not-schedule_fits c =
-    sym (unfit-schedule (tables_at c.args.t.header.now c.args.t.accounts.now c.args.t.journal.now) (sym c.schedule_fits.ensures ∙ not-true _ c.if-not-schedule_fits.true-raw))
+    sym (unfit-schedule (lent c.args.t) (sym c.schedule_fits.ensures ∙ not-true _ c.if-not-schedule_fits.true-raw))
 
 pub lists_stand-requires : goal.lists_stand-requires
 lists_stand-requires c = (lengths (goal.at.lists_stand-requires c).Else-not-lengths_fit).words
 
 pub returns-then-not-lists_stand : goal.returns-then-not-lists_stand
 returns-then-not-lists_stand c =
-    sym (unfit-lists (tables_at c.args.t.header.now c.args.t.accounts.now c.args.t.journal.now) (sym c.lists_stand.ensures ∙ not-true _ c.if-not-lists_stand.true-raw))
+    sym (unfit-lists (lent c.args.t) (sym c.lists_stand.ensures ∙ not-true _ c.if-not-lists_stand.true-raw))
 
 pub get-used-requires : goal.get-used-requires
 get-used-requires c = omega (arith, (lengths (goal.at.get-used-requires c).Else-not-lengths_fit).words)
@@ -66,7 +67,7 @@ get-used-requires c = omega (arith, (lengths (goal.at.get-used-requires c).Else-
 pub returns-then-used-room : goal.returns-then-used-room
 unfolding used_fits
 returns-then-used-room c =
-    let t = tables_at c.args.t.header.now c.args.t.accounts.now c.args.t.journal.now in
+    let t = lent c.args.t in
     sym (unfit-used t (lt-leb (rows_used t) (room_in t) (omega (arith, c.get-used.ensures))))
 
 pub later_rows_zero-requires : goal.later_rows_zero-requires
@@ -77,7 +78,7 @@ later_rows_zero-requires c =
 pub returns-then-not-later_rows_zero : goal.returns-then-not-later_rows_zero
 unfolding later_rows_zero
 returns-then-not-later_rows_zero c =
-    sym (unfit-later (tables_at c.args.t.header.now c.args.t.accounts.now c.args.t.journal.now) (unfold rest_zero in (rw c.get-used.ensures at (sym c.later_rows_zero.ensures ∙ not-true _ c.if-not-later_rows_zero.true-raw))))
+    sym (unfit-later (lent c.args.t) (unfold rest_zero in (rw c.get-used.ensures at (sym c.later_rows_zero.ensures ∙ not-true _ c.if-not-later_rows_zero.true-raw))))
 
 pub get-requires : goal.get-requires
 get-requires c = omega (arith, (lengths (goal.at.get-requires c).Else-not-lengths_fit).words)
