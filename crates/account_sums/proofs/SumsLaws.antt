@@ -144,13 +144,3 @@ module _ (t : List ℤ) (used : ℕ) (c : Countable t used) where
 
   pub remaining-small : (k : ℕ) → k < used → (row_at t k).amount - (row_at t k).settled ≤ highest_refund
   remaining-small k h = omega (arith, c.amount k h)
-
-  -- a counted row is in its table, and its words can be read as plain numbers
-  pub account-plain : (k : ℕ) → k < used → RowIn t k × ((row_at t k).account < 2 ^ 63)
-  account-plain k h = let r = c.room in (omega arith, omega (arith, c.account k h))
-
-  pub settled_plain : (k : ℕ) → k < used → RowIn t k × ((row_at t k).settled < 2 ^ 63)
-  settled_plain k h = let r = c.room in (omega arith, omega (arith, settled-small k h))
-
-  pub amount-plain : (k : ℕ) → k < used → RowIn t k × ((row_at t k).amount < 2 ^ 63)
-  amount-plain k h = let r = c.room in (omega arith, omega (arith, c.amount k h))

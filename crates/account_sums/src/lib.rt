@@ -11,8 +11,9 @@ use records::limits::SLOT_COUNT;
 // A sum for each account number, from 0 on.
 pub const SLOTS: usize = SLOT_COUNT;
 
-// What an account's rows come to. An array of them has the sums of an account side by side, so that a row touches one place of memory.
-#[derive(Clone, Copy)]
+// What an account's rows come to, by default those of no rows. An array of them has the sums of an account side by side, so that a row
+// touches one place of memory.
+#[derive(Clone, Copy, Default)]
 pub struct Sums {
     pub returned: u64, // checks that were returned
     pub drawn: u64, // what is used of its sources
@@ -23,15 +24,6 @@ pub struct Sums {
 }
 
 impl Sums {
-    pub const NONE: Sums = Sums {
-        returned: 0,
-        drawn: 0,
-        money: 0,
-        paid: 0,
-        debt: 0,
-        owed: 0,
-    };
-
     // A source: whether it is a returned check, what is used of it, what is not.
     fn take_source(&mut self, r: Row, returned: bool)
         requires { Low self.old most_rows × Small r }

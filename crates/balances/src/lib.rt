@@ -1,25 +1,26 @@
 // The sums of an account's sources and of its debits, its unused money, and whether its top-up is due.
 #![tactic(auto)]
 
-ghost use Rattle.std.specs.Prelude.{◌≡◌, true, ℕ};
-ghost use Rattle.records.specs.Encoding.{rows_of};
+pub mod summable; // summable.rt: used rows whose amounts can be summed
+
+ghost use Rattle.std.specs.Prelude.{◌≡◌, true, ℕ, ◌^◌, ◌<◌};
 ghost use Rattle.rules.specs.Rows.{Row};
 ghost use Rattle.rules.specs.Settlement.{money};
-ghost use Rattle.rules.specs.Book.{topup_due};
+ghost use Rattle.rules.specs.Book.{minus, topup_due};
 ghost use Rattle.rules.specs.Tables.{book_of, sound_tables};
-ghost use Rattle.posting.specs.Posts.{Amounts, Measures};
+ghost use Rattle.table_rows.specs.UsedRows.{rows_in};
+ghost use Rattle.posting.specs.Posts.{Measures};
 ghost use Rattle.balances.specs.Summed.{Summed, account_sum, may_topup, is_low};
 ghost use Rattle.lent.specs.Lent.{lent};
 
+use self::summable::SummableRows;
 use account_sums::part;
 use lent::Tables;
 use records::codes::STATE_OPEN;
-use records::layout::{ACCOUNT_WIDTH, DAY_PLACE, USED_PLACE};
 use records::{Account, Row};
 use row_tests::{is_debit, is_source, remaining_of};
-use table_accounts::account_numbered;
 use table_rows::{account_at, read_row};
-use tables::words::get;
+use tables::words::minus;
 
 // ---- sums
 
@@ -30,44 +31,48 @@ pub struct Sums {
     pub debits: u64,
 }
 
+impl Sums {
+    // The balance: the sources less the debits.
+    pub fn balance(self) -> i64
+        requires { (self.sources < 2 ^ 63) × (self.debits < 2 ^ 63) }
+        ensures { result ≡ minus self.sources self.debits }
+    {
+        minus(self.sources, self.debits)
+    }
+}
+
 // What `part` gives for the account's used rows, summed. Most rows are other accounts', so the account is read first and alone.
-fn sum_of_account<F: Fn(Row) -> u64>(journal: &[i64], used: usize, account: u64, part: F) -> u64
-    requires { Amounts journal.now used
-        × (f : Row → ℕ)
+// Kept beside `event_decision::with_fees`, which begins with the toll itself and tests each row as a value.
+fn sum_of_account<F: Fn(Row) -> u64>(summable: SummableRows, account: u64, part: F) -> u64
+    requires { (f : Row → ℕ)
         × Measures F.Fn part f }
-    ensures { (f : Row → ℕ) → Measures F.Fn part f → result ≡ account_sum (rows_of journal.now used) account f }
+    ensures { (f : Row → ℕ) → Measures F.Fn part f → result ≡ account_sum (rows_in summable.entry.rows) account f }
 {
+    let rows = summable.rows;
     let mut sum = 0;
-    for i in 0..used {
-        if account_at(journal, i) == account {
-            sum += part(read_row(journal, i));
+    for i in 0..rows.used {
+        if account_at(rows.journal, i) == account {
+            sum += part(read_row(rows.journal, i));
         }
     }
     sum
 }
 
 // The account's sums over the used rows, a pass for each.
-pub fn sums_of(journal: &[i64], used: usize, account: u64) -> Sums
-    requires { Amounts journal.now used }
-    ensures { Summed journal.now account used result }
+pub fn sums_of(summable: SummableRows, account: u64) -> Sums
+    ensures { Summed summable.entry.rows.journal.now account summable.entry.rows.used result }
 {
     Sums {
-        sources: sum_of_account(journal, used, account, |r| part(is_source(r), r.amount)),
-        debits: sum_of_account(journal, used, account, |r| part(is_debit(r), r.amount)),
+        sources: sum_of_account(summable, account, |r| part(is_source(r), r.amount)),
+        debits: sum_of_account(summable, account, |r| part(is_debit(r), r.amount)),
     }
 }
 
 // The account's unused money over the used rows.
-pub fn unused_money(journal: &[i64], used: usize, account: u64) -> u64
-    requires { Amounts journal.now used }
-    ensures { result ≡ money account (rows_of journal.now used) }
+pub fn unused_money(summable: SummableRows, account: u64) -> u64
+    ensures { result ≡ money account (rows_in summable.entry.rows) }
 {
-    sum_of_account(
-        journal,
-        used,
-        account,
-        |r| part(is_source(r), remaining_of(r)),
-    )
+    sum_of_account(summable, account, |r| part(is_source(r), remaining_of(r)))
 }
 
 // ---- top-up due
@@ -92,10 +97,10 @@ pub fn topup_due(t: Tables, n: u64) -> bool
     requires { sound_tables (lent t) ≡ true }
     ensures { result ≡ topup_due (book_of (lent t.entry)) n }
 {
-    let x = account_numbered(t.accounts, t.accounts.len() / ACCOUNT_WIDTH, n);
-    if !may_topup(x, get(t.header, DAY_PLACE)) {
+    let x = t.account(n);
+    if !may_topup(x, t.day()) {
         return false;
     }
-    let used = get(t.header, USED_PLACE) as usize;
-    is_low(x, unused_money(t.journal, used, n))
+    let summable = SummableRows { rows: t.rows() };
+    is_low(x, unused_money(summable, n))
 }

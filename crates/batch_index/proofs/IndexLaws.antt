@@ -48,7 +48,7 @@ sound-indexable t s = record { rows = midway-countable (book_of t).day t (sound-
     differ : passages_differ (book_of t).rows ≡ true
     differ = unfold passages_differ in (every-all _ 1 (book_of t).rows blank (λ k n q h. ((sound-book t s).near.shape k h).passage))
 
-pub index-made : (t : Tables) (x : Index) (used : ℕ) → used ≡ rows_used t → TreesOf most_rows t.journal x.cells used → SlotsOf t.journal used x.slots → Indexed t x
+pub index-made : (t : Tables) (x : Index) (used : ℕ) → used ≡ rows_used t → TreesOf most_rows t.journal x.cells used → SlotsOf t.journal used x.slots.by_account → Indexed t x
 index-made t x used u p q = record { trees = rw u at p; slots-of = rw u at q }
 
 -- ---- a passage number
@@ -92,12 +92,12 @@ first-row j n slots t s a = go (dec_lt a slot_count)
         rw (outside slots t.sized a (omega arith), none-first s)
         (record { within = omega arith; passed = λ k l. absurd (omega arith) })
 
-pub looks-up-by : (t : Tables) (i : Index) → Indexed t i → (e : Instruction) (b d : Bool) (x : Slot) → x ≡ slot_at i.slots e.account
+pub looks-up-by : (t : Tables) (i : Index) → Indexed t i → (e : Instruction) (b d : Bool) (x : Slot) → x ≡ slot_at i.slots.by_account e.account
     → (e.kind ≡ event_toll → b ≡ exists (toll_of e.a) (book_of t).rows) → (e.kind ≡ event_topup_result → d ≡ topup_due (book_of t) e.account)
     → LooksUp t e (record { duplicate = b; due = d; source = x.source; debit = x.debit })
 looks-up-by t i w e b d x p f g =
-    let m = first-row t.journal (rows_used t) i.slots w.slots-of.hold Sources e.account in
-    let n = first-row t.journal (rows_used t) i.slots w.slots-of.hold Debits e.account in
+    let m = first-row t.journal (rows_used t) i.slots.by_account w.slots-of.hold Sources e.account in
+    let n = first-row t.journal (rows_used t) i.slots.by_account w.slots-of.hold Debits e.account in
     rw p
     (record {
       duplicate = f;

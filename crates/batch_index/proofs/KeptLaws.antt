@@ -120,7 +120,7 @@ module _ (t : Tables) (s : sound_tables t ≡ true) (e : Instruction) where
       sym (sound-rows (tables_of after) (sound_tables-tables_of after after-sound))
       ∙ ap (λ (b : Book). b.rows) (book_of-tables_of after (near after after-sound))
 
-  module _ (i : Index) (x : Indexed t i) (o : may_pay_held e i.slots ≡ false) where
+  module _ (i : Index) (x : Indexed t i) (o : may_pay_held e i.slots.by_account ≡ false) where
     no-tick : e.kind ≢ event_tick
     unfolding may_pay_held
     no-tick k = true≢false (sym (eq-eqb e.kind event_tick k) ∙ or_left (e.kind is event_tick) _ o)
@@ -128,12 +128,12 @@ module _ (t : Tables) (s : sound_tables t ≡ true) (e : Instruction) where
     no-money : e.kind ≡ event_decision → money e.account (book_of t).rows ≡ 0
     unfolding may_pay_held
     no-money k =
-        let q : ltb 0 (slot_at i.slots e.account).money ≡ false =
+        let q : ltb 0 (slot_at i.slots.by_account e.account).money ≡ false =
         and_then (e.kind is event_decision) _ (eq-eqb e.kind event_decision k) (or_right (e.kind is event_tick) _ o) in
-        omega (arith, ltb-false 0 (slot_at i.slots e.account).money q, slot-money t s i.slots x.slots-of e.account)
+        omega (arith, ltb-false 0 (slot_at i.slots.by_account e.account).money q, slot-money t s i.slots.by_account x.slots-of e.account)
 
     -- each account's money once the rows that the event added are added to it
-    moneys-posted : MoneysUpTo (rows_of (tables_of after).journal (rows_used (tables_of after))) (rows_used t) i.slots
+    moneys-posted : MoneysUpTo (rows_of (tables_of after).journal (rows_used (tables_of after))) (rows_used t) i.slots.by_account
     moneys-posted a b =
         rw (rows-posted, x.slots-of.moneys a b, ← sound-rows t s, ← length-sound-rows t s)
         (post-money (book_of t) e (facts-sound (book_of t) (sound-book t s)) no-tick no-money a)
@@ -142,7 +142,7 @@ module _ (t : Tables) (s : sound_tables t ≡ true) (e : Instruction) where
   pub index-posted : (i : Index) → Indexed t i → IndexedBefore (tables_of after) (rows_used t) e i
   index-posted i x = record {
     trees = trees-kept t.journal (tables_of after).journal (rows_used t) row-posted i.cells x.trees;
-    hold = hold-kept t.journal (tables_of after).journal (rows_used t) row-posted i.slots x.slots-of.hold;
+    hold = hold-kept t.journal (tables_of after).journal (rows_used t) row-posted i.slots.by_account x.slots-of.hold;
     moneys = moneys-posted i x;
   }
 

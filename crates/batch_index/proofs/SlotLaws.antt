@@ -11,6 +11,9 @@ use lib.IntN.{ℤ}
 use lib.ListN.{length, set, drop, take, replicate, length-set, length-replicate, take-append-drop, drop_of_length-le}
 use lib.Seq.{get_or-set_same, get_or-set_other, drop-cons}
 use borrow.Author.Tests.{eq-eqb, ne_eqb, ltb-false}
+use Rattle.std.specs.Bool.{⊤}
+use Rattle.std.specs.Option.{MatchOption, unwrap_or}
+use Rattle.std.specs.Prelude.{Option, Some, None}
 use Rattle.std.proofs.lemmas.List.{get_or-replicate}
 use Rattle.lists.specs.Tests.{◌is◌}
 use Rattle.lists.specs.Lists.{sum_by, only}
@@ -302,13 +305,17 @@ rows-added j n slots t ms = record {
 
 -- ---- the walk forward
 
-module _ (p : Test) (j : List ℤ) (used i : ℕ) where
-  pub passed-more : (k : ℕ) → ((m : ℕ) → i ≤ m → m < k → only p remaining (row_at j m) ≡ 0) → false ≡ ltb 0 (only p remaining (row_at j k))
-      → (m : ℕ) → i ≤ m → m < k + 1 → only p remaining (row_at j m) ≡ 0
-  passed-more k f e m l h = elim (ℕ_discrete m k) [
-    | yes q ↦ rw q (omega (arith, ltb-false 0 (only p remaining (row_at j k)) (sym e)))
-    | no q ↦ f m l (omega arith)
-  ]
+-- nothing is left at a row, by the test of it
+pub nothing-at : (p : Test) (r : Row) → false ≡ ltb 0 (only p remaining r) → only p remaining r ≡ 0
+nothing-at p r e = omega (arith, ltb-false 0 (only p remaining r) (sym e))
+
+-- the first row found, or the end where none is
+pub next-found : (p : Test) (j : List ℤ) (used i : ℕ) → i ≤ used → (r : Option ℕ)
+    → MatchOption r ((k : ℕ) → i ≤ k → k < used → only p remaining (row_at j k) ≡ 0)
+    (λ x. (i ≤ x) × (x < used) × ⊤ × ((k : ℕ) → i ≤ k → k < x → only p remaining (row_at j k) ≡ 0))
+    → NextOpen p j used i (unwrap_or r used)
+next-found p j used i l None m = record { within = omega arith; passed = m }
+next-found p j used i l (Some x) m = record { within = omega (arith, m.1); passed = m.3 }
 
 -- a first row that moves is that of one side, and leaves the money
 moved-first : (P : ℕ → Type 0) (s u : Side) (v : ℕ) (x : Slot) → (u ≡ s → P v) → P (first_of u x) → P (first_of u (with_first s v x))

@@ -15,7 +15,7 @@ use Rattle.batch_index.specs.Slots.{no_slot, slot_at, SlotsHold, MoneysUpTo, Slo
 -- the index of the used rows of the tables
 pub record Indexed (t : Tables) (x : Index) : Type 0 where
   pub trees : TreesOf most_rows t.journal x.cells (rows_used t)
-  pub slots-of : SlotsOf t.journal (rows_used t) x.slots
+  pub slots-of : SlotsOf t.journal (rows_used t) x.slots.by_account
 
 -- after the event e, unused money may have paid what was held before it: a tick ends holds, and a decision one
 unfoldable pub may_pay_held : Instruction → List Slot → Bool
@@ -24,13 +24,13 @@ may_pay_held e slots = e.kind is event_tick || e.kind is event_decision && ltb 0
 -- the index of the first n rows, of tables on which the event e was posted
 pub record IndexedBefore (t : Tables) (n : ℕ) (e : Instruction) (x : Index) : Type 0 where
   pub trees : TreesOf most_rows t.journal x.cells n
-  pub hold : SlotsHold t.journal n 0 x.slots
-  pub moneys : may_pay_held e x.slots ≡ false → MoneysUpTo (rows_of t.journal (rows_used t)) n x.slots
+  pub hold : SlotsHold t.journal n 0 x.slots.by_account
+  pub moneys : may_pay_held e x.slots.by_account ≡ false → MoneysUpTo (rows_of t.journal (rows_used t)) n x.slots.by_account
 
 -- of no rows
 pub record Empty (x : Index) : Type 0 where
   pub no_cell : x.cells ≡ replicate 32768 0
-  pub no_slots : x.slots ≡ replicate slot_count no_slot
+  pub no_slots : x.slots.by_account ≡ replicate slot_count no_slot
 
 -- a journal whose used rows can be indexed
 pub record Indexable (j : List ℤ) (used : ℕ) : Type 0 where

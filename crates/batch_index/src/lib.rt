@@ -6,7 +6,7 @@ mod slots; // slots.rt: from which row on something of each account's sources an
 
 ghost use Rattle.std.specs.Prelude.{◌≡◌, true, ◌≤◌};
 ghost use Rattle.rules.specs.Tables.{rows_used, sound_tables};
-ghost use Rattle.lent.specs.Lent.{lent, lent_mut};
+ghost use Rattle.lent.specs.Lent.{lent_mut};
 ghost use Rattle.records.specs.Limits.{most_rows};
 ghost use Rattle.sound_passages.specs.Trees.{TreesOf};
 ghost use Rattle.event_lookups.specs.Lookups.{LooksUp};
@@ -17,26 +17,28 @@ use event_lookups::Lookup;
 use lent::TablesMut;
 use records::Instruction;
 use records::codes::{EVENT_DECISION, EVENT_TICK, EVENT_TOLL, EVENT_TOPUP_RESULT};
-use records::layout::ACCOUNT_WIDTH;
 use records::limits::MOST_ROWS;
-use slots::{NO_SLOT, SLOTS, Slot, index_slots, slot_of, update_slots};
+use slots::Slots;
 use sound_passages::passages::{CELLS, cell_for, insert};
-use table_accounts::account_numbered;
+use table_rows::Rows;
+use tick_base::rows::CountableRows;
 
 // 70 KiB of a caller's stack: it is made once for a batch, and lent.
 #[derive(Drop)]
 pub struct Index {
     cells: [u16; CELLS],
-    slots: [Slot; SLOTS],
+    slots: Slots,
 }
 
-// The passage numbers of rows from..used go into the trees of the rows before them.
-fn index_passages(journal: &[i64], from: usize, used: usize, cells: &mut [u16; CELLS])
-    requires { Indexable journal.now used × (from ≤ used) × TreesOf most_rows journal.now cells.old from }
-    ensures { TreesOf most_rows journal.now cells.new used }
+// The passage numbers of the used rows from row `from` on go into the trees of the rows before them.
+fn index_passages(rows: &Rows, from: usize, cells: &mut [u16; CELLS])
+    requires { Indexable rows.now.journal.now rows.now.used
+        × (from ≤ rows.now.used)
+        × TreesOf most_rows rows.now.journal.now cells.old from }
+    ensures { TreesOf most_rows rows.now.journal.now cells.new rows.now.used }
 {
-    for i in from..used {
-        insert(journal, cells, MOST_ROWS, i);
+    for i in from..rows.used {
+        insert(rows.journal, cells, MOST_ROWS, i);
     }
 }
 
@@ -47,7 +49,7 @@ impl Index {
     {
         Index {
             cells: [0; CELLS],
-            slots: [NO_SLOT; SLOTS],
+            slots: Slots::none(),
         }
     }
 
@@ -56,9 +58,9 @@ impl Index {
         requires { (sound_tables (lent_mut t.now) ≡ true) × Empty self.old }
         ensures { Indexed (lent_mut t.now) self.new }
     {
-        let used = t.used() as usize;
-        index_passages(t.journal, 0, used, &mut self.cells);
-        index_slots(t.journal, used, &mut self.slots);
+        let countable = CountableRows { rows: t.rows() };
+        index_passages(&countable.rows, 0, &mut self.cells);
+        self.slots.index_rows(&countable);
     }
 
     // What the index has for an event, without a pass over the journal.
@@ -67,25 +69,19 @@ impl Index {
             × Indexed (lent_mut t.now) self.now }
         ensures { LooksUp (lent_mut t.now) e result }
     {
-        let slot = slot_of(&self.slots, e.account);
+        let slot = self.slots.slot_of(e.account);
         let mut found = Lookup {
-            duplicate: false,
-            due: false,
             source: slot.source,
             debit: slot.debit,
+            ..Lookup::default()
         };
         if e.kind == EVENT_TOLL {
-            found.duplicate = cell_for(
-                t.journal,
-                &self.cells,
-                MOST_ROWS,
-                t.used() as usize,
-                e.a,
-            ).is_none();
+            let rows = t.rows();
+            found.duplicate = cell_for(&rows, &self.cells, MOST_ROWS, e.a).is_none();
             return found;
         }
         if e.kind == EVENT_TOPUP_RESULT {
-            let x = account_numbered(t.accounts, t.accounts.len() / ACCOUNT_WIDTH, e.account);
+            let x = t.account(e.account);
             found.due = may_topup(x, t.day()) & is_low(x, slot.money);
         }
         found
@@ -93,9 +89,9 @@ impl Index {
 
     // Whether unused money may have paid what was held before the event.
     fn may_pay_held(&self, e: Instruction) -> bool
-        ensures { result ≡ may_pay_held e self.now.slots }
+        ensures { result ≡ may_pay_held e self.now.slots.by_account }
     {
-        let money = slot_of(&self.slots, e.account).money;
+        let money = self.slots.slot_of(e.account).money;
         (e.kind == EVENT_TICK) | ((e.kind == EVENT_DECISION) & (0 < money))
     }
 
@@ -107,12 +103,12 @@ impl Index {
             × IndexedBefore (lent_mut t.now) before e self.old }
         ensures { Indexed (lent_mut t.now) self.new }
     {
-        let used = t.used() as usize;
-        index_passages(t.journal, before, used, &mut self.cells);
+        let countable = CountableRows { rows: t.rows() };
+        index_passages(&countable.rows, before, &mut self.cells);
         if self.may_pay_held(e) {
-            index_slots(t.journal, used, &mut self.slots);
+            self.slots.index_rows(&countable);
             return;
         }
-        update_slots(t.journal, before, used, e.account, &mut self.slots);
+        self.slots.update(&countable, before, e.account);
     }
 }

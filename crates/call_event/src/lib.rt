@@ -1,7 +1,7 @@
 // A single event on tables of any lengths and contents: soundness, the lengths, the event, its answer written.
 #![tactic(auto)]
 
-ghost use Rattle.std.specs.Prelude.{◌≡◌, pos};
+ghost use Rattle.std.specs.Prelude.{pos};
 ghost use Rattle.records.specs.Outcomes.{number_by, answer_of};
 ghost use Rattle.rules.specs.Calls.{event_call, Gives};
 ghost use Rattle.call_event.specs.EventCalls.{AnswersTo};
@@ -29,14 +29,6 @@ fn post_call(t: &mut TablesMut, event: &[i64], answer: &[i64]) -> Result<Posting
     post_event(t, e)
 }
 
-// Whether the event was refused, and why.
-fn verdict(outcome: Result<Posting, Refusal>) -> Result<(), Refusal>
-    ensures { number_by result ≡ (answer_of outcome).number }
-{
-    outcome?;
-    Ok(())
-}
-
 // Posts one event, or refuses it; the answer's words are written wherever there is room for them, refused or not.
 pub fn event_call(t: &mut TablesMut, event: &[i64], answer: &mut [i64]) -> Result<(), Refusal>
     ensures same { SameTables t.old t.new }
@@ -49,8 +41,8 @@ pub fn event_call(t: &mut TablesMut, event: &[i64], answer: &mut [i64]) -> Resul
 {
     let outcome = post_call(t, event, answer);
     if answer.len() < ANSWER_WIDTH {
-        return verdict(outcome);
+        return outcome.map(|_| ());
     }
     write_answer(answer, 0, Answer::from(outcome));
-    verdict(outcome)
+    outcome.map(|_| ())
 }

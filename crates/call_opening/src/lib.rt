@@ -1,13 +1,12 @@
 // Opening: lent tables of any contents become the book of a first day, a schedule and six rates, all else 0.
 #![tactic(auto)]
 
-ghost use Rattle.std.specs.Prelude.{◌≡◌, true, [], ◌++◌, pos, ◌+◌, ◌-◌, ◌≤◌, ◌<◌, length, get_or, set, take, drop, replicate};
-ghost use Rattle.std.proofs.Math.Seq.{paste};
+ghost use Rattle.std.specs.Prelude.{◌≡◌, true, [], pos, ◌-◌, ◌<◌, length};
 ghost use Rattle.records.specs.Layout.{header_width};
 ghost use Rattle.records.specs.Outcomes.{number_by};
 ghost use Rattle.rules.specs.Tables.{Tables, header_words};
 ghost use Rattle.rules.specs.Calls.{opening_fits, opened_book, open_call, Gives};
-ghost use Rattle.lent.specs.Lent.{lent, lent_mut, SameTables};
+ghost use Rattle.lent.specs.Lent.{lent_mut, SameTables};
 
 use lent::TablesMut;
 use records::layout::{

@@ -11,15 +11,14 @@ ghost use Rattle.rules.specs.Calls.{Replies, question_refusals, balance_call, to
 ghost use Rattle.call_questions.specs.RowParts.{RowPart};
 ghost use Rattle.lent.specs.Lent.{lent};
 
+use balances::summable::SummableRows;
 use balances::sums_of;
 use lent::Tables;
 use records::codes::STATE_UNUSED;
-use records::layout::{ACCOUNT_WIDTH, ROW_WIDTH, USED_PLACE};
+use records::layout::ROW_WIDTH;
 use records::refusals::Refusal;
 use records::words::natural;
 use soundness::sound;
-use table_accounts::account_numbered;
-use tables::words::{get, minus};
 
 // Why a question about account n is refused, if it is.
 fn check_question(t: Tables, n: u64) -> Result<(), Refusal>
@@ -29,7 +28,7 @@ fn check_question(t: Tables, n: u64) -> Result<(), Refusal>
     if !sound(t) {
         return Err(Refusal::Unsound);
     }
-    let x = account_numbered(t.accounts, t.accounts.len() / ACCOUNT_WIDTH, n);
+    let x = t.account(n);
     if x.state == STATE_UNUSED {
         return Err(Refusal::Unknown);
     }
@@ -44,9 +43,9 @@ pub fn balance(t: Tables, account: i64) -> Result<i64, Refusal>
 {
     let n = natural(account);
     check_question(t, n)?;
-    let used = get(t.header, USED_PLACE) as usize;
-    let s = sums_of(t.journal, used, n);
-    Ok(minus(s.sources, s.debits))
+    let summable = SummableRows { rows: t.rows() };
+    let s = sums_of(summable, n);
+    Ok(s.balance())
 }
 
 // Whether the account's top-up is due.
@@ -68,10 +67,11 @@ fn row_used(t: Tables, n: u64) -> bool
     if !sound(t) {
         return false;
     }
-    (1 <= n) & (n <= get(t.header, USED_PLACE))
+    (1 <= n) & (n <= t.used())
 }
 
 // The ten words of a used row: the very part of the lent journal; an empty part where the book is unsound or the row isn't used.
+// Kept: the empty part and no Option, since document 01 gives it as the reply.
 pub fn row<'a>(t: Tables<'a>, number: i64) -> &'a [i64]
     ensures { RowPart (lent t.entry)
         number

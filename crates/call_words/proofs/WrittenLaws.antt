@@ -47,12 +47,6 @@ pub written_none : (t : List ℤ) → written [] t ≡ t
 unfolding written write_all
 written_none t = refl
 
-pub length-written : (xs : List Answer) (t : List ℤ) → length xs * answer_width ≤ length t → length (written xs t) ≡ length t
-unfolding written
-length-written xs t h =
-    length-append (write_all answer_words xs) (drop (length xs * answer_width) t)
-    ∙ omega (arith, length-answers xs, length-drop (length xs * answer_width) t)
-
 -- the next answer, put at its place
 pub written_next : (xs : List Answer) (x : Answer) (t : List ℤ) → AnswerIn t (length xs)
     → put_all (written xs t) (length xs * answer_width) 0 (answer_words x) ≡ written (xs ++ (x ∷ [])) t

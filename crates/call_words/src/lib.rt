@@ -12,21 +12,10 @@ use records::layout::{
     EVENT_KIND_PLACE, F_PLACE, G_PLACE,
 };
 use records::{Answer, Instruction};
-use tables::words::{get, put};
-
-// The places of an answer's words, from its first.
-
-const NUMBER_PLACE: usize = 0;
-
-const FIRST_PLACE: usize = 1;
-
-const ADDED_PLACE: usize = 2;
-
-const RAISED_PLACE: usize = 3;
-
-const REMOVED_PLACE: usize = 4;
+use tables::words::{get, put_words};
 
 // The event of a single call: nine words.
+// Kept beside `Instruction::from`: to C a single event is a table of words, and one of a batch a record.
 pub fn read_event(event: &[i64]) -> Instruction
     requires { event_width ≤ length event.now }
     ensures { result ≡ instruction_from event.now }
@@ -49,10 +38,6 @@ pub fn write_answer(answers: &mut [i64], i: usize, x: Answer)
     requires { AnswerIn answers.old i × StorableAnswer x }
     ensures { answers.new ≡ put_all answers.old (i * answer_width) 0 (answer_words x) }
 {
-    let p = i * ANSWER_WIDTH;
-    put(answers, p + NUMBER_PLACE, x.number);
-    put(answers, p + FIRST_PLACE, x.first);
-    put(answers, p + ADDED_PLACE, x.added);
-    put(answers, p + RAISED_PLACE, x.raised);
-    put(answers, p + REMOVED_PLACE, x.removed);
+    let words = [x.number, x.first, x.added, x.raised, x.removed];
+    put_words(answers, i * ANSWER_WIDTH, words);
 }

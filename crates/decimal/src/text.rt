@@ -3,6 +3,7 @@ ghost use Rattle.std.specs.Prelude.{◌≡◌, [], ◌∷◌, ◌++◌, ◌+◌,
 ghost use Rattle.decimal.specs.Bytes.{most_number_bytes, date_bytes, text_bytes};
 ghost use Rattle.decimal.specs.Decimal.{digits_of, text_of, two_digits, date_text};
 
+use itoa::Buffer;
 use std::marker::Model;
 
 // The bytes that a text has room for.
@@ -77,27 +78,25 @@ impl Text {
     }
 
     // The digits of a number.
-    // Kept: the kit's `io::decimal` gives the digits in a buffer with their count beside it.
     pub fn push_digits(&mut self, n: u64)
         requires { length self.old + length (digits_of n) ≤ text_bytes }
         ensures text { self.new ≡ self.old ++ digits_of n }
         ensures longer { length self.new ≡ length self.old + length (digits_of n) }
     {
-        let mut digits = [0u8; 20];
-        let k = io::decimal(n, &mut digits);
-        self.extend_from_slice(&digits[..k]);
+        let mut buffer = Buffer::new();
+        self.extend_from_slice(buffer.format(n).as_bytes());
     }
 
     // A number, with a minus where it is below 0.
+    // Kept, here, for dates and for the listing's lines (write_answer, write_bad_line, write_row, write_account): by `Display` the text
+    // goes through a writer that may fail, and these cannot.
     pub fn push_number(&mut self, v: i64)
         requires { length self.old + most_number_bytes ≤ text_bytes }
         ensures text { self.new ≡ self.old ++ text_of v }
         ensures short { length self.new ≤ length self.old + most_number_bytes }
     {
-        if v < 0 {
-            self.push(b'-');
-        }
-        self.push_digits(v.unsigned_abs());
+        let mut buffer = Buffer::new();
+        self.extend_from_slice(buffer.format(v).as_bytes());
     }
 
     // The last two digits of a number.

@@ -1,12 +1,11 @@
 -- Event 6: what each verdict changes, and which refusals concern it.
 use mathlib.Core.Path.{◌≡◌, refl, ap, ◌∙◌}
 use mathlib.Core.Bool.{Bool, true, false, not, ◌&&◌, ◌||◌, or-false}
-use Prim.Native.Nat.{ℕ, ◌+◌, ◌-◌}
+use Prim.Native.Nat.{◌+◌, ◌-◌}
 use native.Mathlib.Omega.{arith}
 use mathlib.Core.List.{List, [], ◌∷◌, map}
 use lib.ListN.{length, set, length-set, length-map}
-use lib.Dec.{leb, ltb}
-use borrow.Author.Tests.{leb-true, leb-false, lt-ltb, le-ltb}
+use lib.Dec.{ltb}
 use Rattle.records.specs.Numbers.{answer_no_row, answer_untimely, answer_full}
 use Rattle.records.specs.Codes.{code_yes, event_decision}
 use Rattle.lists.specs.Tests.{◌is◌, first}
@@ -15,10 +14,9 @@ use Rattle.rules.specs.Rows.{Row, toll, held_toll}
 use Rattle.rules.specs.Book.{Instruction, Book, with_rows, row, put_row, add_row}
 use Rattle.rules.specs.Events.{release, reject, with_fees, uphold, decide}
 use Rattle.rules.specs.Refusals.{change_of, after, unclassed, misdated, duplicate, barred, no_row, untimely, last_day, full, ceiling, refusals, answer_number, shared_count, own_refusals}
-use Rattle.rules.specs.Tables.{Tables, room_in, rows_used, book_of, sound_tables}
+use Rattle.rules.specs.Tables.{Tables, book_of, sound_tables}
 use Rattle.rules.proofs.RefusalLaws.{answer_number-own}
 use Rattle.rules.proofs.TableLaws.{used_le}
-use Rattle.posting.proofs.BookLaws.{used-read, room-read}
 use Rattle.records.specs.Updates.{of_kind}
 use Rattle.posting_laws.proofs.RefusalLaws.{at-kind, length-after, no-ceiling, rows-suffice}
 use Rattle.posting_laws.proofs.PutRowLaws.{length-put, no-ceiling-put}
@@ -87,20 +85,12 @@ module _ (b : Book) (e : Instruction) where
   unfolding own_refusals shared_count refusals unclassed misdated duplicate barred no_row last_day first decision_refusals
   own-6 f = rw (decision-full b event6 refl f, decision-ceiling b event6 refl, untimely-6)
 
--- one row more than there are
-one_more : (m n : ℕ) → ltb m (n + 1) ≡ leb m n
-one_more m n = go (leb m n) refl
-  where
-    go : (x : Bool) → leb m n ≡ x → ltb m (n + 1) ≡ x
-    go true e = lt-ltb m (n + 1) (omega (arith, leb-true m n e))
-    go false e = le-ltb m (n + 1) (omega (arith, leb-false m n e))
-
 -- the number that event 6 gets, with what each test came to
 pub answer-by : (t : Tables) → sound_tables t ≡ true → (e : Instruction) → e.kind ≡ event_decision → Admitted t e → (n h r : Bool)
     → toll (row (book_of t) e.a) && (row (book_of t) e.a).account is e.account ≡ n
-    → held_toll (row (book_of t) e.a) ≡ h → e.b is code_yes && leb (room_in t) (rows_used t) ≡ r
+    → held_toll (row (book_of t) e.a) ≡ h → e.b is code_yes && ltb (book_of t).room (length (book_of t).rows + 1) ≡ r
     → first ((answer_no_row, not n) ∷ (answer_untimely, not h) ∷ (answer_full, r) ∷ []) ≡ answer_number (book_of t) e
 unfolding decision_refusals
 answer-by t s e k d n h r v w z =
     let a = at-kind (λ x. first (own_refusals (book_of t) x) ≡ first (decision_refusals (book_of t) x)) e 6 k (own-6 (book_of t) e (rows-suffice t s 0 (omega (arith, used_le t s)))) in
-    rw (answer_number-own (book_of t) e d, a, v, w, one_more, ← room-read t s, ← used-read t s, z)
+    rw (answer_number-own (book_of t) e d, a, v, w, z)

@@ -1,9 +1,8 @@
 -- What an accepted event 6 writes, and the tables and the book after it.
 use mathlib.Core.Path.{◌≡◌, refl, sym, ◌∙◌}
 use mathlib.Core.Bool.{Bool, true, false, cond}
-use Prim.Native.Nat.{ℕ, ◌+◌, ◌-◌, ◌^◌, ◌≤◌, ◌<◌}
+use Prim.Native.Nat.{ℕ, ◌+◌, ◌-◌, ◌≤◌, ◌<◌}
 use native.Mathlib.Omega.{arith}
-use native.Mathlib.Decide.{ℕ_discrete}
 use mathlib.Core.List.{List, [], ◌∷◌, ◌++◌}
 use lib.ListN.{length, set, length-set, length-append}
 use lib.IntN.{ℤ}
@@ -11,7 +10,7 @@ use borrow.Author.Tests.{ltb-false}
 use Rattle.records.specs.Codes.{code_yes, event_decision}
 use Rattle.records.specs.Layout.{used_place}
 use Rattle.records.specs.Updates.{of_kind}
-use Rattle.records.specs.Encoding.{word, row_at, rows_of, StorableRow}
+use Rattle.records.specs.Encoding.{word, rows_of, StorableRow}
 use Rattle.lists.specs.Tests.{◌is◌}
 use Rattle.rules.specs.Rows.{Row, row_no, remaining, settle_whole, fee_naming}
 use Rattle.rules.specs.Settlement.{settle}
@@ -30,38 +29,23 @@ use Rattle.tables.specs.Changes.{RowChanged}
 use Rattle.settlement.specs.Settling.{Journal, Begun, Settled}
 use Rattle.event_lookups.specs.declared.Lookup.{Lookup}
 use Rattle.event_lookups.specs.Lookups.{LooksUp}
-use Rattle.event_lookups.proofs.LookupLaws.{still_before, still-put, still-whole, still-mapped, still-add, begun-still, row-at}
-use Rattle.posting.specs.Posts.{tables_at, Amounts, acceptance_of, Posts}
+use Rattle.event_lookups.proofs.LookupLaws.{still_before, still-whole, still-mapped, still-add, begun-still}
+use Rattle.posting.specs.Posts.{tables_at, acceptance_of, Posts}
 use Rattle.posting.proofs.BookLaws.{row_read, day-read, used-read, room-read, used-small, row-holds, journal-summable}
 use Rattle.posting_laws.proofs.RefusalLaws.{at-kind}
 use Rattle.posting_laws.proofs.AddedLaws.{acceptance-plain, posts-accepted}
 use Rattle.posting_laws.proofs.EventLaws.{known-inside}
 use Rattle.posting.specs.Written.{UsedRows}
 use Rattle.posting_laws.proofs.UsedRowsLaws.{used-rows-before, rows-put, rows-map, used-rows-add, rows-settle, rows_written, used-rows-settles, small-before, small_put, small-map, small-add}
-use Rattle.posting_laws.proofs.PutRowLaws.{row-used, put-settles, put-posts}
+use Rattle.posting_laws.proofs.PutRowLaws.{row-used}
+use Rattle.event_ends.specs.Ends.{Puts}
 use Rattle.event_decision.specs.Decision.{fee_settled, upheld_toll, credit_for, row_named, Upholdable, UpheldRows, Releasable, freed_row}
 use Rattle.event_decision.proofs.FeeLaws.{sum-small, same-or-whole}
 use Rattle.event_decision.proofs.AnswerLaws.{forgiven_rows, credit_row, free_row, rejected-change, upheld-change, length-forgiven, upheld-length}
 
--- the row that is read is the one that the event names
-pub row_named_lem : (h j : List ℤ) (e : Instruction) (used : ℕ) (r : Row) → used ≡ word h used_place → r ≡ row_no (rows_of j used) e.a → r ≡ row_named h j e
-row_named_lem h j e used r u f = rw u at f
-
--- the journal with a row written can be settled
-pub written-journal : (j j' : List ℤ) (used i : ℕ) (r : Row) → Amounts j used → RowChanged j j' i r → r.amount < 2 ^ 63 → Journal j' used
-written-journal j j' used i r m w a = record { room = rw w.size m.room; amounts = λ k q. at k q (ℕ_discrete k i) }
-  where
-    at : (k : ℕ) → k < used → Dec (k ≡ i) → (row_at j' k).amount < 2 ^ 63
-    at k q (yes e) = rw (e, w.there) a
-    at k q (no n) = rw (w.others k n) (omega (arith, m.small k q))
-
--- the tables keep their lengths
-module _ (h h' j j' : List ℤ) (e : Instruction) (w : UpheldRows h h' j j' e) where
-  pub upheld-header : length h' ≡ length h
-  upheld-header = rw w.credit.header (length-set h used_place _)
-
-  pub upheld-journal : length j' ≡ length j
-  upheld-journal = w.credit.row.size ∙ w.fees.size ∙ w.toll.size
+-- the row that is read, of the lent rows, is the one that the event names
+pub row_named_lem : (h j i : List ℤ) (e : Instruction) (used : ℕ) (r : Row) → i ≡ j → used ≡ word h used_place → r ≡ row_no (rows_of i used) e.a → r ≡ row_named h j e
+row_named_lem h j i e used r d u f = rw (d, u) at f
 
 module _ (t : Tables) (s : sound_tables t ≡ true) (e : Instruction) (k : e.kind ≡ event_decision) (q : 0 ≡ answer_number (book_of t) e) where
   abbrev b : Book
@@ -119,22 +103,21 @@ module _ (t : Tables) (s : sound_tables t ≡ true) (e : Instruction) (k : e.kin
     toll = rw (row_read t s e.a, day-read t s) free-storable;
   }
 
-  module _ (v : e.b is code_yes ≡ false) (j : List ℤ) (w : RowChanged t.journal j (e.a - 1) (freed_row t.header t.journal e)) where
-    free : RowChanged t.journal j (e.a - 1) (free_row b e)
-    free = rw (row_read t s e.a, day-read t s) at w
-
-    pub rejected-settles : Journal j (rows_used t)
-    rejected-settles = put-settles t s e q (free_row b e) (rejected-change b e k v) has-kind j free free-storable.amount
-
-    -- settlement does not read the words that change
-    pub rejected-begins : (x : Lookup) → LooksUp t e x → Begun j (rows_used t) e.account x.source x.debit
-    unfolding release
-    rejected-begins x l =
-        begun-still t e x j (rows_used t) l (omega arith)
-        (still-put e x t.journal j (e.a - 1) (free_row b e) free (still_before t e x l) (row b e.a) (row-at t s e.a toll-row.0 toll-row.1) refl refl refl refl)
-
-    pub rejected-posts : (j'' : List ℤ) → Settled j j'' (rows_used t) e.account → Posts t (tables_at t.header t.accounts j'') e (acceptance_of (rows_used t) 0 0 0)
-    rejected-posts = put-posts t s e q (free_row b e) (rejected-change b e k v) has-kind j free (λ z. omega arith) (rw k)
+  -- settlement does not read the words that change
+  pub rejected-puts : e.b is code_yes ≡ false → Puts t e (freed_row t.header t.journal e)
+  unfolding release
+  rejected-puts v = rw (row_read t s e.a, day-read t s) (record {
+    accepted = q;
+    stands = has-kind;
+    change = rejected-change b e k v;
+    names-account = rw k;
+    keeps-topup = rw k;
+    storable = free-storable;
+    kind = refl;
+    account = refl;
+    amount = refl;
+    settled = refl;
+  })
 
   -- ---- verdict 1
 

@@ -1,16 +1,18 @@
 // The fees of a toll: summed with it, and settled whole.
 ghost use Rattle.std.specs.Prelude.{◌≡◌, ℕ, ◌^◌, ◌<◌};
-ghost use Rattle.records.specs.Encoding.{row_at, rows_of};
+ghost use Rattle.records.specs.Encoding.{row_at};
 ghost use Rattle.rules.specs.Rows.{Row, fee_naming};
 ghost use Rattle.tables.specs.Changes.{RowIn, RowChanged, RowsMapped};
+ghost use Rattle.table_rows.specs.UsedRows.{rows_in};
 ghost use Rattle.settlement.specs.Settling.{Journal};
-ghost use Rattle.posting.specs.Posts.{Amounts, Measures};
+ghost use Rattle.posting.specs.Posts.{Measures};
 ghost use Rattle.event_decision.specs.Decision.{toll_and_fees, fee_settled};
 
+use balances::summable::SummableRows;
 use records::Row;
 use records::codes::KIND_FEE;
 use row_passes::change_rows;
-use table_rows::{put_settled, read_row, row_numbered};
+use table_rows::{put_settled, read_row};
 
 // A fee that names row n.
 fn is_fee_of(r: Row, n: u64) -> bool
@@ -20,15 +22,15 @@ fn is_fee_of(r: Row, n: u64) -> bool
 }
 
 // What part gives for toll n and its fees, summed.
-pub fn with_fees<F: Fn(Row) -> u64>(journal: &[i64], used: usize, n: u64, part: F) -> u64
-    requires { Amounts journal.now used
-        × (f : Row → ℕ)
+pub fn with_fees<F: Fn(Row) -> u64>(summable: SummableRows, n: u64, part: F) -> u64
+    requires { (f : Row → ℕ)
         × Measures F.Fn part f }
-    ensures { (f : Row → ℕ) → Measures F.Fn part f → result ≡ toll_and_fees (rows_of journal.now used) n f }
+    ensures { (f : Row → ℕ) → Measures F.Fn part f → result ≡ toll_and_fees (rows_in summable.entry.rows) n f }
 {
-    let mut sum = part(row_numbered(journal, used, n));
-    for i in 0..used {
-        let r = read_row(journal, i);
+    let rows = summable.rows;
+    let mut sum = part(rows.numbered(n));
+    for i in 0..rows.used {
+        let r = read_row(rows.journal, i);
         if is_fee_of(r, n) {
             sum += part(r);
         }

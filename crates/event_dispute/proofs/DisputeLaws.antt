@@ -1,38 +1,31 @@
 -- Event 5: which refusals concern it, and the row that it changes.
 use mathlib.Core.Path.{◌≡◌, refl, sym, ◌∙◌}
 use mathlib.Core.Bool.{Bool, true, false, not, ◌&&◌, ◌||◌, or-false}
-use Prim.Native.Nat.{ℕ, ◌+◌, ◌-◌, ◌≤◌, ◌<◌}
+use Prim.Native.Nat.{◌+◌, ◌<◌}
 use native.Mathlib.Omega.{arith}
-use mathlib.Core.List.{List, [], ◌∷◌}
+use mathlib.Core.List.{[], ◌∷◌}
 use lib.ListN.{length}
-use lib.IntN.{ℤ}
 use lib.Dec.{ltb}
 use Rattle.records.specs.Numbers.{answer_no_row, answer_untimely}
 use Rattle.records.specs.Codes.{dispute_never, event_dispute}
-use Rattle.records.specs.Layout.{day_place}
-use Rattle.records.specs.Encoding.{word, rows_of, StorableRow}
+use Rattle.records.specs.Encoding.{StorableRow}
 use Rattle.lists.specs.Tests.{◌is◌, first}
-use Rattle.rules.specs.Rows.{Row, kind_toll, row_no, toll, unsettled}
+use Rattle.rules.specs.Rows.{Row, kind_toll, toll, unsettled}
 use Rattle.rules.specs.Book.{Instruction, Book, row, put_row}
 use Rattle.rules.specs.Events.{hold_from, hold_toll}
 use Rattle.rules.specs.Refusals.{change_of, unclassed, misdated, duplicate, barred, no_row, untimely, last_day, full, refusals, answer_number, shared_count, own_refusals}
-use Rattle.rules.specs.Tables.{Tables, rows_used, book_of, sound_tables}
+use Rattle.rules.specs.Tables.{Tables, book_of, sound_tables}
 use Rattle.rules.proofs.RefusalLaws.{answer_number-own}
 use Rattle.rules.proofs.StorableLaws.{day-le}
 use Rattle.rules.proofs.TableLaws.{sound-book, used_le}
 use Rattle.preservation.proofs.Accepted.{accepted}
 use Rattle.preservation.proofs.LookupLaws.{named-kind}
-use Rattle.tables.specs.Changes.{RowChanged}
-use Rattle.settlement.specs.Settling.{Journal, Begun, Settled}
-use Rattle.event_lookups.specs.declared.Lookup.{Lookup}
-use Rattle.event_lookups.specs.Lookups.{LooksUp}
-use Rattle.event_lookups.proofs.LookupLaws.{still_before, still-put, begun-still, row-at}
-use Rattle.posting.specs.Posts.{tables_at, acceptance_of, Posts}
-use Rattle.posting.proofs.BookLaws.{day-read, row-holds}
+use Rattle.posting.proofs.BookLaws.{row-holds}
 use Rattle.records.specs.Updates.{of_kind}
 use Rattle.posting_laws.proofs.RefusalLaws.{at-kind, rows-suffice}
-use Rattle.posting_laws.proofs.PutRowLaws.{row-used, row-read-by, length-put, no-ceiling-put, put-settles, put-posts}
+use Rattle.posting_laws.proofs.PutRowLaws.{length-put, no-ceiling-put}
 use Rattle.event_refusals.specs.Admissions.{Admitted}
+use Rattle.event_ends.specs.Ends.{Puts}
 use Rattle.event_dispute.specs.Dispute.{dispute_refusals}
 
 -- the row that event 5 leaves
@@ -69,11 +62,6 @@ answer-by t s e k d n c v w =
     let a = at-kind (λ x. first (own_refusals (book_of t) x) ≡ first (dispute_refusals (book_of t) x)) e 5 k (own-5 (book_of t) e (rows-suffice t s 0 (omega (arith, used_le t s)))) in
     rw (answer_number-own (book_of t) e d, a, v, w)
 
--- the row that is written is that row
-pub held-row : (t : Tables) → sound_tables t ≡ true → (e : Instruction) (used today : ℕ) (r x : Row) → used ≡ rows_used t → r ≡ row_no (rows_of t.journal used) e.a
-    → today ≡ word t.header day_place → x ≡ hold_from today r → x ≡ held_row (book_of t) e
-held-row t s e used today r x u f d h = rw (row-read-by t s used e.a r u f, d, day-read t s) at h
-
 -- ---- what an accepted event 5 leaves
 
 module _ (t : Tables) (s : sound_tables t ≡ true) (e : Instruction) (k : e.kind ≡ event_dispute) (q : 0 ≡ answer_number (book_of t) e) where
@@ -87,10 +75,7 @@ module _ (t : Tables) (s : sound_tables t ≡ true) (e : Instruction) (k : e.kin
   has-kind : 0 < (row b e.a).kind
   has-kind = omega (arith, is-toll)
 
-  pub dispute-row : (1 ≤ e.a) × (e.a ≤ rows_used t)
-  dispute-row = row-used t s e.a has-kind
-
-  pub dispute-storable : StorableRow (held_row b e)
+  dispute-storable : StorableRow (held_row b e)
   unfolding hold_from
   dispute-storable =
       let h = row-holds t s e.a in
@@ -107,16 +92,18 @@ module _ (t : Tables) (s : sound_tables t ≡ true) (e : Instruction) (k : e.kin
         reference = h.reference;
       }
 
-  module _ (j : List ℤ) (w : RowChanged t.journal j (e.a - 1) (held_row b e)) where
-    pub dispute-settles : Journal j (rows_used t)
-    dispute-settles = put-settles t s e q (held_row b e) (changed b e k) has-kind j w dispute-storable.amount
-
-    -- settlement does not read the two words that change
-    pub dispute-begins : (x : Lookup) → LooksUp t e x → Begun j (rows_used t) e.account x.source x.debit
-    unfolding hold_from
-    dispute-begins x l =
-        begun-still t e x j (rows_used t) l (omega arith)
-        (still-put e x t.journal j (e.a - 1) (held_row b e) w (still_before t e x l) (row b e.a) (row-at t s e.a dispute-row.0 dispute-row.1) refl refl refl refl)
-
-    pub dispute-posts : (j'' : List ℤ) → Settled j j'' (rows_used t) e.account → Posts t (tables_at t.header t.accounts j'') e (acceptance_of (rows_used t) 0 0 0)
-    dispute-posts = put-posts t s e q (held_row b e) (changed b e k) has-kind j w (λ z. omega arith) (rw k)
+  -- settlement does not read the two words that change
+  pub dispute-puts : Puts t e (held_row b e)
+  unfolding hold_from
+  dispute-puts = record {
+    accepted = q;
+    stands = has-kind;
+    change = changed b e k;
+    names-account = rw k;
+    keeps-topup = rw k;
+    storable = dispute-storable;
+    kind = refl;
+    account = refl;
+    amount = refl;
+    settled = refl;
+  }

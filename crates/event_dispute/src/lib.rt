@@ -13,14 +13,13 @@ ghost use Rattle.event_refusals.specs.Admissions.{Admitted};
 ghost use Rattle.records.specs.Codes.{event_dispute};
 ghost use Rattle.lent.specs.Lent.{lent_mut, SameTables};
 
+use event_ends::put_and_settle;
 use event_lookups::Lookup;
 use lent::TablesMut;
-use posting::answers::posted;
 use records::codes::{DISPUTE_HELD, DISPUTE_NEVER, KIND_TOLL};
 use records::refusals::Refusal;
 use records::{Instruction, Posting, Row};
-use settlement::settle_from;
-use table_rows::{row_numbered, write_row};
+use row_tests::is_of;
 
 // Why an admitted event 5 is refused, if it is.
 fn check_dispute(t: &TablesMut, e: Instruction) -> Result<(), Refusal>
@@ -29,8 +28,8 @@ fn check_dispute(t: &TablesMut, e: Instruction) -> Result<(), Refusal>
         × Admitted (lent_mut t.now) e }
     ensures { number_by result ≡ answer_number (book_of (lent_mut t.now)) e }
 {
-    let r = row_numbered(t.journal, t.used() as usize, e.a);
-    if !((r.kind == KIND_TOLL) & (r.account == e.account)) {
+    let r = t.rows().numbered(e.a);
+    if !is_of(r, KIND_TOLL, e.account) {
         return Err(Refusal::NoRow);
     }
     if !(r.settled < r.amount) | (r.dispute != DISPUTE_NEVER) {
@@ -55,8 +54,7 @@ fn held_row(t: &TablesMut, e: Instruction) -> Row
     requires { sound_tables (lent_mut t.now) ≡ true }
     ensures { result ≡ hold_from (book_of (lent_mut t.now)).day (row (book_of (lent_mut t.now)) e.a) }
 {
-    let r = row_numbered(t.journal, t.used() as usize, e.a);
-    held_from(r, t.day())
+    held_from(t.rows().numbered(e.a), t.day())
 }
 
 // Event 5: the toll is held; then settlement.
@@ -69,9 +67,6 @@ pub fn hold_toll(t: &mut TablesMut, e: Instruction, k: Lookup) -> Result<Posting
     ensures posts { Posts (lent_mut t.old) (lent_mut t.new) e (answer_of result) }
 {
     check_dispute(t, e)?;
-    let used = t.used();
     let held = held_row(t, e);
-    write_row(t.journal, (e.a - 1) as usize, held);
-    settle_from(t.journal, used as usize, e.account, k.source, k.debit);
-    Ok(posted(used, 0, 0, false))
+    Ok(put_and_settle(t, e, held, k))
 }

@@ -30,6 +30,7 @@ fn zero_from_c(e: Instruction) -> bool
     (e.c == 0) & (e.d == 0) & (e.e == 0) & zero_from_f(e)
 }
 
+// Kept, here and below: a range is two comparisons; a library's range would take the number by reference and say no more.
 fn open_form(e: Instruction) -> bool
     ensures { result ≡ open_form e }
 {

@@ -1,11 +1,11 @@
 -- Event 10: it is accepted where no shared refusal applies, and changes exactly the seven words of the first unused list.
 use mathlib.Core.Path.{◌≡◌, refl, sym, ap, ◌∙◌}
 use mathlib.Core.Bool.{true, false, not}
-use Prim.Native.Nat.{ℕ, ◌+◌, ◌*◌, ◌-◌, ◌^◌, ◌≤◌, ◌<◌}
+use Prim.Native.Nat.{ℕ, ◌+◌, ◌*◌, ◌-◌, ◌≤◌, ◌<◌}
 use native.Mathlib.Omega.{arith}
 use mathlib.Core.List.{List, [], ◌∷◌, ◌++◌}
 use lib.ListN.{length}
-use lib.Seq.{sets, length-sets}
+use lib.Seq.{sets}
 use lib.IntN.{ℤ}
 use lib.Dec.{leb}
 use borrow.Author.Tests.{not-false, leb-false}
@@ -13,6 +13,8 @@ use Rattle.records.specs.Codes.{event_rate_list, event_tick}
 use Rattle.records.specs.Layout.{header_lists, list_width}
 use Rattle.records.specs.Limits.{most_lists}
 use Rattle.records.specs.Updates.{of_kind}
+use Rattle.records.specs.Encoding.{Storable}
+use Rattle.records.proofs.FieldLaws.{storable-none, storable-more}
 use Rattle.lists.specs.Tests.{◌is◌, first}
 use Rattle.lists.proofs.TestLaws.{and_right, or_right}
 use Rattle.lists.proofs.ListLaws.{length-tabulate}
@@ -37,12 +39,13 @@ use Rattle.event_refusals.specs.Admissions.{Admitted}
 
 -- ---- its words: each is one that a signed word holds
 
-pub words-held : (e : Instruction) → list_in_range (list_of e) ≡ true
-    → (e.a < 2 ^ 63) × (e.b < 2 ^ 63) × (e.c < 2 ^ 63) × (e.d < 2 ^ 63) × (e.e < 2 ^ 63) × (e.f < 2 ^ 63) × (e.g < 2 ^ 63)
+pub words-held : (e : Instruction) → list_in_range (list_of e) ≡ true → Storable (e.a ∷ e.b ∷ e.c ∷ e.d ∷ e.e ∷ e.f ∷ e.g ∷ [])
 words-held e r =
     let l = list-storable (list_of e) r in
     let s = l.rates in
-    (omega (arith, l.day), omega (arith, s.tag1), omega (arith, s.plate1), omega (arith, s.tag2), omega (arith, s.plate2), omega (arith, s.tag3), omega (arith, s.plate3))
+    storable-more (omega (arith, l.day)) (storable-more (omega (arith, s.tag1)) (storable-more (omega (arith, s.plate1))
+    (storable-more (omega (arith, s.tag2)) (storable-more (omega (arith, s.plate2)) (storable-more (omega (arith, s.tag3))
+    (storable-more (omega (arith, s.plate3)) storable-none))))))
 
 -- ---- accepted
 
@@ -127,7 +130,3 @@ module _ (t : Tables) (s : sound_tables t ≡ true) (e : Instruction) (k : e.kin
       tables_more : tables_at h t.accounts t.journal ≡ tables_of (with_lists (b.lists ++ (list_of e ∷ [])) b)
       tables_more = unfold tables_of in
           (rw (header-now) (ap (λ (u : Tables). tables_at (header_words (with_lists (b.lists ++ (list_of e ∷ [])) b)) u.accounts u.journal) (sym again)))
-
--- words put into a table leave its length
-pub put-length : (t u : List ℤ) (p j : ℕ) (zs : List ℤ) → u ≡ put_all t p j zs → length u ≡ length t
-put-length t u p j zs e = ap length (e ∙ put_all-sets zs t p j) ∙ length-sets t (p + j) zs

@@ -1,7 +1,7 @@
 -- Where settlement may begin, by what has been looked up, after rows were changed and added.
 use mathlib.Core.Path.{◌≡◌}
 use mathlib.Core.Logic.{◌⊎◌, inr, ⊎_elim}
-use mathlib.Core.Bool.{Bool, true, ◌&&◌}
+use mathlib.Core.Bool.{true, ◌&&◌}
 use Prim.Native.Nat.{ℕ, zero, suc, ◌+◌, ◌-◌, ◌≤◌}
 use native.Mathlib.Omega.{arith}
 use native.Mathlib.Decide.{ℕ_discrete}
@@ -103,13 +103,14 @@ row-at t s (suc m) h l =
     rw (z, sound-rows t s) (tabulate-at (row_at t.journal) (rows_used t) m blank (omega arith))
 
 -- from the first row on nothing needs to be known
-pub looks-up-all : (t : Tables) (e : Instruction) (b d : Bool) → (e.kind ≡ event_toll → b ≡ exists (λ r. toll r && r.reference is e.a) (book_of t).rows)
-    → (e.kind ≡ event_topup_result → d ≡ topup_due (book_of t) e.account) → LooksUp t e (record { duplicate = b; due = d; source = 0; debit = 0 })
-looks-up-all t e b d s u = record {
+pub looks-up-all : (t : Tables) (e : Instruction) (k : Lookup) → k.source ≡ 0 → k.debit ≡ 0
+    → (e.kind ≡ event_toll → k.duplicate ≡ exists (λ r. toll r && r.reference is e.a) (book_of t).rows)
+    → (e.kind ≡ event_topup_result → k.due ≡ topup_due (book_of t) e.account) → LooksUp t e k
+looks-up-all t e k f g s u = record {
   duplicate = s;
   due = u;
-  source_in = omega arith;
-  debit-in = omega arith;
-  sources = λ k q. absurd (omega arith);
-  debits = λ k q. absurd (omega arith);
+  source_in = omega (arith, f);
+  debit-in = omega (arith, g);
+  sources = λ m q. absurd (omega (arith, f));
+  debits = λ m q. absurd (omega (arith, g));
 }

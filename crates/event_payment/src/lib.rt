@@ -11,16 +11,13 @@ ghost use Rattle.event_refusals.specs.Admissions.{Admitted, Names};
 ghost use Rattle.records.specs.Codes.{event_payment};
 ghost use Rattle.lent.specs.Lent.{lent_mut, SameTables};
 
+use event_ends::pay_and_settle;
 use event_lookups::Lookup;
 use lent::TablesMut;
-use posting::answers::posted;
-use posting::rows::{add_row, new_row};
-use records::codes::{KIND_PAYMENT, METHOD_CHECK};
-use records::layout::ROW_WIDTH;
+use records::codes::METHOD_CHECK;
 use records::limits::BARRING_RETURNS;
 use records::refusals::Refusal;
 use records::{Account, Instruction, Posting};
-use settlement::settle_from;
 
 // Why event 3 of an admitted account is refused, if it is.
 fn check_payment(t: &TablesMut, e: Instruction, x: Account) -> Result<(), Refusal>
@@ -33,13 +30,13 @@ fn check_payment(t: &TablesMut, e: Instruction, x: Account) -> Result<(), Refusa
     if (e.b == METHOD_CHECK) & (BARRING_RETURNS <= x.returned) {
         return Err(Refusal::Barred);
     }
-    if t.journal.len() / ROW_WIDTH <= t.used() as usize {
+    if !t.has_room(1) {
         return Err(Refusal::Full);
     }
     Ok(())
 }
 
-// Event 3: the payment row, its mark the method; then settlement, from this row on, since no source before it has money for a debt.
+// Event 3: the payment row, its mark the method; then settlement.
 pub fn post_payment(
     t: &mut TablesMut,
     e: Instruction,
@@ -55,16 +52,5 @@ pub fn post_payment(
     ensures posts { Posts (lent_mut t.old) (lent_mut t.new) e (answer_of result) }
 {
     check_payment(t, e, x)?;
-    let used = t.used();
-    let mut r = new_row(KIND_PAYMENT, e.account, t.day(), e.a);
-    r.mark = e.b;
-    add_row(&mut *t.header, &mut *t.journal, r);
-    settle_from(
-        t.journal,
-        used as usize + 1,
-        e.account,
-        used as usize,
-        k.debit,
-    );
-    Ok(posted(used, 1, 0, false))
+    Ok(pay_and_settle(t, e.account, e.a, e.b, k))
 }

@@ -12,7 +12,7 @@ ghost use Rattle.event_rates.specs.Places.{RatesAt};
 
 use records::layout::{HEADER_LISTS, HEADER_RATES, LIST_RATES_PLACE, LIST_WIDTH};
 use records::limits::LOW_HEIGHT;
-use table_lists::list_on;
+use table_lists::Header;
 use tables::words::get;
 
 // The classes, with their numbers.
@@ -23,11 +23,11 @@ pub enum Class {
     Three = 3,
 }
 
-impl Class {
-    fn number(self) -> u64
-        ensures { result ≡ class_number self }
-    {
-        self as u64
+impl From<Class> for u64 {
+    ghost from_gives = { λ vehicle number. number ≡ class_number vehicle };
+
+    fn from(class: Class) -> u64 {
+        class as u64
     }
 }
 
@@ -74,7 +74,7 @@ pub fn rate_of(header: &[i64], day: u64, class: Class, mode: u64) -> u64
     requires { ListsStand header.now × (1 ≤ mode) × (mode ≤ 2) }
     ensures { result ≡ rate (in_force (lists_in header.now) day).rates (class_number class) mode }
 {
-    let first = rates_place(list_on(header, day));
-    let class = class.number();
+    let first = rates_place(Header { words: header }.list_on(day));
+    let class = u64::from(class);
     get(header, first + (2 * (class - 1) + (mode - 1)) as usize)
 }

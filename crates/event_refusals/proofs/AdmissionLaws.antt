@@ -38,7 +38,3 @@ lists-counted h = omega (arith, length-tabulate (later_list_at h) (lists_used h)
 -- a shared refusal that applies is the answer
 pub admits-refused : (t : Tables) (e : Instruction) (r : Refusal) → Admits t e (Err r) → number_of r ≡ answer_number (book_of t) e
 admits-refused t e r a = a.number ∙ answer_number-shared (book_of t) e (rw a.number at (number_of-not_0 r))
-
--- an account that is admitted is the event's, and no shared refusal applies
-pub admits-admitted : (t : Tables) (e : Instruction) (x : Account) → Admits t e (Ok x) → Admitted t e × Names t e x
-admits-admitted t e x a = (sym a.number, a.account)

@@ -1,10 +1,9 @@
 // The refusals that are decided for every kind of event alike, 2, 15 and 3 to 5, once, before anything is looked up for the event.
 #![tactic(auto)]
 
-ghost use Rattle.std.specs.Prelude.{◌≡◌, true, length};
+ghost use Rattle.std.specs.Prelude.{◌≡◌, true};
 ghost use Rattle.lists.specs.Tests.{first};
 ghost use Rattle.rules.specs.Book.{Book, account};
-ghost use Rattle.records.specs.Layout.{header_width};
 ghost use Rattle.records.specs.Outcomes.{number_by};
 ghost use Rattle.rules.specs.Refusals.{list_refused, unknown, taken, on_closed, shared_refusals};
 ghost use Rattle.rules.specs.Tables.{lists_in, sound_tables};
@@ -17,23 +16,20 @@ use records::codes::{
     EVENT_CLOSE_REQUEST, EVENT_OPEN, EVENT_PAYMENT, EVENT_RATE_LIST, EVENT_TICK, EVENT_TOLL,
     EVENT_TOPUP_RESULT, STATE_CLOSED, STATE_UNUSED,
 };
-use records::layout::ACCOUNT_WIDTH;
 use records::limits::MOST_LISTS;
 use records::refusals::Refusal;
 use records::{Account, Instruction};
-use table_accounts::account_numbered;
-use table_lists::{last_day, lists_used};
+use table_lists::Header;
 
 // 15: event 10 with a first day not after the last list's, or with no place for another list.
-fn list_refused(header: &[i64], e: Instruction) -> bool
-    requires { length header.now ≡ header_width }
-    ensures { (b : Book) → b.lists ≡ lists_in header.now → result ≡ list_refused b e }
+fn list_refused(h: Header, e: Instruction) -> bool
+    ensures { (b : Book) → b.lists ≡ lists_in h.entry.words.now → result ≡ list_refused b e }
 {
     if e.kind != EVENT_RATE_LIST {
         return false;
     }
-    let used = lists_used(header);
-    (e.a <= last_day(header, used)) | (MOST_LISTS <= used + 1)
+    let used = h.lists_used();
+    (e.a <= h.last_day(used)) | (MOST_LISTS <= used + 1)
 }
 
 // 3: the account, x, is unused or not one of the table's; event 1 may name an unused one of the table's, and a tick and a rate list name
@@ -95,9 +91,8 @@ pub fn admit(t: &TablesMut, e: Instruction) -> Result<Account, Refusal>
     requires { sound_tables (lent_mut t.now) ≡ true }
     ensures { Admits (lent_mut t.now) e result }
 {
-    let late = list_refused(t.header, e);
-    let count = t.accounts.len() / ACCOUNT_WIDTH;
-    let x = account_numbered(t.accounts, count, e.account);
-    check_shared(late, count as u64, e, x)?;
+    let late = list_refused(Header { words: t.header }, e);
+    let x = t.account(e.account);
+    check_shared(late, t.count() as u64, e, x)?;
     Ok(x)
 }

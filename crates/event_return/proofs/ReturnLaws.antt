@@ -1,7 +1,7 @@
 -- Event 4: which refusals concern it, and the book that it makes.
 use mathlib.Core.Path.{◌≡◌, refl, sym, ap, ◌∙◌}
 use mathlib.Core.Logic.{◌≢◌}
-use mathlib.Core.Bool.{Bool, true, false, not, ◌&&◌, ◌||◌, or-false}
+use mathlib.Core.Bool.{Bool, true, false, not, ◌&&◌, or-false}
 use Prim.Native.Nat.{ℕ, zero, suc, ◌+◌, ◌-◌, ◌^◌, ◌≤◌, ◌<◌}
 use native.Mathlib.Omega.{arith}
 use mathlib.Core.List.{List, [], ◌∷◌, ◌++◌, append_assoc}
@@ -42,14 +42,13 @@ use Rattle.event_lookups.specs.declared.Lookup.{Lookup}
 use Rattle.event_lookups.specs.Lookups.{LooksUp}
 use Rattle.event_lookups.proofs.LookupLaws.{still_before, still-put, still-add, begun-still, row-at}
 use Rattle.posting.specs.Posts.{tables_at, acceptance_of, RowRoom, RowAdded, Posts}
-use Rattle.posting.proofs.BookLaws.{row_read, day-read, used-read, room-read, count-read, used-small, used-room, row-holds, account-holds}
+use Rattle.posting.proofs.BookLaws.{row_read, row-read-in, day-read, used-read, room-read, count-read, used-small, used-room, row-holds, account-holds}
 use Rattle.posting_laws.proofs.EventLaws.{known-inside}
 use Rattle.records.specs.Updates.{of_kind}
 use Rattle.posting_laws.proofs.RefusalLaws.{at-kind, length-after, no-ceiling}
 use Rattle.posting_laws.proofs.AddedLaws.{acceptance-plain, posts-accepted}
 use Rattle.posting.specs.Written.{UsedRows}
 use Rattle.posting_laws.proofs.UsedRowsLaws.{used-rows-before, rows-put, used-rows-add, rows-settle, rows_written, used-rows-room, rows-day, used-rows-settles, SmallAmounts, small-before, small_put, small-add}
-use Rattle.posting_laws.proofs.PutRowLaws.{row-read-by}
 use Rattle.event_return.specs.Return.{return_refusals, Counts, Marks, Marked}
 
 -- ---- what event 4 writes: the payment marked, its reversal and the fee, and the account
@@ -98,17 +97,13 @@ module _ (b : Book) (e : Instruction) where
 pub answer-return : (b : Book) (e : Instruction) → e.kind ≡ event_returned_check → first (shared_refusals b e) ≡ 0 → answer_number b e ≡ first (return_refusals b e)
 answer-return b e k a = answer_number-own b e a ∙ at-kind (λ x. first (own_refusals b x) ≡ first (return_refusals b x)) e 4 k (own-4 b e)
 
-neither : (p q : Bool) → not (p && q) ≡ not p || not q
-neither true q = refl
-neither false q = refl
-
 -- the same with what each test came to
 pub answer-by : (b : Book) (e : Instruction) → e.kind ≡ event_returned_check → first (shared_refusals b e) ≡ 0 → (n m r : Bool)
-    → not ((row b e.a).kind is kind_payment) || not ((row b e.a).account is e.account) ≡ n → not ((row b e.a).mark is method_check) ≡ m
+    → (row b e.a).kind is kind_payment && (row b e.a).account is e.account ≡ n → not ((row b e.a).mark is method_check) ≡ m
     → ltb b.room (length b.rows + 2) ≡ r
-    → first ((answer_no_row, n) ∷ (answer_untimely, m) ∷ (answer_full, r) ∷ []) ≡ answer_number b e
+    → first ((answer_no_row, not n) ∷ (answer_untimely, m) ∷ (answer_full, r) ∷ []) ≡ answer_number b e
 unfolding return_refusals
-answer-by b e k a n m r v w z = rw (answer-return b e k a, neither ((row b e.a).kind is kind_payment) ((row b e.a).account is e.account), v, w, z)
+answer-by b e k a n m r v w z = rw (answer-return b e k a, v, w, z)
 
 -- ---- the steps
 
@@ -231,7 +226,7 @@ module _ (t : Tables) (s : sound_tables t ≡ true) (e : Instruction) (k : e.kin
   marked-read used m j u c = rw (u, row_read t s e.a) at c.marked
 
   pub amount-read : (used m : ℕ) (j : List ℤ) → used ≡ rows_used t → Marked t.journal j used e.a m → m ≡ (row b e.a).amount
-  amount-read used m j u c = c.amount ∙ ap (λ (r : Row). r.amount) (row-read-by t s used e.a (row_no (rows_of t.journal used) e.a) u refl)
+  amount-read used m j u c = c.amount ∙ ap (λ (r : Row). r.amount) (row-read-in t s t.journal used refl u e.a (row_no (rows_of t.journal used) e.a) refl)
 
   -- ---- the rows added
 

@@ -18,15 +18,16 @@ ghost use Rattle.lent.specs.Lent.{lent_mut, SameTables};
 use event_lookups::Lookup;
 use lent::TablesMut;
 use posting::answers::posted;
-use posting::rows::{add_row, new_row};
+use posting::rows::{add_row, row_naming};
 use records::codes::{KIND_FEE, KIND_PAYMENT, KIND_REVERSAL, METHOD_CHECK, METHOD_CHECK_RETURNED};
-use records::layout::{DAY_PLACE, ROW_WIDTH};
+use records::layout::DAY_PLACE;
 use records::limits::RETURN_FEE;
 use records::refusals::Refusal;
 use records::{Account, Instruction, Posting};
+use row_tests::is_of;
 use settlement::settle_from;
 use table_accounts::write_account;
-use table_rows::{row_numbered, write_row};
+use table_rows::{Rows, write_row};
 use tables::words::get;
 
 // Why an admitted event 4 is refused, if it is.
@@ -36,15 +37,14 @@ fn check_return(t: &TablesMut, e: Instruction) -> Result<(), Refusal>
         × Admitted (lent_mut t.now) e }
     ensures { number_by result ≡ answer_number (book_of (lent_mut t.now)) e }
 {
-    let used = t.used() as usize;
-    let r = row_numbered(t.journal, used, e.a);
-    if (r.kind != KIND_PAYMENT) | (r.account != e.account) {
+    let r = t.rows().numbered(e.a);
+    if !is_of(r, KIND_PAYMENT, e.account) {
         return Err(Refusal::NoRow);
     }
     if r.mark != METHOD_CHECK {
         return Err(Refusal::Untimely);
     }
-    if t.journal.len() / ROW_WIDTH < used + 2 {
+    if !t.has_room(2) {
         return Err(Refusal::Full);
     }
     Ok(())
@@ -63,7 +63,8 @@ fn mark_returned(journal: &mut [i64], used: usize, n: u64) -> u64
     requires { Marks journal.old used n }
     ensures { Marked journal.old journal.new used n result }
 {
-    let mut r = row_numbered(journal, used, n);
+    let rows = Rows { journal, used };
+    let mut r = rows.numbered(n);
     r.mark = METHOD_CHECK_RETURNED;
     write_row(journal, (n - 1) as usize, r);
     r.amount
@@ -76,8 +77,7 @@ fn add_naming(header: &mut [i64], journal: &mut [i64], e: Instruction, kind: u64
     ensures { RowAdded header.old header.new journal.old journal.new
         (with_reference e.a (new_row kind e.account (word header.old day_place) amount)) }
 {
-    let mut r = new_row(kind, e.account, get(header, DAY_PLACE), amount);
-    r.reference = e.a;
+    let r = row_naming(kind, e.account, get(header, DAY_PLACE), amount, e.a);
     add_row(header, journal, r);
 }
 

@@ -39,7 +39,7 @@ use Rattle.tick_base.proofs.MidwayLaws.{written-written, sound-midway}
 use Rattle.tick_plan.specs.declared.Plan.{Plan}
 use Rattle.tick_plan.specs.Plans.{Planned}
 use Rattle.tick_holds.specs.Holds.{UnraisedRows}
-use Rattle.tick_close.specs.Closing.{ReadyToClose}
+use Rattle.event_tick.specs.TickEvent.{Closes}
 use Rattle.event_tick.proofs.TickLaws.{written-midway}
 
 module _ (t : Tables) (s : sound_tables t ≡ true) (e : Instruction) (k : e.kind ≡ event_tick) (q : 0 ≡ answer_number (book_of t) e) where
@@ -136,8 +136,8 @@ module _ (t : Tables) (s : sound_tables t ≡ true) (e : Instruction) (k : e.kin
       closing-room = rw (late-book, late-written.journal-size) (omega (arith, fits_after, room-read t s))
 
       -- no account closes that was not to
-      pub late-closing : (p : Plan) → Planned b p → ReadyToClose u p.closing
-      late-closing p w = record { midway = late-midway; room = closing-room; quiet = λ e. rw late-book (quiet e) }
+      pub late-closing : (p : Plan) → Planned b p → Closes u p
+      late-closing p w = record { ready = record { midway = late-midway; room = closing-room }; quiet = λ e. rw late-book (quiet e) }
         where
           same-accounts : (raise_tolls (before_raising b)).accounts ≡ b.accounts
           same-accounts = unfold raise_tolls before_raising settled end_holds next_day in refl

@@ -1,17 +1,19 @@
 -- Event 9: its refusals, and a tick that is not refused.
-use Rattle.std.specs.Prelude.{◌≡◌, true, ◌+◌, [], ◌∷◌, length, ltb, Result, IfOk}
+use Rattle.std.specs.Prelude.{◌≡◌, true, false, ℕ, suc, ◌+◌, ◌<◌, [], ◌∷◌, length, get_or, ltb, Result, IfOk}
 use Rattle.records.specs.declared.refusals.Refusal.{Refusal}
 use Rattle.records.specs.Outcomes.{number_by}
 use Rattle.records.specs.Numbers.{answer_last_day, answer_full}
 use Rattle.records.specs.Codes.{event_tick}
 use Rattle.lists.specs.Tests.{◌is◌, Cases}
 use Rattle.records.specs.Limits.{final_day}
-use Rattle.rules.specs.Book.{Instruction, Book}
+use Rattle.rules.specs.Book.{unused, Instruction, Book}
 use Rattle.rules.specs.Refusals.{answer_number}
+use Rattle.rules.specs.Tick.{closes}
 use Rattle.rules.specs.Tables.{Tables, book_of, sound_tables}
 use Rattle.tick_rules.specs.Ticks.{fees_added, refunds_added}
 use Rattle.tick_plan.specs.declared.Plan.{Plan}
 use Rattle.tick_plan.specs.Plans.{Planned}
+use Rattle.tick_close.specs.Closing.{ReadyToClose}
 
 -- the refusals of event 9's own, out of the table of all, in checking order; 14 never applies
 unfoldable pub tick_refusals : Book → Instruction → Cases
@@ -31,3 +33,9 @@ pub record Accepts (t : Tables) (e : Instruction) (p : Plan) : Type 0 where
   pub kind : e.kind ≡ event_tick
   pub taken : 0 ≡ answer_number (book_of t) e
   pub plan : Planned (book_of t) p
+
+-- tables midway whose accounts can be closed, and a plan that is right about whether one closes
+pub record Closes (t : Tables) (p : Plan) : Type 0 where
+  pub ready : ReadyToClose t
+  pub quiet : p.closing ≡ false → (k : ℕ) → k < length (book_of t).accounts →
+      closes (book_of t) (suc k) (get_or (book_of t).accounts k unused) ≡ false

@@ -3,16 +3,20 @@
 
 ghost use Rattle.std.specs.Prelude.{◌≡◌, true, Ok};
 ghost use Rattle.records.specs.Outcomes.{answer_of};
+ghost use Rattle.rules.specs.Tick.{close_accounts};
 ghost use Rattle.rules.specs.Tables.{book_of, sound_tables};
 ghost use Rattle.posting.specs.Posts.{Posts};
+ghost use Rattle.posting.specs.Written.{Written};
 ghost use Rattle.event_refusals.specs.Admissions.{Admitted};
-ghost use Rattle.event_tick.specs.TickEvent.{Judges, Accepts};
+ghost use Rattle.tick_plan.specs.Plans.{Planned};
+ghost use Rattle.tick_holds.specs.Holds.{UnraisedRows};
+ghost use Rattle.event_tick.specs.TickEvent.{Judges, Accepts, Closes};
 ghost use Rattle.records.specs.Codes.{event_tick};
 ghost use Rattle.lent.specs.Lent.{lent_mut, SameTables};
 
 use lent::TablesMut;
 use posting::answers::posted;
-use records::layout::{DAY_PLACE, ROW_WIDTH};
+use records::layout::DAY_PLACE;
 use records::limits::FINAL_DAY;
 use records::refusals::Refusal;
 use records::{Instruction, Posting};
@@ -33,12 +37,36 @@ fn judge_tick(t: &TablesMut, e: Instruction) -> Result<Plan, Refusal>
     if t.day() == FINAL_DAY {
         return Err(Refusal::LastDay);
     }
-    let used = t.used() as usize;
     let plan = plan_tick(t);
-    if t.journal.len() / ROW_WIDTH < used + plan.added {
+    if !t.has_room(plan.added) {
         return Err(Refusal::Full);
     }
     Ok(plan)
+}
+
+// Holds end and their accounts are settled, where the plan has a hold that ends. On most days none does, and nothing changes.
+fn end_holds(t: &mut TablesMut, plan: Plan)
+    requires { (sound_tables (lent_mut t.old) ≡ true) × Planned (book_of (lent_mut t.old)) plan }
+    ensures same { SameTables t.old t.new }
+    ensures header { t.new.header.now ≡ t.old.header.now }
+    ensures accounts { t.new.accounts.now ≡ t.old.accounts.now }
+    ensures rows { UnraisedRows (lent_mut t.old) t.new.journal.now }
+{
+    if plan.ending {
+        free_and_settle(t);
+    }
+}
+
+// Accounts close, where the plan has one that does. On most days none does, and nothing changes.
+fn close_due(t: &mut TablesMut, plan: Plan)
+    requires { Closes (lent_mut t.old) plan }
+    ensures same { SameTables t.old t.new }
+    ensures written { Written (lent_mut t.old) (lent_mut t.new)
+        (close_accounts (book_of (lent_mut t.old))) }
+{
+    if plan.closing {
+        close_accounts(t);
+    }
 }
 
 // A tick as planned: holds end, settlement, the day rises, tolls rise, accounts close.
@@ -48,11 +76,11 @@ fn carry_out(t: &mut TablesMut, e: Instruction, plan: Plan) -> Posting
     ensures posts { Posts (lent_mut t.old) (lent_mut t.new) e (answer_of (Ok result)) }
 {
     let used = t.used();
-    free_and_settle(t, plan.ending);
+    end_holds(t, plan);
     let today = t.day();
     put(t.header, DAY_PLACE, today + 1);
     let raised = raise_tolls(t);
-    close_accounts(t, plan.closing);
+    close_due(t, plan);
     posted(used, t.used() - used, raised, false)
 }
 

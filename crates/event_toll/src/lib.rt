@@ -14,17 +14,16 @@ ghost use Rattle.records.specs.Codes.{event_toll};
 ghost use Rattle.event_toll.specs.Toll.{toll_row};
 ghost use Rattle.lent.specs.Lent.{lent_mut, SameTables};
 
+use event_ends::add_and_settle;
 use event_lookups::Lookup;
 use event_rates::{Class, class_of, rate_of};
 use lent::TablesMut;
-use posting::answers::posted;
-use posting::rows::{add_row, new_row};
+use posting::rows::new_row;
 use records::codes::KIND_TOLL;
-use records::layout::{HEADER_SCHEDULE, ROW_WIDTH, STAGE_PLACE};
+use records::layout::{HEADER_SCHEDULE, STAGE_PLACE};
 use records::limits::LATEST_DAYS;
 use records::refusals::Refusal;
 use records::{Instruction, Posting, Row};
-use settlement::settle_from;
 use tables::words::get;
 
 // The class of the vehicle of an admitted event 2, or why the event is refused.
@@ -37,7 +36,6 @@ fn check_toll(t: &TablesMut, e: Instruction, k: Lookup) -> Result<Class, Refusal
     ensures class { IfOk result (λ k. class_number k ≡ class e.c e.d) }
 {
     let today = t.day();
-    let used = t.used() as usize;
     let Some(class) = class_of(e.c, e.d) else {
         return Err(Refusal::Unclassed);
     };
@@ -47,7 +45,7 @@ fn check_toll(t: &TablesMut, e: Instruction, k: Lookup) -> Result<Class, Refusal
     if k.duplicate {
         return Err(Refusal::Duplicate);
     }
-    if t.journal.len() / ROW_WIDTH <= used {
+    if !t.has_room(1) {
         return Err(Refusal::Full);
     }
     Ok(class)
@@ -80,9 +78,6 @@ pub fn post_toll(t: &mut TablesMut, e: Instruction, k: Lookup) -> Result<Posting
     ensures posts { Posts (lent_mut t.old) (lent_mut t.new) e (answer_of result) }
 {
     let class = check_toll(t, e, k)?;
-    let used = t.used();
     let r = toll_row(t, e, class);
-    add_row(&mut *t.header, &mut *t.journal, r);
-    settle_from(t.journal, used as usize + 1, e.account, k.source, k.debit);
-    Ok(posted(used, 1, 0, false))
+    Ok(add_and_settle(t, r, k))
 }

@@ -2,11 +2,9 @@
 use mathlib.Core.Path.{◌≡◌, refl, ◌∙◌}
 use mathlib.Core.Bool.{Bool, true, false, not, ◌&&◌, and-false, or-false}
 use Prim.Native.Nat.{◌+◌, ◌≤◌}
-use native.Mathlib.Omega.{arith}
 use mathlib.Core.List.{[], ◌∷◌, ◌++◌}
 use lib.ListN.{length}
-use lib.Dec.{leb, ltb}
-use borrow.Author.Tests.{leb-true, leb-false}
+use lib.Dec.{ltb}
 use Rattle.records.specs.Numbers.{answer_untimely, answer_full}
 use Rattle.records.specs.Codes.{method_card, code_yes, event_topup_result}
 use Rattle.lists.specs.Tests.{◌is◌, first}
@@ -15,10 +13,10 @@ use Rattle.rules.specs.Rows.{Row, kind_payment, new_row, with_mark}
 use Rattle.rules.specs.Book.{Instruction, Book, account, low_balance, topup_due}
 use Rattle.rules.specs.Events.{pay_topup, decline_topup, topup_result}
 use Rattle.rules.specs.Refusals.{change_of, unclassed, misdated, duplicate, barred, no_row, untimely, last_day, full, ceiling, refusals, answer_number, shared_count, shared_refusals, own_refusals}
-use Rattle.rules.specs.Tables.{Tables, room_in, rows_used, book_of, sound_tables}
+use Rattle.rules.specs.Tables.{Tables, book_of, sound_tables}
 use Rattle.records.specs.Updates.{of_kind}
 use Rattle.rules.proofs.RefusalLaws.{answer_number-own}
-use Rattle.posting_laws.proofs.RefusalLaws.{at-kind, length-after, no-ceiling, rows-lack, rows-suffice}
+use Rattle.posting_laws.proofs.RefusalLaws.{at-kind, length-after, no-ceiling}
 use Rattle.posting_laws.proofs.AccountEventLaws.{rows_fit, never-full, never-above}
 use Rattle.event_refusals.specs.Admissions.{Admitted}
 use Rattle.event_topup.specs.TopupResult.{result_refusals}
@@ -71,8 +69,3 @@ pub result_by : (t : Tables) → sound_tables t ≡ true → (e : Instruction) �
     → first ((answer_untimely, not d) ∷ (answer_full, r) ∷ []) ≡ answer_number (book_of t) e
 unfolding result_refusals
 result_by t s e k a d r w z = rw (answer-result (book_of t) e (rows_fit t s) k a, w, z)
-
--- the journal is full by what is read of it
-pub no-row-left : (t : Tables) → sound_tables t ≡ true → (y : Bool) → leb (room_in t) (rows_used t) ≡ y → ltb (book_of t).room (length (book_of t).rows + 1) ≡ y
-no-row-left t s true q = rows-lack t s 1 (omega (arith, leb-true (room_in t) (rows_used t) q))
-no-row-left t s false q = rows-suffice t s 1 (omega (arith, leb-false (room_in t) (rows_used t) q))

@@ -30,6 +30,8 @@ use records::refusals::Refusal;
 use records::{Account, Instruction, Posting};
 
 // An admitted event, of the account x and with what has been looked up for it. No other kind is admitted.
+// Kept: the three go on one by one, since three of the ten functions take them all, and each asks for no more than it uses; so do the facts
+// of them (Admitted, Names, LooksUp), which are about the tables too.
 pub fn post_admitted(
     t: &mut TablesMut,
     e: Instruction,

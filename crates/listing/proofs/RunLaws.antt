@@ -6,7 +6,7 @@ use native.Mathlib.Omega.{arith}
 use mathlib.Core.List.{List, [], ◌∷◌, ◌++◌, append-nil, append_assoc}
 use lib.ListN.{length, length-append, length-drop}
 use Rattle.rules.specs.Book.{Book}
-use Rattle.rules.specs.Tables.{Tables, book_of}
+use Rattle.rules.specs.Tables.{book_of}
 use Rattle.listing_rules.specs.Texts.{lines_of}
 use Rattle.listing_rules.specs.Listing.{book_by, good_text, listed, listing}
 use Rattle.listing_lines.specs.Lines.{Sized}
@@ -177,12 +177,11 @@ module _ (s q : State) (n : ℕ) (g : Going s n) (o : over s.place ≡ false) (w
           }
 
   -- the program ends after it
-  pub ran-turned : (r : Ending) → (r ≡ Listed → over q.place ≡ true) → (r ≡ Unended → ⊥) → Ran q.tables q.input (unprinted q.place q.out) r
+  pub ran-turned : (r : Ending) → (r ≡ Listed → over q.place ≡ true) → (r ≡ Unended → ⊥) → Ran (after_print q) r
   ran-turned r l u = go (over q.place) (waits s.place) refl refl
     where
-      ran : (got said : List ℕ) → Run got (n + 1) (after_print q) [] said → Ran q.tables q.input (unprinted q.place q.out) r
+      ran : (got said : List ℕ) → Run got (n + 1) (after_print q) [] said → Ran (after_print q) r
       ran got said k = record {
-        place = q.place;
         turns = n + 1;
         got = got;
         said = said;
@@ -191,7 +190,7 @@ module _ (s q : State) (n : ℕ) (g : Going s n) (o : over s.place ≡ false) (w
         unended = λ e. absurd (u e);
       }
 
-      go : (b w : Bool) → over q.place ≡ b → waits s.place ≡ w → Ran q.tables q.input (unprinted q.place q.out) r
+      go : (b w : Bool) → over q.place ≡ b → waits s.place ≡ w → Ran (after_print q) r
       go false v z e = let k = going-turned z in ran (k.got ++ []) k.said (k.run [])
       go true false z e = ran (g.got ++ []) (g.said ++ handed q) (steps q (g.run []) o e (w.steps e))
       go true true z e = ran (g.got ++ []) (g.said ++ handed q) (ends q (g.run []) o e ((w.reads e).none z))
@@ -215,13 +214,12 @@ looping-turned s q taken l h w o = record {
 
 -- it ends after a turn
 pub ran-loop : (s q : State) (taken : ℕ) (r : Ending) → Looping s taken → Turned s q → (r ≡ Listed → over q.place ≡ true) → (r ≡ Unended → ⊥)
-    → Ran q.tables q.input (unprinted q.place q.out) r
+    → Ran (after_print q) r
 ran-loop s q taken r l w = ran-turned s q taken l.going l.on w r
 
 -- its turns are used up
-pub ran-unended : (s : State) → Looping s most_turns → Ran s.tables s.input s.out Unended
+pub ran-unended : (s : State) → Looping s most_turns → Ran s Unended
 ran-unended s l = record {
-  place = s.place;
   turns = most_turns;
   got = l.going.got ++ [];
   said = l.going.said;
@@ -231,9 +229,9 @@ ran-unended s l = record {
 }
 
 -- where it ends because the listing is over, it has handed the listing of what it got to be printed
-pub ran-listing : (t : Tables) (input out : List ℕ) (r : Ran t input out Listed) → r.said ≡ listing r.got
-ran-listing t input out r = run-listing r.run (r.listed refl)
+pub ran-listing : (s : State) (r : Ran s Listed) → r.said ≡ listing r.got
+ran-listing s r = run-listing r.run (r.listed refl)
 
 -- where its turns are used up, it has got a third as many bytes
-pub ran-long : (t : Tables) (input out : List ℕ) (r : Ran t input out Unended) → most_turns ≤ turns_per_byte * length r.got
-ran-long t input out r = let u = r.unended refl in omega (arith, run-turns r.run u.1, u.0)
+pub ran-long : (s : State) (r : Ran s Unended) → most_turns ≤ turns_per_byte * length r.got
+ran-long s r = let u = r.unended refl in omega (arith, run-turns r.run u.1, u.0)

@@ -34,7 +34,12 @@ over-is phase.Taking e = absurd (true≢false (sym e))
 over-is phase.Waiting e = absurd (true≢false (sym e))
 over-is phase.Over e = refl
 
--- the test of two phases
+-- the tests of two phases
+pub same-waiting : (f : Phase) → sameb the_type f phase.Waiting ≡ is_waiting f
+same-waiting phase.Taking = refl
+same-waiting phase.Waiting = refl
+same-waiting phase.Over = refl
+
 pub same-over : (f : Phase) → sameb the_type f phase.Over ≡ is_over f
 same-over phase.Taking = refl
 same-over phase.Waiting = refl
@@ -115,13 +120,12 @@ module _ (t : Tables) (old new : List ℕ) (p : Place) (out : List ℕ) (more : 
     none = λ o. absurd (true≢false (sym o));
   }
 
-  pub read-none : more ≡ 0 → (u : Tables) (c : List ℕ) → c ≡ out ++ listed p.lines (book_of t) (lines_of new)
-      → Reads before (record { tables = u; input = new; out = c; place = over_at p.lines })
+  pub read-none : more ≡ 0 → (q : State) → q.place ≡ over_at p.lines → q.out ≡ out ++ listed p.lines (book_of t) (lines_of new) → Reads before q
   unfolding to_list
-  read-none z u c e = record {
+  read-none z q o e = record {
     got = got;
-    some = λ o. absurd (true≢false o);
-    none = λ o. record { empty = w; over = refl; rest = rw (append-nil old, ← read-kept z) e };
+    some = λ k. absurd (true≢false (sym (ap over o) ∙ k));
+    none = λ k. record { empty = w; over = k; rest = rw (append-nil old, ← read-kept z) e };
   }
 
 -- ---- the next turn

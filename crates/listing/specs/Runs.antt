@@ -1,8 +1,6 @@
 -- The turns of the program together: a run over an input that comes in parts.
 use Rattle.std.specs.Prelude.{◌≡◌, true, false, ℕ, ◌+◌, ◌-◌, List, [], ◌++◌}
-use Rattle.rules.specs.Tables.{Tables}
 use Rattle.listing_rules.specs.Listing.{most_lines}
-use Rattle.listing_steps.specs.declared.Place.{Place}
 use Rattle.listing_steps.specs.Steps.{waits, over}
 use Rattle.listing.specs.declared.Ending.{Ending}
 use Rattle.listing.specs.declared.Ending.TheVariants.{Listed, Unended}
@@ -36,12 +34,11 @@ pub record Going (s : State) (n : ℕ) : Type 0 where
   pub said : List ℕ
   pub run : (more : List ℕ) → Run (got ++ more) n s more said
 
--- the program has ended for reason r, with these tables, these bytes left to take and to print, after a run over the bytes that it got
-pub record Ran (t : Tables) (input out : List ℕ) (r : Ending) : Type 0 where
-  pub place : Place
+-- the program has ended for reason r, in state s, after a run over the bytes that it got
+pub record Ran (s : State) (r : Ending) : Type 0 where
   pub turns : ℕ
   pub got : List ℕ
   pub said : List ℕ
-  pub run : Run got turns (record { tables = t; input = input; out = out; place = place }) [] said
-  pub listed : r ≡ Listed → over place ≡ true
-  pub unended : r ≡ Unended → (turns ≡ most_turns) × (over place ≡ false)
+  pub run : Run got turns s [] said
+  pub listed : r ≡ Listed → over s.place ≡ true
+  pub unended : r ≡ Unended → (turns ≡ most_turns) × (over s.place ≡ false)

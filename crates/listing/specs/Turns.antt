@@ -1,8 +1,10 @@
 -- A turn of the program: a step of the listing, or a read, or the end of the input; and what is printed after it.
 use Rattle.std.specs.Prelude.{◌≡◌, Bool, true, false, cond, ◌||◌, ℕ, ◌<◌, List, [], ◌++◌, leb, length}
 use Rattle.rules.specs.Tables.{Tables}
+use Rattle.lent.specs.Lent.{lent_mut}
 use Rattle.listing_steps.specs.declared.Phase.TheVariants as phase
 use Rattle.listing_steps.specs.declared.Place.{Place}
+use Rattle.listing_steps.specs.declared.Listing.{Listing}
 use Rattle.listing_steps.specs.Steps.{waits, over, Stands, to_list, Waiting, Stepped}
 
 -- ---- where the program stands
@@ -18,9 +20,9 @@ pub record State : Type 0 where
   pub out : List ℕ
   pub place : Place
 
--- the same, part by part
-abbrev pub state_at : Tables → List ℕ → List ℕ → Place → State
-state_at t input out p = record { tables = t; input = input; out = out; place = p }
+-- where the listing stands
+abbrev pub state_of : Listing → State
+state_of l = record { tables = lent_mut l.t; input = l.input; out = l.out; place = l.place }
 
 -- no line is taken
 abbrev pub start_place : Place

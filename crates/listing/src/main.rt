@@ -3,17 +3,17 @@
 // `print_due` and the input's `read_more` alone touch the system.
 #![tactic(auto)]
 
-ghost use Rattle.std.specs.Prelude.{◌≡◌, [], true};
+ghost use Rattle.std.specs.Prelude.{◌≡◌, true};
 ghost use Rattle.listing_lines.specs.Lines.{Sized};
 ghost use Rattle.listing_steps.specs.Steps.{waits};
-ghost use Rattle.listing.specs.Turns.{state_at, Standing, Reads, Turned, due, unprinted};
+ghost use Rattle.listing.specs.Turns.{state_of, Starts, Standing, Reads, Turned, due, after_print};
 ghost use Rattle.listing.specs.Runs.{Ran};
 ghost use Rattle.lent.specs.Lent.{lent_mut, SameTables};
 
 use decimal::Text;
 use lent::TablesMut;
 use listing_input::Input;
-use listing_steps::{Phase, Place, take_next, write_rest};
+use listing_steps::{Listing, Phase, Place};
 use records::layout::{ACCOUNT_WIDTH, HEADER_WIDTH, ROW_WIDTH};
 use std::io;
 use std::io::Write;
@@ -51,84 +51,64 @@ fn must_print(p: Place, out: &Text) -> bool
 }
 
 // Prints what is written where it is due, and leaves nothing of it.
-fn print_due(rt: &HostRuntime, p: Place, out: &mut Text) -> io::Result<()>
-    ensures { out.new ≡ unprinted p out.old }
+fn print_due(rt: &HostRuntime, listing: &mut Listing) -> io::Result<()>
+    ensures same { SameTables listing.old.t listing.new.t }
+    ensures printed { state_of listing.new ≡ after_print (state_of listing.old) }
 {
-    if !must_print(p, out) {
+    if !must_print(listing.place, &listing.out) {
         return Ok(());
     }
-    let printed = rt.stdout().write_all(out.as_bytes());
-    out.clear();
+    let printed = rt.stdout().write_all(listing.out.as_bytes());
+    listing.out.clear();
     printed
 }
 
 // ---- a turn
 
 // No whole line is left: reads more of the input. Where none comes the input has ended, and the bytes that wait are its last line.
-fn read_on(
-    rt: &HostRuntime,
-    t: &mut TablesMut,
-    input: &mut Input,
-    p: Place,
-    out: &mut Text,
-) -> Place
-    requires { Standing (state_at (lent_mut t.old) input.old out.old p)
-        × (waits p ≡ true) }
-    ensures same { SameTables t.old t.new }
-    ensures reads { Reads
-        (state_at (lent_mut t.old) input.old out.old p)
-        (state_at (lent_mut t.new) input.new out.new result) }
+fn read_on(rt: &HostRuntime, listing: &mut Listing)
+    requires { Standing (state_of listing.old)
+        × (waits listing.old.place ≡ true) }
+    ensures same { SameTables listing.old.t listing.new.t }
+    ensures reads { Reads (state_of listing.old) (state_of listing.new) }
 {
-    let more = input.read_more(rt);
+    let more = listing.input.read_more(rt);
     if more == 0 {
-        write_rest(t, input.as_bytes(), p.lines, out);
-        return Place {
-            lines: p.lines,
-            phase: Phase::Over,
-        };
+        listing.write_rest();
+        return;
     }
-    Place {
-        phase: Phase::Taking,
-        ..p
-    }
+    listing.place.phase = Phase::Taking;
 }
 
 // One line, or more input where it waits for it.
-fn turn(rt: &HostRuntime, t: &mut TablesMut, input: &mut Input, p: Place, out: &mut Text) -> Place
-    requires { Standing (state_at (lent_mut t.old) input.old out.old p) }
-    ensures same { SameTables t.old t.new }
-    ensures turned { Turned
-        (state_at (lent_mut t.old) input.old out.old p)
-        (state_at (lent_mut t.new) input.new out.new result) }
+fn turn(rt: &HostRuntime, listing: &mut Listing)
+    requires { Standing (state_of listing.old) }
+    ensures same { SameTables listing.old.t listing.new.t }
+    ensures turned { Turned (state_of listing.old) (state_of listing.new) }
 {
-    match p.phase {
-        Phase::Waiting => read_on(rt, t, input, p, out),
-        _ => take_next(t, input, p, out),
+    if listing.place.phase == Phase::Waiting {
+        read_on(rt, listing);
+        return;
     }
+    listing.take_next();
 }
 
 // ---- the whole
 
 // Lists standard input, and returns why it ends. An input of fewer bytes than a third of MOST_TURNS does not use the turns up
 // (RunLaws.ran-long).
-fn run(rt: &HostRuntime, t: &mut TablesMut, input: &mut Input, out: &mut Text) -> Ending
-    requires { Sized (lent_mut t.old)
-        × (input.old ≡ []) × (out.old ≡ []) }
-    ensures same { SameTables t.old t.new }
-    ensures ran { Ran
-        (lent_mut t.new)
-        input.new out.new result }
+fn run(rt: &HostRuntime, listing: &mut Listing) -> Ending
+    requires { Sized (lent_mut listing.old.t)
+        × Starts (state_of listing.old) }
+    ensures same { SameTables listing.old.t listing.new.t }
+    ensures ran { Ran (state_of listing.new) result }
 {
-    let mut p = Place {
-        lines: 0,
-        phase: Phase::Waiting,
-    };
     for taken in 0..MOST_TURNS {
-        p = turn(rt, t, input, p, out);
-        if print_due(rt, p, out).is_err() {
+        turn(rt, listing);
+        if print_due(rt, listing).is_err() {
             return Ending::Unprinted;
         }
-        if p.phase == Phase::Over {
+        if listing.place.phase == Phase::Over {
             return Ending::Listed;
         }
     }
@@ -139,12 +119,18 @@ fn main(rt: HostRuntime) {
     let mut header = [0i64; HEADER_WIDTH];
     let mut accounts = [0i64; LISTED_ACCOUNTS * ACCOUNT_WIDTH];
     let mut journal = [0i64; LISTED_ROWS * ROW_WIDTH];
-    let mut input = Input::new();
-    let mut out = Text::new();
-    let mut t = TablesMut {
-        header: &mut header,
-        accounts: &mut accounts,
-        journal: &mut journal,
+    let mut listing = Listing {
+        t: TablesMut {
+            header: &mut header,
+            accounts: &mut accounts,
+            journal: &mut journal,
+        },
+        input: Input::new(),
+        out: Text::new(),
+        place: Place {
+            lines: 0,
+            phase: Phase::Waiting,
+        },
     };
-    run(&rt, &mut t, &mut input, &mut out);
+    run(&rt, &mut listing);
 }

@@ -4,29 +4,27 @@
 
 ghost use Rattle.std.specs.Prelude.{◌≡◌, true, ◌++◌, ◌+◌, ◌*◌, ◌≤◌, length};
 ghost use Rattle.lists.specs.Lists.{gather};
-ghost use Rattle.records.specs.Layout.{account_width};
-ghost use Rattle.records.specs.Encoding.{rows_of, accounts_of};
+ghost use Rattle.records.specs.Encoding.{accounts_of};
 ghost use Rattle.decimal.specs.Bytes.{text_bytes};
 ghost use Rattle.decimal.specs.Decimal.{text_of, date_text};
 ghost use Rattle.records.specs.Limits.{final_day};
 ghost use Rattle.rules.specs.Book.{Book, sources, debits, minus};
 ghost use Rattle.rules.specs.Tables.{accounts_in, rows_used, book_of, sound_tables};
-ghost use Rattle.posting.specs.Posts.{Amounts};
+ghost use Rattle.table_rows.specs.UsedRows.{rows_in};
 ghost use Rattle.listing_rules.specs.Texts.{field, line, row_text, account_text, book_text};
 ghost use Rattle.listing_rules.specs.Sizes.{most_row_bytes, most_day_bytes, most_account_bytes, book_names_bytes, most_field_bytes};
 ghost use Rattle.listing_book.specs.Listed.{Dated};
 ghost use Rattle.lent.specs.Lent.{lent_mut};
 
+use balances::summable::SummableRows;
 use balances::sums_of;
 use decimal::Text;
 use lent::TablesMut;
 use listing_text::write_field;
 use records::codes::STATE_UNUSED;
-use records::layout::ACCOUNT_WIDTH;
 use records::{Account, Row};
 use table_accounts::read_account;
-use table_rows::read_row;
-use tables::words::minus;
+use table_rows::{Rows, read_row};
 
 // ---- rows
 
@@ -55,34 +53,35 @@ fn write_row(out: &mut Text, n: u64, r: Row)
 }
 
 // Writes a line for each used row.
-fn write_rows(out: &mut Text, journal: &[i64], used: usize)
-    requires { (length out.old + used * most_row_bytes ≤ text_bytes) × Dated journal.now used }
-    ensures text { out.new ≡ out.old ++ gather row_text (rows_of journal.now used) }
-    ensures short { length out.new ≤ length out.old + used * most_row_bytes }
+fn write_rows(out: &mut Text, rows: &Rows)
+    requires { (length out.old + rows.now.used * most_row_bytes ≤ text_bytes)
+        × Dated rows.now.journal.now rows.now.used }
+    ensures text { out.new ≡ out.old ++ gather row_text (rows_in rows.now) }
+    ensures short { length out.new ≤ length out.old + rows.now.used * most_row_bytes }
 {
-    for i in 0..used {
-        write_row(out, i as u64 + 1, read_row(journal, i));
+    for i in 0..rows.used {
+        write_row(out, i as u64 + 1, read_row(rows.journal, i));
     }
 }
 
 // ---- accounts
 
 // Writes the balance of account n, its sources less its debits, as the last field of a line.
-fn write_balance(out: &mut Text, journal: &[i64], used: usize, n: u64)
-    requires { (length out.old + most_field_bytes ≤ text_bytes) × Amounts journal.now used }
+fn write_balance(out: &mut Text, summable: SummableRows, n: u64)
+    requires { length out.old + most_field_bytes ≤ text_bytes }
     ensures text { out.new ≡ out.old ++ line (text_of
-        (minus (sources (rows_of journal.now used) n) (debits (rows_of journal.now used) n))) }
+        (minus (sources (rows_in summable.entry.rows) n) (debits (rows_in summable.entry.rows) n))) }
     ensures short { length out.new ≤ length out.old + most_field_bytes }
 {
-    let s = sums_of(journal, used, n);
-    out.push_number(minus(s.sources, s.debits));
+    let s = sums_of(summable, n);
+    out.push_number(s.balance());
     out.push(b'\n');
 }
 
 // Writes the line of account n in a book with these rows, nothing of an unused one.
-fn write_account(out: &mut Text, journal: &[i64], used: usize, n: u64, x: Account)
-    requires { (length out.old + most_account_bytes ≤ text_bytes) × Amounts journal.now used }
-    ensures text { (b : Book) → b.rows ≡ rows_of journal.now used → out.new ≡ out.old ++ account_text b n x }
+fn write_account(out: &mut Text, summable: SummableRows, n: u64, x: Account)
+    requires { length out.old + most_account_bytes ≤ text_bytes }
+    ensures text { (b : Book) → b.rows ≡ rows_in summable.entry.rows → out.new ≡ out.old ++ account_text b n x }
     ensures short { length out.new ≤ length out.old + most_account_bytes }
 {
     if x.state == STATE_UNUSED {
@@ -90,20 +89,19 @@ fn write_account(out: &mut Text, journal: &[i64], used: usize, n: u64, x: Accoun
     }
     write_field(out, n, b',');
     write_field(out, x.state, b',');
-    write_balance(out, journal, used, n);
+    write_balance(out, summable, n);
 }
 
-// Writes a line for each used account of a book with these rows.
-fn write_accounts(out: &mut Text, accounts: &[i64], count: usize, journal: &[i64], used: usize)
-    requires { (length out.old + count * most_account_bytes ≤ text_bytes)
-        × (count * account_width ≤ length accounts.now)
-        × Amounts journal.now used }
-    ensures text { (b : Book) → b.rows ≡ rows_of journal.now used
-        → out.new ≡ out.old ++ gather (account_text b) (accounts_of accounts.now count) }
-    ensures short { length out.new ≤ length out.old + count * most_account_bytes }
+// Writes a line for each used account of the tables, in a book with these rows.
+fn write_accounts(out: &mut Text, t: &TablesMut, summable: SummableRows)
+    requires { length out.old + accounts_in (lent_mut t.now) * most_account_bytes ≤ text_bytes }
+    ensures text { (b : Book) → b.rows ≡ rows_in summable.entry.rows
+        → out.new ≡ out.old ++ gather (account_text b) (accounts_of t.now.accounts.now (accounts_in (lent_mut t.now))) }
+    ensures short { length out.new ≤ length out.old + accounts_in (lent_mut t.now) * most_account_bytes }
 {
+    let count = t.count();
     for i in 0..count {
-        write_account(out, journal, used, i as u64 + 1, read_account(accounts, i));
+        write_account(out, summable, i as u64 + 1, read_account(t.accounts, i));
     }
 }
 
@@ -117,15 +115,9 @@ pub fn write_book(t: &TablesMut, out: &mut Text)
         + accounts_in (lent_mut t.now) * most_account_bytes ≤ text_bytes }
     ensures { out.new ≡ out.old ++ book_text (book_of (lent_mut t.now)) }
 {
-    let used = t.used() as usize;
+    let rows = t.rows();
     out.extend_from_slice(b"row,account,kind,date,amount,settled\n");
-    write_rows(out, t.journal, used);
+    write_rows(out, &rows);
     out.extend_from_slice(b"account,state,balance\n");
-    write_accounts(
-        out,
-        t.accounts,
-        t.accounts.len() / ACCOUNT_WIDTH,
-        t.journal,
-        used,
-    );
+    write_accounts(out, t, SummableRows { rows });
 }

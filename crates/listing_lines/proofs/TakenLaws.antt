@@ -250,10 +250,10 @@ module _ (n : ℕ) (t u : Tables) (l : List ℕ) (w : List ℤ) (e : Instruction
 
 -- ---- the number of an opening
 
-pub refused-number : {A : Type 0} (r : Result A Refusal) → is_err r ≡ true → number_by r ≢ 0
-refused-number (Ok x) h = absurd (true≢false (sym h))
+pub refused-number : {A : Type 0} (r : Result A Refusal) → is_ok r ≡ false → number_by r ≢ 0
+refused-number (Ok x) h = absurd (true≢false h)
 refused-number (Err f) h = λ z. absurd (true≢false (sym (eq-eqb _ _ z) ∙ number_of-not_0 f))
 
-pub opened-number : {A : Type 0} (r : Result A Refusal) → is_err r ≡ false → number_by r ≡ 0
+pub opened-number : {A : Type 0} (r : Result A Refusal) → is_ok r ≡ true → number_by r ≡ 0
 opened-number (Ok x) h = refl
-opened-number (Err f) h = absurd (true≢false h)
+opened-number (Err f) h = absurd (true≢false (sym h))

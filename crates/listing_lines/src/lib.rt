@@ -47,10 +47,7 @@ fn second_line(t: &mut TablesMut, line: &[u8]) -> Result<(), BadLine>
         line.now result }
 {
     let values = read_numbers::<OPENING_WIDTH>(line).ok_or(BadLine)?;
-    if open_book(t, &values).is_err() {
-        return Err(BadLine);
-    }
-    Ok(())
+    open_book(t, &values).map_err(|_| BadLine)
 }
 
 // Line 3: the names of an event's words. The answers' names are printed for it.
@@ -93,7 +90,7 @@ fn carry_out(t: &mut TablesMut, line: &[u8], n: u64, out: &mut Text) -> Result<(
         (lent_mut t.new)
         line.now out.old out.new result }
 {
-    // Kept: a switch over the lines, whose functions take different parameters.
+    // Kept: a switch over the lines, whose functions take different parameters; so tables, line and text go on one by one.
     match n {
         0 => first_line(line),
         1 => second_line(t, line),

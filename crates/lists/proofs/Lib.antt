@@ -7,3 +7,4 @@ pub mod GatherLaws
 pub mod ExistsLaws
 pub mod PassLaws
 pub mod SignLaws
+pub mod SearchLaws

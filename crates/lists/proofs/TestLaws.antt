@@ -1,11 +1,12 @@
 -- Laws of tests, of conjunctions and of tables of cases.
 use mathlib.Core.Path.{◌≡◌, refl, sym, ◌∙◌}
 use mathlib.Core.Bool.{Bool, true, false, not, cond, ◌&&◌, ◌||◌, false≢true, true≢false, and-true, and_assoc}
-use Prim.Native.Nat.{ℕ, zero, suc, ◌<◌}
+use Prim.Native.Nat.{ℕ, zero, suc, ◌≤◌, ◌<◌}
 use native.Mathlib.Omega.{arith}
 use mathlib.Core.List.{List, [], ◌∷◌, ◌++◌, map}
 use lib.ListN.{get_or}
 use lib.Dec.{eqb, ltb}
+use mir.Val.{bool_byte}
 use borrow.Author.Tests.{ltb-true, eqb-true}
 use Rattle.lists.specs.Tests.{◌is◌, ◌implies◌, all_of, Cases, first}
 
@@ -138,3 +139,13 @@ first-zero (c ∷ cs) p e n =
     go : (t : Bool) → c.1 ≡ false → case_of cs n ≡ false → cond t c.1 (case_of cs n) ≡ false
     go true x y = x
     go false x y = y
+
+-- ---- a test as a number
+
+pub byte-one : (b : Bool) → bool_byte b ≡ cond b 1 0
+byte-one true = refl
+byte-one false = refl
+
+pub byte-few : (b : Bool) → bool_byte b ≤ 1
+byte-few true = omega arith
+byte-few false = omega arith

@@ -1,22 +1,25 @@
 -- What a reader of sound tables knows: each count, word and record that it reads is the book's, and small.
-use mathlib.Core.Path.{◌≡◌, refl, sym}
-use mathlib.Core.Bool.{true}
-use Prim.Native.Nat.{ℕ, zero, suc, ◌+◌, ◌*◌, ◌≤◌, ◌<◌}
+use mathlib.Core.Path.{◌≡◌, refl, sym, ◌∙◌}
+use mathlib.Core.Bool.{Bool, true, false, not}
+use Prim.Native.Nat.{ℕ, zero, suc, ◌+◌, ◌*◌, ◌^◌, ◌≤◌, ◌<◌}
 use native.Mathlib.Omega.{arith}
 use native.Mathlib.Decide.{dec_lt}
 use mathlib.Core.List.{List, ◌∷◌}
 use lib.ListN.{length, get_or, get_or-eq_default}
-use Rattle.records.specs.Layout.{day_place, header_schedule, stage_place, row_width, account_width}
+use lib.IntN.{ℤ}
+use lib.Dec.{leb, ltb}
+use borrow.Author.Tests.{leb-true, leb-false, lt-ltb, le-ltb}
+use Rattle.records.specs.Layout.{day_place, used_place, header_schedule, stage_place, row_width, account_width}
 use Rattle.records.specs.Encoding.{word, row_at, rows_of, accounts_of, StorableRow, StorableAccount}
 use Rattle.records.proofs.FieldLaws.{storable-zeros}
 use Rattle.lists.proofs.ListLaws.{tabulate-at}
 use Rattle.records.specs.Limits.{final_day, most_accounts, most_rows, longest_stage, highest_refund}
-use Rattle.rules.specs.Rows.{blank, row_no}
+use Rattle.rules.specs.Rows.{Row, blank, row_no}
 use Rattle.rules.specs.Book.{unused, account, account_no, row}
 use Rattle.rules.specs.Tables.{Tables, accounts_in, room_in, rows_used, schedule_from, book_of, sound_tables}
 use Rattle.rules.specs.SoundFacts.{Near}
 use Rattle.rules.proofs.StorableLaws.{day-le, stage-le, accounts-le, room-le, row-storable, account-storable, amount-le}
-use Rattle.rules.proofs.TableLaws.{sound-book, sound-rows, length-sound-rows, length-sound-accounts, journal-length, used_le}
+use Rattle.rules.proofs.TableLaws.{sound-book, sound-rows, length-sound-rows, length-sound-accounts, header-length, journal-length, used_le}
 use Rattle.settlement.specs.Settling.{Journal}
 use Rattle.posting.specs.Posts.{Amounts}
 
@@ -60,6 +63,10 @@ module _ (t : Tables) (s : sound_tables t ≡ true) where
   pub row_read : (n : ℕ) → row_no (rows_of t.journal (rows_used t)) n ≡ row (book_of t) n
   row_read n = rw (sound-rows t s)
 
+  -- the same of the used rows as they are lent: of the journal j
+  pub row-read-in : (j : List ℤ) (used : ℕ) → j ≡ t.journal → used ≡ rows_used t → (n : ℕ) (r : Row) → r ≡ row_no (rows_of j used) n → r ≡ row (book_of t) n
+  row-read-in j used f u n r e = (rw (f, u) at e) ∙ row_read n
+
   pub day-read : word t.header day_place ≡ (book_of t).day
   unfolding book_of
   day-read = refl
@@ -101,6 +108,22 @@ module _ (t : Tables) (s : sound_tables t ≡ true) where
 
   pub used-room : rows_used t * row_width ≤ length t.journal
   used-room = omega (arith, used_le t s, journal-length t s)
+
+  -- ---- what is asked of sound tables to be told the used rows, and whether n rows more have room
+
+  pub rows-lie : (used_place < length t.header) × (rows_used t * row_width ≤ length t.journal)
+  rows-lie = (omega (arith, header-length t s), used-room)
+
+  pub room-asked : (n : ℕ) → n ≤ most_rows → (used_place < length t.header) × (rows_used t + n < 2 ^ 64)
+  room-asked n h = (omega (arith, header-length t s), omega (arith, used-small))
+
+  -- b says whether they have it; the rules ask whether they lack it
+  pub room-told : (n : ℕ) (b : Bool) → b ≡ leb (rows_used t + n) (room_in t) → ltb (book_of t).room (length (book_of t).rows + n) ≡ not b
+  room-told n b e = rw (← room-read, ← used-read) (go b (sym e))
+    where
+      go : (x : Bool) → leb (rows_used t + n) (room_in t) ≡ x → ltb (room_in t) (rows_used t + n) ≡ not x
+      go true q = le-ltb (room_in t) (rows_used t + n) (leb-true (rows_used t + n) (room_in t) q)
+      go false q = lt-ltb (room_in t) (rows_used t + n) (leb-false (rows_used t + n) (room_in t) q)
 
   pub row-holds : (n : ℕ) → StorableRow (row (book_of t) n)
   row-holds = numbered StorableRow blank (book_of t).rows blank-storable (row-storable (book_of t).day (book_of t) near)

@@ -1,7 +1,7 @@
 // A row added to the journal, and the count of used rows with it.
 ghost use Rattle.std.specs.Prelude.{◌≡◌, ◌+◌, ◌-◌, ◌^◌, ◌≤◌, ◌<◌};
 ghost use Rattle.records.specs.Encoding.{StorableRow};
-ghost use Rattle.rules.specs.Rows.{new_row};
+ghost use Rattle.rules.specs.Rows.{new_row, with_reference};
 ghost use Rattle.rules.specs.Events.{release};
 ghost use Rattle.posting.specs.Posts.{RowRoom, RowAdded};
 
@@ -24,7 +24,18 @@ pub fn new_row(kind: u64, account: u64, day: u64, amount: u64) -> Row
     }
 }
 
+// A new row that names row n.
+pub fn row_naming(kind: u64, account: u64, day: u64, amount: u64, n: u64) -> Row
+    ensures { result ≡ with_reference n (new_row kind account day amount) }
+{
+    Row {
+        reference: n,
+        ..new_row(kind, account, day, amount)
+    }
+}
+
 // The row after the last used one is r, and one row more is used.
+// Kept: it takes the two tables that it writes, so that its callers need no clause that the accounts stay.
 pub fn add_row(header: &mut [i64], journal: &mut [i64], r: Row)
     requires { RowRoom header.old journal.old × StorableRow r }
     ensures { RowAdded header.old header.new journal.old journal.new r }

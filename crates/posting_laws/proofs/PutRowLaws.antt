@@ -39,9 +39,6 @@ row-used t s (suc k) h = (omega arith, omega (arith, there (book_of t).day (book
 
 -- ---- the row of a number, read among as many rows as the header says
 
-pub row-read-by : (t : Tables) → sound_tables t ≡ true → (used n : ℕ) (r : Row) → used ≡ rows_used t → r ≡ row_no (rows_of t.journal used) n → r ≡ row (book_of t) n
-row-read-by t s used n r u e = (rw u at e) ∙ row_read t s n
-
 -- ---- refusals 13 and 14: none where one row is put and none added
 
 module _ (b : Book) (e : Instruction) (n : ℕ) (r : Row) (c : change_of e.kind b e ≡ put_row n r b) where

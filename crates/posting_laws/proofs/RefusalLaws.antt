@@ -61,8 +61,5 @@ module _ (b : Book) (e : Instruction) (base more : List Row) (c : (change_of e.k
 -- ---- 13, over sound tables: n rows more than there are, and n rows that there are
 
 module _ (t : Tables) (s : sound_tables t ≡ true) (n : ℕ) where
-  pub rows-lack : room_in t < rows_used t + n → ltb (book_of t).room (length (book_of t).rows + n) ≡ true
-  rows-lack h = rw (← room-read t s, ← used-read t s) (lt-ltb (room_in t) (rows_used t + n) h)
-
   pub rows-suffice : rows_used t + n ≤ room_in t → ltb (book_of t).room (length (book_of t).rows + n) ≡ false
   rows-suffice h = rw (← room-read t s, ← used-read t s) (le-ltb (room_in t) (rows_used t + n) h)

@@ -4,7 +4,8 @@ use native.Mathlib.Omega.{arith}
 use mathlib.Core.List.{List, [], ◌∷◌}
 use lib.ListN.{get_or, set, replicate}
 use Rattle.lists.proofs.ListLaws.{zeros}
-use Rattle.records.specs.Encoding.{Storable}
+use Rattle.records.specs.Encoding.{Storable, StorableRow}
+use Rattle.records.specs.declared.Row.{Row}
 
 pub storable-none : Storable []
 storable-none = record { each = λ k. omega arith }
@@ -24,3 +25,10 @@ pub storable-set : (xs : List ℕ) (i v : ℕ) → v < 2 ^ 63 → Storable xs �
 storable-set [] i v h s = s
 storable-set (x ∷ xs) zero v h s = storable-more h (record { each = λ k. s.each (suc k) })
 storable-set (x ∷ xs) (suc i) v h s = storable-more (s.each 0) (storable-set xs i v h (record { each = λ k. s.each (suc k) }))
+
+-- the words of a row that words can hold, in the layout's order
+pub storable-row : (r : Row) → StorableRow r
+    → Storable (r.kind ∷ r.account ∷ r.day ∷ r.amount ∷ r.settled ∷ r.mark ∷ r.due ∷ r.dispute ∷ r.hold ∷ r.reference ∷ [])
+storable-row r s =
+    storable-more s.kind (storable-more s.account (storable-more s.day (storable-more s.amount (storable-more s.settled
+    (storable-more s.mark (storable-more s.due (storable-more s.dispute (storable-more s.hold (storable-more s.reference storable-none)))))))))

@@ -1,5 +1,5 @@
 -- The two outcomes of a call or an event, and the answer that tells them (document 01, "Answer, five words"; its table of answers).
-use Rattle.std.specs.Prelude.{ℕ, cond, Result, Ok, Err}
+use Rattle.std.specs.Prelude.{ℕ, cond, Result, Ok, Err, unwrap_or}
 use Rattle.records.specs.Numbers
 use Rattle.records.specs.declared.Answer.{Answer}
 use Rattle.records.specs.declared.Posting.{Posting}
@@ -32,5 +32,5 @@ number_by (Err r) = number_of r
 
 -- "Answer, five words: number, first new row (0 if none), new rows, tolls raised, 1 if the top-up was removed"; refused, "other words are 0"
 abbrev pub answer_of : Result Posting Refusal → Answer
-answer_of (Ok p) = record { number = 0; first = p.first; added = p.added; raised = p.raised; removed = cond p.removed 1 0 }
+answer_of (Ok p) = record { number = 0; first = unwrap_or p.first 0; added = p.added; raised = p.raised; removed = cond p.removed 1 0 }
 answer_of (Err r) = record { number = number_of r; first = 0; added = 0; raised = 0; removed = 0 }

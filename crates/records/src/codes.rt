@@ -1,5 +1,6 @@
 // The numbers of kinds, states, methods, disputes, modes and events (documents 01 and 02), under the names of records' Codes.
-// Kept: they are words of the lent tables and of events, where a host may put any number, which the check of soundness has to judge.
+// Kept: they are words of the lent tables and of events, where a host may put any number, which the check of soundness and an event's form
+// have to judge.
 
 // ---- kinds of rows
 

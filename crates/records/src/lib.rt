@@ -17,7 +17,7 @@ use crate::limits::MOST_DECLINES;
 use crate::words::natural;
 
 // One row of the journal; by default none, all words 0.
-#[derive(Clone, Copy, Default)]
+#[derive(Clone, Copy, Default, PartialEq, Eq)]
 pub struct Row {
     pub kind: u64,
     pub account: u64,
@@ -33,7 +33,7 @@ pub struct Row {
 
 // One account: state, close request day, returned checks, top-up threshold, top-up amount, declines, day of last decline; by default
 // unused, all words 0.
-#[derive(Clone, Copy, Default)]
+#[derive(Clone, Copy, Default, PartialEq, Eq)]
 pub struct Account {
     pub state: u64,
     pub request: u64,
@@ -73,10 +73,10 @@ pub struct Instruction {
     pub g: u64,
 }
 
-// What an accepted event did: the first new row (0 if none), how many, how many tolls rose, whether the top-up was removed.
+// What an accepted event did: the first new row if any, how many, how many tolls rose, whether the top-up was removed.
 #[derive(Clone, Copy)]
 pub struct Posting {
-    pub first: u64,
+    pub first: Option<u64>,
     pub added: u64,
     pub raised: u64,
     pub removed: bool,

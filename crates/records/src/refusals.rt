@@ -1,5 +1,5 @@
 // Why a call or an event is refused, and what an accepted event did: the two outcomes of an event, and the five words of its answer.
-ghost use Rattle.std.specs.Prelude.{◌≡◌};
+ghost use Rattle.std.specs.Prelude.{◌≡◌, pos};
 ghost use Rattle.records.specs.Outcomes.{number_of, answer_of};
 
 use crate::{Answer, Posting};
@@ -24,12 +24,21 @@ pub enum Refusal {
     List = 15,
 }
 
-impl Refusal {
-    // The number of its answer.
-    pub fn number(self) -> u64
-        ensures { result ≡ number_of self }
-    {
-        self as u64
+// The number of its answer, as the answer's words are numbers.
+impl From<Refusal> for u64 {
+    ghost from_gives = { λ refusal number. number ≡ number_of refusal };
+
+    fn from(refusal: Refusal) -> u64 {
+        refusal as u64
+    }
+}
+
+// The same as the signed word that a call gives.
+impl From<Refusal> for i64 {
+    ghost from_gives = { λ refusal number. number ≡ pos (number_of refusal) };
+
+    fn from(refusal: Refusal) -> i64 {
+        refusal as i64
     }
 }
 
@@ -41,13 +50,13 @@ impl From<Result<Posting, Refusal>> for Answer {
         match outcome {
             Ok(p) => Answer {
                 number: 0,
-                first: p.first,
+                first: p.first.unwrap_or(0),
                 added: p.added,
                 raised: p.raised,
                 removed: u64::from(p.removed),
             },
             Err(refusal) => Answer {
-                number: refusal.number(),
+                number: u64::from(refusal),
                 first: 0,
                 added: 0,
                 raised: 0,

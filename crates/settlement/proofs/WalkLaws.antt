@@ -18,7 +18,7 @@ use Rattle.rules.proofs.AllocationLaws.{apart_none}
 use Rattle.rules.proofs.SettlementLaws.{payable-pay, source-payable, settle-same}
 use Rattle.tables.specs.Changes.{RowChanged}
 use Rattle.tables.proofs.ChangeLaws.{changed-rows}
-use Rattle.settlement.specs.Settling.{Journal, Passed, Begun, NextDebit, Settled}
+use Rattle.settlement.specs.Settling.{Journal, Passed, Begun, NoneWants, Settled}
 use Rattle.settlement.proofs.PayingLaws.{Paying, paying-start, next-source, out-of-sources, out-of-debits, transfer, paying-transfer, source-after}
 
 -- t is the journal now, t₀ as it was
@@ -83,24 +83,25 @@ same-payable a used t₀ t i j w = rw w.paying.now (payable-pay a a w.paid (rows
 
 -- ---- on to the next debit, and to the next source
 
-pub walking-debit : (a used : ℕ) (t₀ t : List ℤ) (i j k : ℕ) → Walking a used t₀ t i j → NextDebit t used a j k → Walking a used t₀ t i k
-walking-debit a used t₀ t i j k w n = record {
+pub walking-debit : (a used : ℕ) (t₀ t : List ℤ) (i j k : ℕ) → Walking a used t₀ t i j → j ≤ k → k ≤ used → NoneWants t used a j k
+    → Walking a used t₀ t i k
+walking-debit a used t₀ t i j k w after within passed = record {
   size = w.size;
   rest = w.rest;
   journal = w.journal;
   i-in = w.i-in;
-  j-in = n.within;
+  j-in = within;
   way = ⊎_map (λ d. d) on w.way;
 }
   where
     on : Going a used t₀ t i j → Going a used t₀ t i k
     on g =
-        let e : j + (k - j) ≡ k = omega (arith, n.after) in
+        let e : j + (k - j) ≡ k = omega (arith, after) in
         let rows : List Row = rows_of t used in
         let f : payable rows a ≡ payable (rows_of t₀ used) a = same-payable a used t₀ t i j g in
         let z : sum_by (only (payable rows a) remaining) (take k rows) ≡ 0 =
-        rw e at (sum_by-take-skip (only (payable rows a) remaining) rows blank j (k - j) (rw (e, rows-length t used) n.within)
-        (λ m l q. rw (row_of t used m (omega (arith, n.within))) (n.passed m l (omega arith))))
+        rw e at (sum_by-take-skip (only (payable rows a) remaining) rows blank j (k - j) (rw (e, rows-length t used) within)
+        (λ m l q. rw (row_of t used m (omega (arith, within))) (passed m l (omega arith))))
         ∙ rw f g.paying.debits in
         record { paid = g.paid; paying = record { now = g.paying.now; sources = g.paying.sources; debits = rw f at z; within = g.paying.within } }
 

@@ -1,5 +1,5 @@
 -- What the settlement of an account leaves of the journal.
-use Rattle.std.specs.Prelude.{ℕ, ◌*◌, ◌^◌, ◌≤◌, ◌<◌, ◌≡◌, ◌⊎◌, List, ℤ, length}
+use Rattle.std.specs.Prelude.{ℕ, ◌*◌, ◌^◌, ◌≤◌, ◌<◌, ◌≡◌, ◌⊎◌, List, ℤ, length, Option, Some, None}
 use Rattle.records.specs.Layout.{row_width}
 use Rattle.records.specs.Encoding.{row_at, rows_of}
 use Rattle.lists.specs.Lists.{only}
@@ -22,12 +22,21 @@ pub record Begun (t : List ℤ) (used a i j : ℕ) : Type 0 where
   pub j-in : j ≤ used
   pub way : (moved a (rows_of t used) ≡ 0) ⊎ Passed t used a i j
 
--- k is the first row from j on that wants something of the account's, or the end
-pub record NextDebit (t : List ℤ) (used a j k : ℕ) : Type 0 where
+-- no row from j up to k wants anything of the account's
+abbrev pub NoneWants : List ℤ → ℕ → ℕ → ℕ → ℕ → Type 0
+NoneWants t used a j k = (i : ℕ) → j ≤ i → i < k → only (payable (rows_of t used) a) remaining (row_at t i) ≡ 0
+
+-- k is the first used row from j on that wants something of the account's
+pub record FirstDebit (t : List ℤ) (used a j k : ℕ) : Type 0 where
   pub after : j ≤ k
-  pub within : k ≤ used
-  pub passed : (i : ℕ) → j ≤ i → i < k → only (payable (rows_of t used) a) remaining (row_at t i) ≡ 0
-  pub wants : k < used → 0 < only (payable (rows_of t used) a) remaining (row_at t k)
+  pub within : k < used
+  pub passed : NoneWants t used a j k
+  pub wants : 0 < only (payable (rows_of t used) a) remaining (row_at t k)
+
+-- the first used row from j on that wants something of the account's, and none where none does
+abbrev pub NextDebit : List ℤ → ℕ → ℕ → ℕ → Option ℕ → Type 0
+NextDebit t used a j None = NoneWants t used a j used
+NextDebit t used a j (Some k) = FirstDebit t used a j k
 
 -- the used rows become those given; the others are as before
 pub record RowsBecome (t u : List ℤ) (used : ℕ) (new : List Row) : Type 0 where

@@ -2,16 +2,16 @@
 // is spent.
 #![tactic(auto)]
 
-ghost use Rattle.std.specs.Prelude.{◌≡◌, ◌+◌, ◌*◌, ◌^◌, ◌≤◌, ◌<◌, min, length};
-ghost use Rattle.records.specs.Layout.{row_width};
-ghost use Rattle.records.specs.Encoding.{row_at, rows_of};
+ghost use Rattle.std.specs.Prelude.{◌≡◌, ◌+◌, ◌*◌, ◌^◌, ◌≤◌, ◌<◌, min};
+ghost use Rattle.records.specs.Encoding.{row_at};
 ghost use Rattle.lists.specs.Lists.{only};
 ghost use Rattle.rules.specs.Rows.{remaining, settle_more, source_of, payable};
 ghost use Rattle.tables.specs.Changes.{RowIn, RowChanged};
+ghost use Rattle.table_rows.specs.UsedRows.{rows_in};
 ghost use Rattle.settlement.specs.Settling.{Journal, Begun, NextDebit, Settled};
 
 use row_tests::{is_debit, is_held, is_source, remaining_of};
-use table_rows::{account_at, put_settled, read_row};
+use table_rows::{Rows, account_at, put_settled, read_row};
 
 // What row i has as a source of the account. Most rows are other accounts', so the account is read first and alone.
 fn unused(journal: &[i64], i: usize, account: u64) -> u64
@@ -29,17 +29,17 @@ fn unused(journal: &[i64], i: usize, account: u64) -> u64
 }
 
 // What row i wants as a debit of the account that is not held; the account is read first here too.
-fn wanted(journal: &[i64], used: usize, i: usize, account: u64) -> u64
-    requires { (used * row_width ≤ length journal.now) × (i < used) }
+fn wanted(rows: &Rows, i: usize, account: u64) -> u64
+    requires { i < rows.now.used }
     ensures { result
-        ≡ only (payable (rows_of journal.now used) account) remaining (row_at journal.now i) }
+        ≡ only (payable (rows_in rows.now) account) remaining (row_at rows.now.journal.now i) }
 {
-    if account_at(journal, i) != account {
+    if account_at(rows.journal, i) != account {
         return 0;
     }
-    let r = read_row(journal, i);
+    let r = read_row(rows.journal, i);
     if is_debit(r) {
-        if is_held(journal, used, r) {
+        if is_held(rows, r) {
             return 0;
         }
         return remaining_of(r);
@@ -47,18 +47,12 @@ fn wanted(journal: &[i64], used: usize, i: usize, account: u64) -> u64
     0
 }
 
-// The first row from j on that wants something, or the end of the used rows.
-// Kept: the end is the place up to which no row wants anything, from which the walk goes on, and no missing value.
-fn next_debit(journal: &[i64], used: usize, j: usize, account: u64) -> usize
-    requires { (used * row_width ≤ length journal.now) × (j ≤ used) }
-    ensures { NextDebit journal.now used account j result }
+// The first used row from j on that wants something, if there is one.
+fn next_debit(rows: &Rows, j: usize, account: u64) -> Option<usize>
+    requires { j ≤ rows.now.used }
+    ensures { NextDebit rows.now.journal.now rows.now.used account j result }
 {
-    for k in j..used {
-        if 0 < wanted(journal, used, k, account) {
-            return k;
-        }
-    }
-    used
+    (j..rows.used).find(|k| 0 < wanted(rows, *k, account))
 }
 
 // Row i has m more settled.
@@ -81,11 +75,12 @@ pub fn settle_from(journal: &mut [i64], used: usize, account: u64, source: usize
         let mut x = unused(journal, i, account);
         // Kept: it goes by the money that is left of the source, and counts no index.
         while 0 < x {
-            j = next_debit(journal, used, j, account);
-            if used <= j {
+            let rows = Rows { journal, used };
+            let Some(next) = next_debit(&rows, j, account) else {
                 break 'sources;
-            }
-            let m = x.min(wanted(journal, used, j, account));
+            };
+            j = next;
+            let m = x.min(wanted(&rows, j, account));
             add_settled(journal, i, m);
             add_settled(journal, j, m);
             x -= m;

@@ -22,12 +22,7 @@ fn unused_zero(x: Account) -> bool
     if x.state != STATE_UNUSED {
         return true;
     }
-    (x.request == 0)
-        & (x.returned == 0)
-        & (x.threshold == 0)
-        & (x.topup == 0)
-        & (x.declines == 0)
-        & (x.declined == 0)
+    x == Account::default()
 }
 
 fn request_fits(today: u64, x: Account) -> bool

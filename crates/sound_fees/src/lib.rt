@@ -2,7 +2,7 @@
 // at once.
 #![tactic(auto)]
 
-ghost use Rattle.std.specs.Prelude.{◌≡◌, ◌<◌, length, get_or};
+ghost use Rattle.std.specs.Prelude.{◌<◌, length, get_or};
 ghost use Rattle.records.specs.Limits.{most_rows};
 ghost use Rattle.sound_fees.specs.Fees.{CountsOne};
 

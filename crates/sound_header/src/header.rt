@@ -39,11 +39,7 @@ pub fn lengths_fit(t: Tables) -> bool
     let whole = (t.header.len() == HEADER_WIDTH)
         & (t.accounts.len() % ACCOUNT_WIDTH == 0)
         & (t.journal.len() % ROW_WIDTH == 0);
-    whole
-        & sizes_fit(
-            t.accounts.len() / ACCOUNT_WIDTH,
-            t.journal.len() / ROW_WIDTH,
-        )
+    whole & sizes_fit(t.count(), t.room())
 }
 
 fn rate_fits(t: &[i64], i: usize) -> bool

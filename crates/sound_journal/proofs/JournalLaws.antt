@@ -1,8 +1,8 @@
 -- What the passes over the rows leave to show.
 use mathlib.Core.Path.{◌≡◌, refl, sym, ap, ◌∙◌}
 use mathlib.Core.Logic.{◌≢◌}
-use mathlib.Core.Bool.{true, false, ◌&&◌, ◌||◌, and_assoc, and-true, and-false}
-use Prim.Native.Nat.{ℕ, ◌+◌, ◌*◌, ◌≤◌, ◌<◌}
+use mathlib.Core.Bool.{Bool, true, false, ◌&&◌, ◌||◌, and_assoc, and-true, and-false}
+use Prim.Native.Nat.{ℕ, zero, suc, ◌+◌, ◌*◌, ◌-◌, ◌≤◌, ◌<◌}
 use native.Mathlib.Omega.{arith}
 use mathlib.Core.List.{List, [], ◌∷◌, ◌++◌}
 use lib.IntN.{ℤ, pos}
@@ -12,6 +12,9 @@ use lib.Dec.{eqb}
 use borrow.Author.Tests.{eqb-true, eq-eqb, ne_eqb, lt-ltb, le-ltb, not-true}
 use Rattle.std.specs.Prelude.{Option, Some}
 use Rattle.std.specs.Option.{option_eq}
+use Rattle.std.specs.Bool.{MatchBool}
+use Rattle.std.specs.List.{range_with_len, AllWithin, HoldsAt}
+use Rattle.std.proofs.lemmas.List.FromFn.{length-range_with_len, get_or-range_with_len}
 use Rattle.lists.specs.Tests.{◌is◌, ◌implies◌, all_of}
 use Rattle.lists.proofs.TestLaws.{all_of-at}
 use Rattle.lists.specs.Lists.{every_from, tabulate}
@@ -89,17 +92,17 @@ passes-small xs rows today L n d l a m r e =
     own = unfold own_words in all_of-at _ (alone 3)
 
 -- so it stands as it is read, and then it is the table's
-module _ (f : Frame) (i : ℕ) (h : i < f.used) (r : Row) (a : AlikeRow r (row_at f.journal.now i)) where
+module _ (f : Frame) (i : ℕ) (h : i < f.rows.used) (r : Row) (a : AlikeRow r (row_at f.rows.journal.now i)) where
   small-here : (s : Row) → passes_in f (i + 1) s ≡ true → StorableRow s
   small-here =
       let l = f.bounds in
-      passes-small (frame_accounts f) (frame_rows f) f.today f.stage (i + 1) l.day l.length (omega (arith, l.fewer, length-tabulate (account_at f.accounts.now) f.count)) (omega (arith, l.few))
+      passes-small (frame_accounts f) (frame_rows f) f.term.today f.term.stage (i + 1) f.term.within.0 f.term.within.1 (omega (arith, l.fewer, length-tabulate (account_at f.accounts.now) f.count)) (omega (arith, l.few))
 
-  pub passes-alike : passes_in f (i + 1) r ≡ passes_in f (i + 1) (row_at f.journal.now i)
-  passes-alike = alike-test (passes_in f (i + 1)) small-here r (row_at f.journal.now i) a
+  pub passes-alike : passes_in f (i + 1) r ≡ passes_in f (i + 1) (row_at f.rows.journal.now i)
+  passes-alike = alike-test (passes_in f (i + 1)) small-here r (row_at f.rows.journal.now i) a
 
-  pub passes_same : passes_in f (i + 1) r ≡ true → r ≡ row_at f.journal.now i
-  passes_same e = alike-first r (row_at f.journal.now i) a (small-here r e)
+  pub passes_same : passes_in f (i + 1) r ≡ true → r ≡ row_at f.rows.journal.now i
+  passes_same e = alike-first r (row_at f.rows.journal.now i) a (small-here r e)
 
 -- a toll and a payment refer to no row
 pub toll-names-none : (rows : List Row) (n : ℕ) (r : Row) → r.kind ≡ kind_toll → reference_fits rows n r ≡ true
@@ -153,3 +156,40 @@ module _ (t : List ℤ) where
   pub rest-none : (i : ℕ) → i * row_width ≡ length t → rest_zero t i ≡ true
   unfolding rest_zero every_from
   rest-none i e = rw (e, drop-length t)
+
+  -- so tests of the rows one by one decide: each from row i on is empty, or one is not
+  abbrev pub EmptyIs : Bool → ℕ → Type 0
+  EmptyIs b i = empty_row (row_at t i) ≡ b
+
+  module _ (room : ℕ) (whole : length t ≡ room * row_width) where
+    all-empty : (n i : ℕ) → i + n ≡ room → ((k : ℕ) → k < n → EmptyIs true (i + k)) → rest_zero t i ≡ true
+    all-empty zero i e f = rest-none i (omega arith)
+    all-empty (suc n) i e f =
+        let z : i + 0 ≡ i = omega arith in
+        let first : EmptyIs true i = rw z at (f 0 (omega arith)) in
+        rest_more i (omega arith)
+        ∙ rw first (all-empty n (i + 1) (omega arith) (λ k h.
+        let z : i + 1 + k ≡ i + suc k = omega arith in rw z (f (suc k) (omega arith))))
+
+    one-full : (k i : ℕ) → i + k < room → EmptyIs false (i + k) → rest_zero t i ≡ false
+    one-full zero i h e =
+        let z : i + 0 ≡ i = omega arith in
+        let first : EmptyIs false i = rw z at e in
+        rest_more i (omega arith) ∙ rw first
+    one-full (suc k) i h e =
+        let z : i + suc k ≡ i + 1 + k = omega arith in
+        rest_more i (omega arith) ∙ rw (one-full k (i + 1) (omega arith) (rw z at e), and-false)
+
+    abbrev later : ℕ → List ℕ
+    later i = range_with_len i (room - i)
+
+    pub rest-by : (i : ℕ) → i ≤ room → (b : Bool)
+        → MatchBool b (AllWithin (EmptyIs true) (later i) 0 (length (later i))) ((k : ℕ) × (k < length (later i)) × HoldsAt (EmptyIs false) (later i) k)
+        → b ≡ rest_zero t i
+    rest-by i h true f =
+        sym
+        (all-empty (room - i) i (omega arith)
+        (λ k q. rw (get_or-range_with_len i (room - i) k 0 q) at (f k 0 (omega arith) (rw length-range_with_len q))))
+    rest-by i h false f =
+        let q : f.0 < room - i = rw length-range_with_len at f.1 in
+        sym (one-full f.0 i (omega arith) (rw (get_or-range_with_len i (room - i) f.0 0 q) at (f.2 0)))

@@ -9,19 +9,18 @@ use records::Row;
 use records::codes::{KIND_CREDIT, KIND_FEE, KIND_PAYMENT, KIND_REVERSAL, KIND_TOLL, STATE_UNUSED};
 use sound_header::tests::implies;
 use sound_rows::row::{other_alone, toll_alone};
+use sound_tolls::Term;
 use table_accounts::account_numbered;
-use table_rows::row_numbered;
+use table_rows::Rows;
 
 // The accounts and the used rows of lent tables, the day, and the length of a stage.
 #[derive(Clone, Copy)]
 pub struct Frame<'a> {
     pub accounts: &'a [i64],
-    pub journal: &'a [i64],
     pub count: usize, // accounts
-    pub used: usize, // rows
-    pub today: u64,
-    pub stage: u64, // days
-    pub ghost bounds: { Bounds accounts.now journal.now count used today stage },
+    pub rows: Rows<'a>,
+    pub term: Term,
+    pub ghost bounds: { Bounds accounts.now count rows.used },
 }
 
 impl Frame<'_> {
@@ -41,7 +40,7 @@ impl Frame<'_> {
         if r.reference >= n {
             return None;
         }
-        let named = row_numbered(self.journal, self.used, r.reference);
+        let named = self.rows.numbered(r.reference);
         if named.account != r.account {
             return None;
         }
@@ -72,7 +71,7 @@ impl Frame<'_> {
         requires { r.kind ≡ kind_toll }
         ensures { PassesAnywhere self.now r result }
     {
-        if !toll_alone(self.today, self.stage, r) {
+        if !toll_alone(self.term, r) {
             return false;
         }
         self.account_used(r)
@@ -83,7 +82,7 @@ impl Frame<'_> {
         requires { r.kind ≡ kind_payment }
         ensures { PassesAnywhere self.now r result }
     {
-        if !other_alone(self.today, r) {
+        if !other_alone(self.term.today, r) {
             return false;
         }
         self.account_used(r)
@@ -94,7 +93,7 @@ impl Frame<'_> {
         requires { r.kind ≡ kind_toll → ⊥ }
         ensures { result ≡ passes_in self.now n r }
     {
-        if !other_alone(self.today, r) {
+        if !other_alone(self.term.today, r) {
             return false;
         }
         if !self.account_used(r) {

@@ -5,20 +5,18 @@ pub mod frame; // frame.rt: the tables' used rows and accounts, and what is test
 
 ghost use Rattle.std.specs.Prelude.{◌≡◌, ◌*◌, ◌≤◌, length};
 ghost use Rattle.records.specs.Layout.{row_width};
+ghost use Rattle.records.specs.Encoding.{row_at};
 ghost use Rattle.sound_header.specs.Clauses.{empty_row, rest_zero};
+ghost use Rattle.tables.specs.Changes.{RowIn};
 
 use plain_rows::plain_row;
 use records::Row;
 
-fn row_empty(r: Row) -> bool
-    ensures { result ≡ empty_row r }
+fn row_empty(journal: &[i64], i: usize) -> bool
+    requires { RowIn journal.now i }
+    ensures { result ≡ empty_row (row_at journal.now i) }
 {
-    let first = (r.kind == 0)
-        & (r.account == 0)
-        & (r.day == 0)
-        & (r.amount == 0)
-        & (r.settled == 0);
-    first & (r.mark == 0) & (r.due == 0) & (r.dispute == 0) & (r.hold == 0) & (r.reference == 0)
+    plain_row(journal, i) == Row::default()
 }
 
 // The rows past the used ones: ten words at a time.
@@ -26,10 +24,5 @@ pub fn later_rows_zero(journal: &[i64], used: usize, room: usize) -> bool
     requires { (length journal.now ≡ room * row_width) × (used ≤ room) }
     ensures { result ≡ rest_zero journal.now used }
 {
-    for i in used..room {
-        if !row_empty(plain_row(journal, i)) {
-            return false;
-        }
-    }
-    true
+    (used..room).all(|i| row_empty(journal, i))
 }

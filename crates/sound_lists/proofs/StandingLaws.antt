@@ -1,20 +1,23 @@
 -- What the passes over the header's rate lists leave to show.
-use mathlib.Core.Path.{◌≡◌, refl, ap, ◌∙◌}
+use mathlib.Core.Path.{◌≡◌, refl, sym, ap, ◌∙◌}
+use mathlib.Core.Logic.{◌≢◌}
 use mathlib.Core.Bool.{Bool, true, false, ◌&&◌}
 use Prim.Native.Nat.{ℕ, suc, ◌+◌, ◌-◌, ◌≤◌, ◌<◌}
 use native.Mathlib.Omega.{arith}
 use mathlib.Core.List.{List, [], ◌∷◌}
-use lib.IntN.{ℤ, pos}
-use lib.ListN.{length, drop, drop_of_length-le}
-use lib.Seq.{drop-cons}
+use lib.IntN.{ℤ, pos, negsuc}
+use lib.ListN.{length, get_or, take, drop, length-drop}
+use lib.Seq.{take-length}
+use Rattle.std.specs.Bool.{MatchBool}
+use Rattle.std.specs.List.{AllWithin, HoldsAt}
 use lib.Dec.{leb, ltb}
-use borrow.Author.Tests.{leb-true, le-leb, lt-ltb}
-use Rattle.lists.specs.Tests.{◌is◌, ◌from◌to◌}
+use borrow.Author.Tests.{leb-true, le-leb, lt-ltb, eqb-true}
+use Rattle.lists.specs.Tests.{◌from◌to◌}
 use Rattle.lists.specs.Lists.{every_from, every, tabulate}
 use Rattle.lists.proofs.TestLaws.{and_left, and_both}
-use Rattle.lists.proofs.ListLaws.{every-ext, length-tabulate, tabulate-at}
+use Rattle.lists.proofs.ListLaws.{every-at, every-all, every-ext, length-tabulate, tabulate-at}
 use Rattle.records.specs.Layout.{header_first_day}
-use Rattle.records.specs.Encoding.{word}
+use Rattle.records.specs.Encoding.{nat_of, word}
 use Rattle.records.specs.Limits.{final_day, most_lists}
 use Rattle.rules.specs.Schedule.{rates_fit}
 use Rattle.rules.specs.RateLists.{RateList, no_list, list_no, list_in_range, list_fits, lists_fit}
@@ -90,17 +93,28 @@ module _ (h : List ℤ) where
 
 -- ---- words that are 0
 
-every-zero : (i j : ℕ) (xs : List ℤ) → every_from zero_word i xs ≡ every_from zero_word j xs
-unfolding every_from zero_word
-every-zero i j [] = refl
-every-zero i j (x ∷ xs) = rw (every-zero (i + 1) (j + 1) xs)
+-- only 0 is read as 0
+zero-alone : (w : ℤ) → nat_of w ≡ 0 → w ≡ pos 0
+unfolding nat_of
+zero-alone (pos n) e = ap pos e
+zero-alone (negsuc n) e = absurd (omega arith)
 
-pub zeros-more : (t : List ℤ) (i : ℕ) → i < length t → every zero_word (drop i t) ≡ word t i is 0 && every zero_word (drop (i + 1) t)
-unfolding every_from zero_word word
-zeros-more t i h =
-    let e : i + 1 ≡ suc i = omega arith in
-    rw (drop-cons t i (pos 0) h, e, every-zero (1 + 1) 1 (drop (suc i) t))
+-- each word is 0, or one is not
+pub zeros-by : (t : List ℤ) (b : Bool)
+    → MatchBool b (AllWithin (λ w. w ≡ pos 0) t 0 (length t)) ((k : ℕ) × (k < length t) × HoldsAt (λ w. w ≢ pos 0) t k)
+    → b ≡ every zero_word t
+unfolding zero_word nat_of
+zeros-by t true f = sym (every-all zero_word 1 t (pos 0) (λ k m q h. rw (f k (pos 0) (omega arith) h) refl))
+zeros-by t false f = go (every zero_word t) refl
+  where
+    go : (b : Bool) → every zero_word t ≡ b → false ≡ b
+    go true e =
+        let z : zero_word (f.0 + 1) (get_or t f.0 (pos 0)) ≡ true = every-at zero_word 1 t (pos 0) e f.0 (f.0 + 1) (omega arith) f.1 in
+        absurd (f.2 (pos 0) (zero-alone _ (eqb-true _ 0 z)))
+    go false e = refl
 
-pub zeros-none : (t : List ℤ) (i : ℕ) → length t ≤ i → every zero_word (drop i t) ≡ true
-unfolding every_from
-zeros-none t i h = rw (drop_of_length-le t {i = i} h)
+-- the words from a place on, as the code lends them
+pub zeros-from : (t : List ℤ) (i : ℕ) → every zero_word (take (length t - i) (drop i t)) ≡ every zero_word (drop i t)
+zeros-from t i =
+    let n : length t - i ≡ length (drop i t) = sym (length-drop i t) in
+    ap (every zero_word) (rw n (take-length (drop i t)))

@@ -1,13 +1,12 @@
 // "Passage numbers differ", in linear time, a row at a time: the tolls read so far stand in digital search trees, so that no choice of
 // numbers makes a way down longer than the bits that tell two numbers apart.
-ghost use Rattle.std.specs.Prelude.{◌≡◌, ◌+◌, ◌*◌, ◌≤◌, ◌<◌, length};
-ghost use Rattle.records.specs.Layout.{row_width};
+ghost use Rattle.std.specs.Prelude.{◌≡◌, ◌+◌, ◌≤◌, ◌<◌};
 ghost use Rattle.tables.specs.Changes.{RowIn};
 ghost use Rattle.sound_passages.specs.Trees.{mix_of, IsToll, HasPassage, TreesOf, CellFor, Inserted};
 
 use records::codes::KIND_TOLL;
 use records::limits::MOST_ROWS;
-use table_rows::{kind_at, reference_at};
+use table_rows::{Rows, kind_at, reference_at};
 
 // A cell holds a row's number, 0 for none. The first half of the cells are the trees' roots; then each row has two cells, its branches.
 pub const ROW_CELLS: usize = 4;
@@ -23,10 +22,12 @@ fn mix(passage: u64) -> usize
     (passage % 1073741824 * 2654435769 % 4294967296) as usize
 }
 
-// Where passage x goes among the first n rows, in cells with space for as many or more: a free cell, and none where a toll has it.
-pub fn cell_for(journal: &[i64], cells: &[u16], space: usize, n: usize, x: u64) -> Option<usize>
-    requires { (n * row_width ≤ length journal.now) × (n ≤ space) × TreesOf space journal.now cells.now n }
-    ensures { CellFor space journal.now cells.now n x result }
+// Where passage x goes among the rows passed, in cells with space for as many or more: a free cell, and none where a toll has it.
+// Kept: cells and space apart. They would make two structs: this one reads lent cells, those that insert write them.
+pub fn cell_for(passed: &Rows, cells: &[u16], space: usize, x: u64) -> Option<usize>
+    requires { (passed.now.used ≤ space)
+        × TreesOf space passed.now.journal.now cells.now passed.now.used }
+    ensures { CellFor space passed.now.journal.now cells.now passed.now.used x result }
 {
     let mut y = mix(x);
     // A product chooses the root: a division by a number that is no constant would be slow.
@@ -34,7 +35,7 @@ pub fn cell_for(journal: &[i64], cells: &[u16], space: usize, n: usize, x: u64) 
     let mut s = usize::from(cells[c]);
     // Kept: it goes down a tree, and counts no index.
     while s != 0 {
-        if reference_at(journal, s - 1) == x {
+        if reference_at(passed.journal, s - 1) == x {
             return None;
         }
         c = 2 * space + 2 * (s - 1) + y % 2;
@@ -53,7 +54,8 @@ pub fn insert_toll(journal: &[i64], cells: &mut [u16], space: usize, n: usize, x
         × HasPassage journal.now n x }
     ensures { Inserted space journal.now cells.new n result }
 {
-    let Some(c) = cell_for(journal, cells, space, n, x) else {
+    let passed = Rows { journal, used: n };
+    let Some(c) = cell_for(&passed, cells, space, x) else {
         return false;
     };
     cells[c] = (n + 1) as u16;

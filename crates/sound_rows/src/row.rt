@@ -1,7 +1,6 @@
 // A row by itself: each clause of rules' Soundness that looks at one row and the day. Each test returns at once, so that a sound
 // row costs one well-predicted branch a test; a caller parts tolls from other rows, since they share few tests.
-ghost use Rattle.std.specs.Prelude.{◌≡◌, ◌&&◌, ℕ, ◌≤◌};
-ghost use Rattle.records.specs.Limits.{final_day, longest_stage};
+ghost use Rattle.std.specs.Prelude.{◌≡◌, ◌&&◌, ℕ};
 ghost use Rattle.rules.specs.Rows.{kind_toll};
 ghost use Rattle.rules.specs.Soundness.{kind_fits, most_of, amount_fits, settled_fits, mark_fits, toll_words_fit, no_reference};
 ghost use Rattle.sound_header.specs.Clauses.{own_words, row_alone};
@@ -14,7 +13,7 @@ use records::codes::{
 };
 use records::limits::{HIGHEST_CREDIT, HIGHEST_FEE, HIGHEST_PAYMENT, HIGHEST_RATE, HIGHEST_REFUND};
 use sound_header::tests::between;
-use sound_tolls::{row_day_fits, toll_fits};
+use sound_tolls::{Term, row_day_fits};
 
 // ---- every row
 
@@ -98,9 +97,9 @@ fn other_fits(today: u64, r: Row) -> bool
 
 // ---- all that a row is tested for by itself
 
-pub fn toll_alone(today: u64, stage: u64, r: Row) -> bool
-    requires { (r.kind ≡ kind_toll) × (today ≤ final_day) × (stage ≤ longest_stage) }
-    ensures { result ≡ row_alone today stage r }
+pub fn toll_alone(term: Term, r: Row) -> bool
+    requires { r.kind ≡ kind_toll }
+    ensures { result ≡ row_alone term.today term.stage r }
 {
     if !between(1, r.amount, HIGHEST_RATE) {
         return false;
@@ -108,7 +107,7 @@ pub fn toll_alone(today: u64, stage: u64, r: Row) -> bool
     if !settled_fits(r) {
         return false;
     }
-    toll_fits(today, stage, r)
+    term.toll_fits(r)
 }
 
 pub fn other_alone(today: u64, r: Row) -> bool

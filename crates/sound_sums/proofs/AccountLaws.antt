@@ -1,11 +1,16 @@
 -- An account stands as it is read, and the arrays of sums are the sums of the definitions.
 use Prim.Native.Nat.{ℕ, ◌+◌, ◌^◌, ◌≤◌, ◌<◌}
 use native.Mathlib.Omega.{arith}
-use mathlib.Core.Path.{◌≡◌, refl}
+use mathlib.Core.Path.{◌≡◌, refl, sym, ◌∙◌}
+use mathlib.Core.Bool.{Bool, true, false}
 use mathlib.Core.List.{List}
 use lib.IntN.{ℤ}
+use lib.ListN.{length, get_or}
+use Rattle.std.specs.Bool.{MatchBool}
+use Rattle.std.specs.List.{range_with_len, AllWithin, HoldsAt}
+use Rattle.std.proofs.lemmas.List.FromFn.{length-range_with_len, get_or-range_with_len}
 use Rattle.lists.specs.Lists.{count}
-use Rattle.lists.proofs.ListLaws.{every-ext-tabulate}
+use Rattle.lists.proofs.ListLaws.{every-ext-tabulate, every-tabulate, every-fails}
 use Rattle.records.specs.Layout.{state_place, request_place, returned_place, threshold_place, topup_place, declines_place, declined_place}
 use Rattle.records.specs.Encoding.{account_fields, rows_of, account_at, accounts_of}
 use Rattle.records.specs.Limits.{final_day, most_rows, highest_topup, most_declines, slot_count}
@@ -58,3 +63,26 @@ module _ (t : List ℤ) (n : ℕ) (sums : List Sums) (w : Tallies t n sums n) wh
   pub all-stand : (today : ℕ) (accounts : List ℤ) (c : ℕ) → c ≤ 256 → all_agree today (sums_at sums) (accounts_of accounts c) ≡ accounts_stand today (rows_of t n) (accounts_of accounts c)
   unfolding accounts_stand all_agree
   all-stand today accounts c h = every-ext-tabulate _ _ (account_at accounts) c (λ k b. rw (sums-are (k + 1) (omega arith)))
+
+-- tests of the accounts one by one decide: each of them passes, or one fails
+module _ (today : ℕ) (sums : ℕ → Sums) (t : List ℤ) where
+  -- what the test of account i comes to
+  abbrev pub TestIs : Bool → ℕ → Type 0
+  TestIs b i = account_passes today (sums (i + 1)) (account_at t i) ≡ b
+
+  module _ (c : ℕ) where
+    abbrev range : List ℕ
+    range = range_with_len 0 c
+
+    number : (k : ℕ) → k < c → get_or range k 0 ≡ k
+    number k h = get_or-range_with_len 0 c k 0 h ∙ omega arith
+
+    pub agree-by : (b : Bool)
+        → MatchBool b (AllWithin (TestIs true) range 0 (length range)) ((k : ℕ) × (k < length range) × HoldsAt (TestIs false) range k)
+        → b ≡ all_agree today sums (accounts_of t c)
+    unfolding all_agree
+    agree-by true f =
+        sym (every-tabulate _ (account_at t) c (λ k h. rw (number k h) at (f k 0 (omega arith) (rw length-range_with_len h))))
+    agree-by false f =
+        let h : f.0 < c = rw length-range_with_len at f.1 in
+        sym (every-fails _ (account_at t) c f.0 h (rw (number f.0 h) at (f.2 0)))

@@ -27,10 +27,10 @@ fn sums_agree(x: Account, s: Sums) -> bool
 // its sums are read once it has passed by itself, which leaves fewer words to hold at a time.
 fn account_passes(f: &Frame, i: usize, sums: &[Sums; SLOTS]) -> bool
     requires { (i < f.now.count) × AllLow sums.now most_rows }
-    ensures { result ≡ account_passes f.now.today (sums_at sums.now (i + 1)) (account_at f.now.accounts.now i) }
+    ensures { result ≡ account_passes f.now.term.today (sums_at sums.now (i + 1)) (account_at f.now.accounts.now i) }
 {
     let x = plain_account(f.accounts, i);
-    if !account_alone(f.today, x) {
+    if !account_alone(f.term.today, x) {
         return false;
     }
     sums_agree(x, sums[i + 1])
@@ -38,12 +38,7 @@ fn account_passes(f: &Frame, i: usize, sums: &[Sums; SLOTS]) -> bool
 
 pub fn all_agree(f: &Frame, sums: &[Sums; SLOTS]) -> bool
     requires { AllLow sums.now most_rows }
-    ensures { result ≡ all_agree f.now.today (sums_at sums.now) (frame_accounts f.now) }
+    ensures { result ≡ all_agree f.now.term.today (sums_at sums.now) (frame_accounts f.now) }
 {
-    for i in 0..f.count {
-        if !account_passes(f, i, sums) {
-            return false;
-        }
-    }
-    true
+    (0..f.count).all(|i| account_passes(f, i, sums))
 }

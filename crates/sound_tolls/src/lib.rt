@@ -11,11 +11,8 @@ ghost use Rattle.records.specs.Codes.{kind_toll, last_stage};
 
 use records::Row;
 use records::codes::{DISPUTE_HELD, DISPUTE_UPHELD, LAST_STAGE};
-use records::limits::HIGHEST_PASSAGE;
+use records::limits::{HIGHEST_PASSAGE, MOST_HELD_DAYS};
 use sound_header::tests::{between, implies};
-
-// The last day of a hold is its 29th after the start: the tick to the 30th ends it.
-const HOLD_LASTS: u64 = 29;
 
 // The day of any row.
 pub fn row_day_fits(today: u64, r: Row) -> bool
@@ -55,50 +52,62 @@ fn running(r: Row) -> bool
     r.mark < LAST_STAGE
 }
 
-fn due_fits(today: u64, stage: u64, r: Row) -> bool
-    requires { (r.kind ≡ kind_toll) × (today ≤ final_day) × (stage ≤ longest_stage) }
-    ensures { result ≡ due_fits today stage r }
-{
-    if r.due > today + stage {
-        return false;
-    }
-    if running(r) {
-        return today < r.due;
-    }
-    1 <= r.due
+// The day and the length of a stage, within their limits.
+// Kept: that a row is a toll is a clause of its tests and no type, since one caller alone has such a row, whose kind it has just told.
+#[derive(Clone, Copy)]
+pub struct Term {
+    pub today: u64,
+    pub stage: u64, // days
+    pub ghost within: { (today ≤ final_day) × (stage ≤ longest_stage) },
 }
 
-// A hold that starts after today is met before the sums, so that none of them wraps.
-fn hold_fits(today: u64, stage: u64, r: Row) -> bool
-    requires { (r.kind ≡ kind_toll) × (today ≤ final_day) × (stage ≤ longest_stage) }
-    ensures { result ≡ hold_fits today stage r }
-{
-    if r.dispute != DISPUTE_HELD {
-        return r.hold == 0;
+impl Term {
+    fn due_fits(self, r: Row) -> bool
+        requires { r.kind ≡ kind_toll }
+        ensures { result ≡ due_fits self.today self.stage r }
+    {
+        if r.due > self.today + self.stage {
+            return false;
+        }
+        if running(r) {
+            return self.today < r.due;
+        }
+        1 <= r.due
     }
-    if r.hold >= today + 1 {
-        return false;
-    }
-    let started = (1 <= r.hold) & (today <= r.hold + HOLD_LASTS);
-    let after = implies(r.mark < LAST_STAGE, r.hold < r.due);
-    started & (r.settled < r.amount) & (r.due <= r.hold + stage) & after
-}
 
-pub fn toll_fits(today: u64, stage: u64, r: Row) -> bool
-    requires { (r.kind ≡ kind_toll) × (today ≤ final_day) × (stage ≤ longest_stage) }
-    ensures { result ≡ own_words today stage r }
-{
-    if !stage_fits(r) {
-        return false;
+    // A hold that starts after today is met before the sums, so that none of them wraps. The last day of a hold is its 29th after the
+    // start: the tick to the 30th ends it.
+    fn hold_fits(self, r: Row) -> bool
+        requires { r.kind ≡ kind_toll }
+        ensures { result ≡ hold_fits self.today self.stage r }
+    {
+        if r.dispute != DISPUTE_HELD {
+            return r.hold == 0;
+        }
+        if r.hold >= self.today + 1 {
+            return false;
+        }
+        let started = (1 <= r.hold) & (self.today <= r.hold + MOST_HELD_DAYS);
+        let after = implies(r.mark < LAST_STAGE, r.hold < r.due);
+        started & (r.settled < r.amount) & (r.due <= r.hold + self.stage) & after
     }
-    if !toll_words_fit(r) {
-        return false;
+
+    pub fn toll_fits(self, r: Row) -> bool
+        requires { r.kind ≡ kind_toll }
+        ensures { result ≡ own_words self.today self.stage r }
+    {
+        if !stage_fits(r) {
+            return false;
+        }
+        if !toll_words_fit(r) {
+            return false;
+        }
+        if !row_day_fits(self.today, r) {
+            return false;
+        }
+        if !self.due_fits(r) {
+            return false;
+        }
+        self.hold_fits(r)
     }
-    if !row_day_fits(today, r) {
-        return false;
-    }
-    if !due_fits(today, stage, r) {
-        return false;
-    }
-    hold_fits(today, stage, r)
 }

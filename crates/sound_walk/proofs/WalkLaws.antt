@@ -35,10 +35,6 @@ pub toll-held : (rows : List Row) (r : Row) → r.kind ≡ kind_toll → eqb r.d
 unfolding held
 toll-held rows r e = rw (e, or-false)
 
-pub fee-held : (rows : List Row) (r : Row) → r.kind ≡ kind_fee → held_toll (row_no rows r.reference) ≡ held rows r
-unfolding held
-fee-held rows r e = rw e
-
 pub none-held : (rows : List Row) (r : Row) → r.kind ≢ kind_toll → r.kind ≢ kind_fee → false ≡ held rows r
 unfolding held
 none-held rows r p q = rw (ne_eqb r.kind kind_toll p, ne_eqb r.kind kind_fee q)
@@ -49,7 +45,7 @@ no_source r p q = rw (ne_eqb r.kind kind_payment p, ne_eqb r.kind kind_credit q)
 module _ (f : Frame) where
   -- two tolls of the same passage number
   pub unfit-passage : passages_differ (frame_rows f) ≡ false → Unfit f
-  unfit-passage e = rw e (and-false (rows_stand (frame_accounts f) (frame_rows f) f.today f.stage))
+  unfit-passage e = rw e (and-false (rows_stand (frame_accounts f) (frame_rows f) f.term.today f.term.stage))
 
   -- a toll that too many fees name
   pub unfit-fees : fees_few (frame_rows f) ≡ false → Unfit f
@@ -67,17 +63,17 @@ module _ (f : Frame) where
     -- a row that does not stand
     pub row-unfit : passes_in f (i + 1) r ≡ false → Unfit f
     unfolding rows_stand
-    row-unfit e = rw (every-fails (passes_in f) (row_at f.journal.now) f.used i t.inside (sym (passes-alike f i t.inside r t.alike) ∙ e))
+    row-unfit e = rw (every-fails (passes_in f) (row_at f.rows.journal.now) f.rows.used i t.inside (sym (passes-alike f i t.inside r t.alike) ∙ e))
 
     -- and one that does
     pub row-stands : passes_in f (i + 1) r ≡ true → Stands f i r
     row-stands e = record { inside = t.inside; same = passes_same f i t.inside r t.alike e; passes = e }
 
   module _ (i : ℕ) (r : Row) (t : Stands f i r) where
-    part : (k : ℕ) → get_or (row_alone f.today f.stage r ∷ account_used (frame_accounts f) r ∷ reference_fits (frame_rows f) (i + 1) r ∷ []) k true ≡ true
+    part : (k : ℕ) → get_or (row_alone f.term.today f.term.stage r ∷ account_used (frame_accounts f) r ∷ reference_fits (frame_rows f) (i + 1) r ∷ []) k true ≡ true
     part = unfold row_passes in all_of-at _ t.passes
 
-    alone : (k : ℕ) → get_or (kind_fits r ∷ amount_fits r ∷ settled_fits r ∷ own_words f.today f.stage r ∷ []) k true ≡ true
+    alone : (k : ℕ) → get_or (kind_fits r ∷ amount_fits r ∷ settled_fits r ∷ own_words f.term.today f.term.stage r ∷ []) k true ≡ true
     alone = unfold row_alone in all_of-at _ (part 0)
 
     -- a fee names an earlier row
@@ -92,8 +88,8 @@ module _ (f : Frame) where
     pub row-debit : source r ≡ false → debit r ≡ true
     row-debit = no-source-debit r (alone 0)
 
-    pub row-addable : {sums : List Sums} → Tallies f.journal.now f.used sums i → Addable sums r
-    row-addable w = let b = f.bounds in addable f.journal.now f.used _ i w (omega (arith, t.inside, b.few)) r account-le (amount-le r (alone 1)) (settled-le r (alone 2))
+    pub row-addable : {sums : List Sums} → Tallies f.rows.journal.now f.rows.used sums i → Addable sums r
+    row-addable w = let b = f.bounds in addable f.rows.journal.now f.rows.used _ i w (omega (arith, t.inside, b.few)) r account-le (amount-le r (alone 1)) (settled-le r (alone 2))
       where
         account-le : r.account ≤ most_accounts
         account-le = unfold account_used in
@@ -102,6 +98,6 @@ module _ (f : Frame) where
             omega (arith, b.fewer, length-tabulate (account_at f.accounts.now) f.count))
 
     -- it is entered everywhere
-    pub row-walks : {a b : Arrays} → Walked f a i → f.used ≤ b.space → TreesOf b.space f.journal.now b.cells.now (i + 1)
-        → FeesCounted b.space f.journal.now b.counts.now (i + 1) → Tallies f.journal.now f.used b.sums.now (i + 1) → Walks f b (i + 1) true
+    pub row-walks : {a b : Arrays} → Walked f a i → f.rows.used ≤ b.space → TreesOf b.space f.rows.journal.now b.cells.now (i + 1)
+        → FeesCounted b.space f.rows.journal.now b.counts.now (i + 1) → Tallies f.rows.journal.now f.rows.used b.sums.now (i + 1) → Walks f b (i + 1) true
     row-walks w h g c s = walks-good record { held = h; stood = below_more _ _ w.stood (rw t.same at t.passes); trees = g; fees = c; tallies = s }

@@ -20,16 +20,16 @@ pub record SameArrays (a b : Arrays) : Type 0 where
 
 -- each stands, their passage numbers differ, and the arrays hold their trees, fees and sums
 pub record Walked (f : Frame) (a : Arrays) (i : ℕ) : Type 0 where
-  pub held : f.used ≤ a.space
-  pub stood : (k : ℕ) → k < i → passes_in f (k + 1) (row_at f.journal.now k) ≡ true
-  pub trees : TreesOf a.space f.journal.now a.cells.now i
-  pub fees : FeesCounted a.space f.journal.now a.counts.now i
-  pub tallies : Tallies f.journal.now f.used a.sums.now i
+  pub held : f.rows.used ≤ a.space
+  pub stood : (k : ℕ) → k < i → passes_in f (k + 1) (row_at f.rows.journal.now k) ≡ true
+  pub trees : TreesOf a.space f.rows.journal.now a.cells.now i
+  pub fees : FeesCounted a.space f.rows.journal.now a.counts.now i
+  pub tallies : Tallies f.rows.journal.now f.rows.used a.sums.now i
 
 -- a row does not stand, or has the passage number of another, or too many fees
 abbrev pub Unfit : Frame → Type 0
 Unfit f =
-    rows_stand (frame_accounts f) (frame_rows f) f.today f.stage
+    rows_stand (frame_accounts f) (frame_rows f) f.term.today f.term.stage
     && (passages_differ (frame_rows f) && fees_few (frame_rows f)) ≡ false
 
 -- what b says of the first i rows
@@ -41,11 +41,11 @@ pub record Walks (f : Frame) (a : Arrays) (i : ℕ) (b : Bool) : Type 0 where
 
 -- row i, read as r
 pub record Turn (f : Frame) (i : ℕ) (r : Row) : Type 0 where
-  pub inside : i < f.used
-  pub alike : AlikeRow r (row_at f.journal.now i)
+  pub inside : i < f.rows.used
+  pub alike : AlikeRow r (row_at f.rows.journal.now i)
 
 -- row i is r, and stands
 pub record Stands (f : Frame) (i : ℕ) (r : Row) : Type 0 where
-  pub inside : i < f.used
-  pub same : r ≡ row_at f.journal.now i
+  pub inside : i < f.rows.used
+  pub same : r ≡ row_at f.rows.journal.now i
   pub passes : passes_in f (i + 1) r ≡ true

@@ -16,7 +16,6 @@ use row_tests::held_toll;
 use sound_fees::count_fee;
 use sound_journal::frame::Frame;
 use sound_passages::passages::insert_toll;
-use table_rows::row_numbered;
 
 // What is known of the rows passed, in a caller's memory, with space for as many rows.
 #[derive(Drop)]
@@ -38,7 +37,7 @@ impl Arrays<'_> {
         if !f.toll_passes(r) {
             return false;
         }
-        if !insert_toll(f.journal, self.cells, self.space, i, r.reference) {
+        if !insert_toll(f.rows.journal, self.cells, self.space, i, r.reference) {
             return false;
         }
         add_debit(self.sums, r, r.dispute == DISPUTE_HELD);
@@ -51,7 +50,7 @@ impl Arrays<'_> {
         ensures walks { Walks f.now self.new (i + 1) result }
         ensures same { SameArrays self.old self.new }
     {
-        let named = row_numbered(f.journal, f.used, r.reference);
+        let named = f.rows.numbered(r.reference);
         if !count_fee(self.counts, r.reference as usize, named) {
             return false;
         }
@@ -84,11 +83,11 @@ impl Arrays<'_> {
 
     // Row i.
     fn turn(&mut self, f: &Frame, i: usize) -> bool
-        requires { (i < f.now.used) × Walked f.now self.old i }
+        requires { (i < f.now.rows.used) × Walked f.now self.old i }
         ensures walks { Walks f.now self.new (i + 1) result }
         ensures same { SameArrays self.old self.new }
     {
-        let r = plain_row(f.journal, i);
+        let r = plain_row(f.rows.journal, i);
         if r.kind == KIND_TOLL {
             return self.toll_turn(f, i, r);
         }
@@ -105,10 +104,10 @@ impl Arrays<'_> {
     // The used rows, one after another.
     pub fn walk(&mut self, f: &Frame) -> bool
         requires { Walked f.now self.old 0 }
-        ensures walks { Walks f.now self.new f.now.used result }
+        ensures walks { Walks f.now self.new f.now.rows.used result }
         ensures same { SameArrays self.old self.new }
     {
-        for i in 0..f.used {
+        for i in 0..f.rows.used {
             if !self.turn(f, i) {
                 return false;
             }

@@ -14,7 +14,7 @@ use Rattle.lists.proofs.TestLaws.{and_left, and_right, and_then}
 use Rattle.lists.proofs.ListLaws.{every-ext, every-and, every-tabulate, length-tabulate}
 use Rattle.records.specs.Layout.{day_place, used_place, header_schedule, stage_place, account_width, row_width}
 use Rattle.records.specs.Encoding.{word, row_at, rows_of, accounts_of}
-use Rattle.records.specs.Limits.{final_day}
+use Rattle.records.specs.Limits.{final_day, longest_stage}
 use Rattle.rules.specs.Schedule.{schedule_fits}
 use Rattle.rules.specs.RateLists.{lists_fit}
 use Rattle.rules.specs.Book.{Book}
@@ -158,29 +158,30 @@ module _ (h a j : List ℤ) (used today stage : ℕ) (f : Fit h a j used today s
       schedule-fits : schedule_fits (book_of tables).schedule ≡ true
       schedule-fits = unfold book_of in f.schedule
 
-  pub fit-bounds : Bounds a j (length a / account_width) used today stage
-  unfolding day_fits schedule_from
+  pub fit-bounds : Bounds a (length a / account_width) used
   fit-bounds =
       let l = lengths-known h a j f.lengths in
       let b = f.fits in
       record {
-        room = omega arith;
         few = omega arith;
         slots = omega arith;
         fewer = omega arith;
-        day = between_le 1 final_day today f.day;
-        length = omega (arith, f.read_stage, (schedule-storable (schedule_from h header_schedule) f.schedule).stage);
       }
+
+  pub fit-term : (today ≤ final_day) × (stage ≤ longest_stage)
+  unfolding day_fits schedule_from
+  fit-term =
+      (between_le 1 final_day today f.day, omega (arith, f.read_stage, (schedule-storable (schedule_from h header_schedule) f.schedule).stage))
 
 -- ---- the rows once they are walked
 
 module _ (f : Frame) where
   abbrev standing : Bool
-  standing = book_passes (frame_accounts f) (frame_rows f) f.today f.stage
+  standing = book_passes (frame_accounts f) (frame_rows f) f.term.today f.term.stage
 
   pub unfit-passes : Unfit f → false ≡ standing
   unfolding book_passes all_of
-  unfit-passes e = sym (regroup (rows_stand (frame_accounts f) (frame_rows f) f.today f.stage) (passages_differ (frame_rows f)) (fees_few (frame_rows f)) _ e)
+  unfit-passes e = sym (regroup (rows_stand (frame_accounts f) (frame_rows f) f.term.today f.term.stage) (passages_differ (frame_rows f)) (fees_few (frame_rows f)) _ e)
     where
       regroup : (a b c d : Bool) → a && (b && c) ≡ false → a && (b && (c && d)) ≡ false
       regroup true true true d e = absurd (true≢false e)
@@ -189,17 +190,17 @@ module _ (f : Frame) where
       regroup false b c d e = refl
 
   -- where the rows have passed, the accounts decide
-  module _ {a : Arrays} (w : Walked f a f.used) where
-    rows-stand : rows_stand (frame_accounts f) (frame_rows f) f.today f.stage ≡ true
+  module _ {a : Arrays} (w : Walked f a f.rows.used) where
+    rows-stand : rows_stand (frame_accounts f) (frame_rows f) f.term.today f.term.stage ≡ true
     unfolding rows_stand
-    rows-stand = every-tabulate _ (row_at f.journal.now) f.used w.stood
+    rows-stand = every-tabulate _ (row_at f.rows.journal.now) f.rows.used w.stood
 
     passages-differ : passages_differ (frame_rows f) ≡ true
-    passages-differ = clean-differ f.journal.now f.used w.trees.clean
+    passages-differ = clean-differ f.rows.journal.now f.rows.used w.trees.clean
 
-    pub sums-decide : all_agree f.today (sums_at a.sums.now) (frame_accounts f) ≡ standing
+    pub sums-decide : all_agree f.term.today (sums_at a.sums.now) (frame_accounts f) ≡ standing
     unfolding book_passes all_of
     sums-decide =
         let b = f.bounds in
-        all-stand f.journal.now f.used a.sums.now w.tallies f.today f.accounts.now f.count b.fewer
-        ∙ rw (rows-stand, passages-differ, fees-few a.space f.journal.now a.counts.now f.used w.held w.fees, and-true)
+        all-stand f.rows.journal.now f.rows.used a.sums.now w.tallies f.term.today f.accounts.now f.count b.fewer
+        ∙ rw (rows-stand, passages-differ, fees-few a.space f.rows.journal.now a.counts.now f.rows.used w.held w.fees, and-true)

@@ -16,4 +16,4 @@ book_passes xs rows today L = all_of (rows_stand xs rows today L ∷ passages_di
 
 -- b says whether they hold of the used rows and the accounts of a frame
 abbrev pub Stands : Frame → Bool → Type 0
-Stands f b = b ≡ book_passes (frame_accounts f) (frame_rows f) f.today f.stage
+Stands f b = b ≡ book_passes (frame_accounts f) (frame_rows f) f.term.today f.term.stage

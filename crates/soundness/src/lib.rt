@@ -10,9 +10,7 @@ ghost use Rattle.lent.specs.Lent.{lent};
 
 use account_sums::{SLOTS, Sums};
 use lent::Tables;
-use records::layout::{
-    ACCOUNT_WIDTH, DAY_PLACE, HEADER_SCHEDULE, ROW_WIDTH, STAGE_PLACE, USED_PLACE,
-};
+use records::layout::{HEADER_SCHEDULE, STAGE_PLACE};
 use records::limits::MOST_ROWS;
 use sound_header::header::{day_fits, lengths_fit, schedule_fits};
 use sound_journal::frame::Frame;
@@ -20,7 +18,9 @@ use sound_journal::later_rows_zero;
 use sound_lists::lists_stand;
 use sound_passages::passages::{CELLS, ROW_CELLS};
 use sound_sums::accounts::all_agree;
+use sound_tolls::Term;
 use sound_walk::Arrays;
+use table_lists::Header;
 use tables::words::get;
 
 // A row's number counts from 1, so that there is a count more than rows.
@@ -36,7 +36,7 @@ const FEW_COUNTS: usize = FEW_ROWS + 1;
 
 // The used rows and the accounts, with arrays for so many rows: one pass over the rows, then the sums of accounts that it leaves.
 fn stand_with<const ROWS: usize, const CELLS: usize, const COUNTS: usize>(f: &Frame) -> bool
-    requires { (f.now.used ≤ ROWS)
+    requires { (f.now.rows.used ≤ ROWS)
         × (0 < ROWS)
         × (ROWS ≤ most_rows)
         × (CELLS ≡ 4 * ROWS)
@@ -45,7 +45,7 @@ fn stand_with<const ROWS: usize, const CELLS: usize, const COUNTS: usize>(f: &Fr
 {
     let mut cells = [0u16; CELLS];
     let mut counts = [0u16; COUNTS];
-    let mut sums = [Sums::NONE; SLOTS];
+    let mut sums = [Sums::default(); SLOTS];
     let mut arrays = Arrays {
         space: ROWS,
         cells: &mut cells,
@@ -62,7 +62,7 @@ fn stand_with<const ROWS: usize, const CELLS: usize, const COUNTS: usize>(f: &Fr
 fn book_passes(f: &Frame) -> bool
     ensures { Stands f.now result }
 {
-    if f.used <= FEW_ROWS {
+    if f.rows.used <= FEW_ROWS {
         return stand_with::<FEW_ROWS, FEW_CELLS, FEW_COUNTS>(f);
     }
     stand_with::<MOST_ROWS, CELLS, COUNTS>(f)
@@ -76,31 +76,33 @@ pub fn sound(t: Tables) -> bool
     if !lengths_fit(t) {
         return false;
     }
-    let today = get(t.header, DAY_PLACE);
+    let today = t.day();
     if !day_fits(today) {
         return false;
     }
     if !schedule_fits(t.header, HEADER_SCHEDULE) {
         return false;
     }
-    if !lists_stand(t.header) {
+    if !lists_stand(Header { words: t.header }) {
         return false;
     }
-    let used = get(t.header, USED_PLACE);
-    let room = t.journal.len() / ROW_WIDTH;
+    let used = t.used();
+    let room = t.room();
     if used > room as u64 {
         return false;
     }
     if !later_rows_zero(t.journal, used as usize, room) {
         return false;
     }
-    let f = Frame {
-        accounts: t.accounts,
-        journal: t.journal,
-        count: t.accounts.len() / ACCOUNT_WIDTH,
-        used: used as usize,
+    let term = Term {
         today,
         stage: get(t.header, HEADER_SCHEDULE + STAGE_PLACE),
+    };
+    let f = Frame {
+        accounts: t.accounts,
+        count: t.count(),
+        rows: t.rows(),
+        term,
     };
     book_passes(&f)
 }

@@ -1,11 +1,11 @@
 // An account of the accounts' table, read and written as a value.
 #![tactic(auto)]
 
-ghost use Rattle.std.specs.Prelude.{◌≡◌, ◌+◌, ◌*◌, ◌≤◌, length, take, drop};
+ghost use Rattle.std.specs.Prelude.{◌≡◌, ◌+◌, ◌*◌, ◌≤◌, length};
 ghost use Rattle.records.specs.Layout.{account_width};
-ghost use Rattle.records.specs.Encoding.{account_at, accounts_of, account_words, StorableAccount};
-ghost use Rattle.rules.specs.Book.{unused, account_no};
-ghost use Rattle.tables.specs.Changes.{AccountIn, put_all, AccountChanged};
+ghost use Rattle.records.specs.Encoding.{account_at, accounts_of, StorableAccount};
+ghost use Rattle.rules.specs.Book.{account_no};
+ghost use Rattle.tables.specs.Changes.{AccountIn, AccountChanged};
 ghost use Rattle.table_accounts.specs.Reads.{AccountBy};
 
 use records::Account;
@@ -14,9 +14,10 @@ use records::layout::{
     THRESHOLD_PLACE, TOPUP_PLACE,
 };
 use records::words::natural;
-use tables::words::put;
+use tables::words::put_words;
 
 // Account i, counted from 0, each word by `read`.
+// Kept beside `table_rows`, whose functions on rows are alike: a trait would take from each a width, places and words, as these do.
 pub fn account_by<F: Fn(i64) -> u64>(accounts: &[i64], i: usize, read: F) -> Account
     requires { AccountIn accounts.now i × F.IsAlwaysCallable read }
     ensures { AccountBy (F.post read) accounts.now (i * account_width) result }
@@ -42,7 +43,8 @@ pub fn read_account(accounts: &[i64], i: usize) -> Account
 }
 
 // Account number n of the table's, counted from 1; unused where there is none.
-// Kept: the definitions' account is total too (Book.account_no): where there is none it is an unused one.
+// Kept: the definitions' account is total too (Book.account_no): where there is none it is an unused one. And the accounts go beside their
+// count: two callers have both, the lent tables and the frame of the check.
 pub fn account_numbered(accounts: &[i64], count: usize, n: u64) -> Account
     requires { count * account_width ≤ length accounts.now }
     ensures { result ≡ account_no (accounts_of accounts.now count) n }
@@ -56,33 +58,20 @@ pub fn account_numbered(accounts: &[i64], count: usize, n: u64) -> Account
     read_account(accounts, (n - 1) as usize)
 }
 
-// The first four words of an account, from place p on; the last three follow.
-// Kept: two halves of one list of stores, not two of a kind.
-fn put_first_words(accounts: &mut [i64], p: usize, x: Account)
-    requires { (p + account_width ≤ length accounts.old) × StorableAccount x }
-    ensures { accounts.new ≡ put_all accounts.old p 0 (take 4 (account_words x)) }
-{
-    put(accounts, p + STATE_PLACE, x.state);
-    put(accounts, p + REQUEST_PLACE, x.request);
-    put(accounts, p + RETURNED_PLACE, x.returned);
-    put(accounts, p + THRESHOLD_PLACE, x.threshold);
-}
-
-fn put_last_words(accounts: &mut [i64], p: usize, x: Account)
-    requires { (p + account_width ≤ length accounts.old) × StorableAccount x }
-    ensures { accounts.new ≡ put_all accounts.old p 4 (drop 4 (account_words x)) }
-{
-    put(accounts, p + TOPUP_PLACE, x.topup);
-    put(accounts, p + DECLINES_PLACE, x.declines);
-    put(accounts, p + DECLINED_PLACE, x.declined);
-}
-
-// Account i becomes x.
+// Account i becomes x, its words in the layout's order.
+// Kept by index, an account's number less 1: a function by number would say no more at its five calls.
 pub fn write_account(accounts: &mut [i64], i: usize, x: Account)
     requires { AccountIn accounts.old i × StorableAccount x }
     ensures { AccountChanged accounts.old accounts.new i x }
 {
-    let p = i * ACCOUNT_WIDTH;
-    put_first_words(accounts, p, x);
-    put_last_words(accounts, p, x);
+    let words = [
+        x.state,
+        x.request,
+        x.returned,
+        x.threshold,
+        x.topup,
+        x.declines,
+        x.declined,
+    ];
+    put_words(accounts, i * ACCOUNT_WIDTH, words);
 }

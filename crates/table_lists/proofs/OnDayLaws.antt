@@ -10,6 +10,10 @@ use lib.ListN.{length, get_or, take, drop, length-drop}
 use lib.Seq.{split_at, get_or-drop}
 use lib.Dec.{leb, ltb}
 use borrow.Author.Tests.{le-leb, lt-leb, leb-true, leb-false, ltb-true, ltb-false, eqb-true, eqb-false}
+use Rattle.std.specs.Prelude.{Option, None, Some}
+use Rattle.std.specs.Option.{MatchOption, unwrap_or}
+use Rattle.std.specs.List.{range_with_len, AllWithin, HoldsAt}
+use Rattle.std.proofs.lemmas.List.FromFn.{get_or-range_with_len}
 use Rattle.lists.specs.Tests.{◌is◌, ◌from◌to◌}
 use Rattle.lists.specs.Lists.{tabulate}
 use Rattle.lists.proofs.TestLaws.{and_left, or_left, or_right}
@@ -23,7 +27,7 @@ use Rattle.rules.specs.Tables.{Tables, first_list_in, list_from, later_list_at, 
 use Rattle.rules.proofs.RateListLaws.{begun, in_force-last, in_force-alone, list-in-range, lists-rise}
 use Rattle.rules.proofs.HeaderLaws.{zeros-at}
 use Rattle.rules.proofs.TableLaws.{header-length, sound-book, unused-zero}
-use Rattle.table_lists.specs.HeaderLists.{ListsStand, OnDay}
+use Rattle.table_lists.specs.HeaderLists.{ListsStand, OnDay, unbegun}
 use Rattle.table_lists.proofs.UsedLaws.{used-few}
 
 module _ (h : List ℤ) where
@@ -129,26 +133,38 @@ module _ (h : List ℤ) (s : ListsStand h) where
                 let r = rw (q, later-list h k u, later-list h i used) at (lists-rise (lists_in h) s.fit (suc i) n size) in
                 omega arith
 
-    -- what the test of a turn tells
-    pub on-stop : i < later_lists → (later_list_at h i).first_day is 0 || ltb day (later_list_at h i).first_day ≡ true → OnDay h day i
+    -- what the test of a list tells
+    on-stop : i < later_lists → unbegun h day i ≡ true → OnDay h day i
     on-stop w = go ((later_list_at h i).first_day is 0) refl
       where
         go : (v : Bool) → (later_list_at h i).first_day is 0 ≡ v → v || ltb day (later_list_at h i).first_day ≡ true → OnDay h day i
         go true e q = on-last (λ l. eqb-true _ 0 e)
         go false e q = on-next w (ltb-true day _ q)
 
-pub passed-more : (h : List ℤ) (day i : ℕ) → ((k : ℕ) → k < i → (0 < (later_list_at h k).first_day) × ((later_list_at h k).first_day ≤ day))
-    → (later_list_at h i).first_day is 0 || ltb day (later_list_at h i).first_day ≡ false
-    → (k : ℕ) → k < i + 1 → (0 < (later_list_at h k).first_day) × ((later_list_at h k).first_day ≤ day)
-passed-more h day i f q k l = go (leb i k) refl
-  where
-    go : (v : Bool) → leb i k ≡ v → (0 < (later_list_at h k).first_day) × ((later_list_at h k).first_day ≤ day)
-    go true e =
-        let z : k ≡ i = omega (arith, leb-true i k e) in
-        let a : (later_list_at h i).first_day ≢ 0 = eqb-false _ 0 (or_left ((later_list_at h i).first_day is 0) (ltb day (later_list_at h i).first_day) q) in
-        let b : (later_list_at h i).first_day ≤ day = ltb-false day _ (or_right ((later_list_at h i).first_day is 0) (ltb day (later_list_at h i).first_day) q) in
-        rw z (omega arith, b)
-    go false e = f k (omega (arith, leb-false i k e))
+  -- the first list that is unused or has not begun decides, or the end of the lists
+  module _ (day : ℕ) where
+    begun-by : (k : ℕ) → unbegun h day k ≡ false → (0 < (later_list_at h k).first_day) × ((later_list_at h k).first_day ≤ day)
+    begun-by k q =
+        let b = (later_list_at h k).first_day in
+        let a : b ≢ 0 = eqb-false b 0 (or_left (b is 0) (ltb day b) q) in
+        (omega arith, ltb-false day b (or_right (b is 0) (ltb day b) q))
+
+    number : (k : ℕ) → k < later_lists → get_or (range_with_len 0 later_lists) k 0 ≡ k
+    number k l = get_or-range_with_len 0 later_lists k 0 l ∙ omega arith
+
+    abbrev range : List ℕ
+    range = range_with_len 0 later_lists
+
+    pub on-first : (r : Option ℕ)
+        → MatchOption r (AllWithin (λ k. unbegun h day k ≡ false) range 0 (length range))
+        (λ i. (i < length range) × HoldsAt (λ k. unbegun h day k ≡ true) range i × AllWithin (λ k. unbegun h day k ≡ false) range 0 i)
+        → OnDay h day (unwrap_or r later_lists)
+    on-first None f =
+        on-last day later_lists (omega arith) (λ k l. begun-by k (rw (number k l) at (f k 0 (omega arith) l))) (λ w. absurd (omega arith))
+    on-first (Some i) f =
+        let l : i < later_lists = f.0 in
+        on-stop day i (omega arith) (λ k q. begun-by k (rw (number k (omega arith)) at (f.2 k 0 (omega arith) q))) l
+        (rw (number i l) at (f.1 0))
 
 -- ---- a sound header's lists stand
 

@@ -1,6 +1,6 @@
 -- How many rate lists of a header are used, counted one after the other.
-use mathlib.Core.Path.{◌≡◌, refl, sym}
-use mathlib.Core.Bool.{Bool, true, false, cond}
+use mathlib.Core.Path.{◌≡◌, sym}
+use mathlib.Core.Bool.{cond}
 use Prim.Native.Nat.{ℕ, ◌+◌, ◌≤◌}
 use native.Mathlib.Omega.{arith}
 use mathlib.Core.List.{List}
@@ -8,6 +8,7 @@ use lib.IntN.{ℤ}
 use lib.Dec.{ltb}
 use mir.Val.{bool_byte}
 use Rattle.lists.specs.Lists.{count, tabulate}
+use Rattle.lists.proofs.TestLaws.{byte-one}
 use Rattle.lists.proofs.ListLaws.{length-tabulate}
 use Rattle.lists.proofs.SumLaws.{sum_by-more, count-le}
 use Rattle.records.specs.Layout.{later_lists}
@@ -18,19 +19,10 @@ use Rattle.rules.specs.Tables.{later_list_at, lists_used}
 unfoldable pub used_of : List ℤ → ℕ → ℕ
 used_of h n = count (λ l. ltb 0 l.first_day) (tabulate (later_list_at h) n)
 
--- the flag that the code adds
-pub flag-le : (b : Bool) → bool_byte b ≤ 1
-flag-le true = omega arith
-flag-le false = omega arith
-
-flag-cond : (b : Bool) → bool_byte b ≡ cond b 1 0
-flag-cond true = refl
-flag-cond false = refl
-
 pub used-more : (h : List ℤ) (i n day : ℕ) → n ≡ used_of h i → day ≡ (later_list_at h i).first_day → n + bool_byte (ltb 0 day) ≡ used_of h (i + 1)
 unfolding used_of count
 used-more h i n day e d =
-    rw (e, flag-cond (ltb 0 day), d) (sym (sum_by-more (λ (l : RateList). cond (ltb 0 l.first_day) 1 0) (later_list_at h) i))
+    rw (e, byte-one (ltb 0 day), d) (sym (sum_by-more (λ (l : RateList). cond (ltb 0 l.first_day) 1 0) (later_list_at h) i))
 
 pub used-few : (h : List ℤ) → lists_used h ≤ later_lists
 unfolding lists_used

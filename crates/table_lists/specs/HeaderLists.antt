@@ -1,5 +1,6 @@
 -- What a reader of a sound header knows of its rate lists, and what is found there for a day.
-use Rattle.std.specs.Prelude.{◌≡◌, true, ℕ, suc, ◌≤◌, ◌<◌, List, ℤ, length}
+use Rattle.std.specs.Prelude.{◌≡◌, Bool, true, ◌||◌, ℕ, suc, ◌≤◌, ◌<◌, ltb, List, ℤ, length}
+use Rattle.lists.specs.Tests.{◌is◌}
 use Rattle.records.specs.Layout.{header_width, later_lists}
 use Rattle.rules.specs.RateLists.{list_no, in_force, lists_fit}
 use Rattle.rules.specs.Tables.{later_list_at, lists_used, lists_in}
@@ -14,3 +15,7 @@ pub record ListsStand (h : List ℤ) : Type 0 where
 pub record OnDay (h : List ℤ) (day n : ℕ) : Type 0 where
   pub within : n ≤ lists_used h
   pub list : in_force (lists_in h) day ≡ list_no (lists_in h) (suc n)
+
+-- list i after the first is unused, or begins after the day
+abbrev pub unbegun : List ℤ → ℕ → ℕ → Bool
+unbegun h day i = (later_list_at h i).first_day is 0 || ltb day (later_list_at h i).first_day

@@ -1,11 +1,11 @@
 // A row of the journal, read and written as a value.
 #![tactic(auto)]
 
-ghost use Rattle.std.specs.Prelude.{◌≡◌, ◌+◌, ◌*◌, ◌^◌, ◌≤◌, ◌<◌, length, take, drop};
+ghost use Rattle.std.specs.Prelude.{◌≡◌, ◌+◌, ◌*◌, ◌^◌, ◌≤◌, ◌<◌, length};
 ghost use Rattle.records.specs.Layout.{row_width};
-ghost use Rattle.records.specs.Encoding.{row_at, rows_of, row_words, StorableRow};
-ghost use Rattle.rules.specs.Rows.{blank, with_settled, row_no};
-ghost use Rattle.tables.specs.Changes.{RowIn, put_all, RowChanged};
+ghost use Rattle.records.specs.Encoding.{row_at, StorableRow};
+ghost use Rattle.rules.specs.Rows.{with_settled, row_no};
+ghost use Rattle.tables.specs.Changes.{RowIn, RowChanged};
 ghost use Rattle.table_rows.specs.Reads.{RowBy};
 
 use records::Row;
@@ -14,7 +14,7 @@ use records::layout::{
     REFERENCE_PLACE, ROW_DAY_PLACE, ROW_WIDTH, SETTLED_PLACE,
 };
 use records::words::natural;
-use tables::words::{get, put};
+use tables::words::{get, put, put_words};
 
 // Row i, counted from 0, each word by `read`.
 pub fn row_by<F: Fn(i64) -> u64>(journal: &[i64], i: usize, read: F) -> Row
@@ -37,6 +37,7 @@ pub fn row_by<F: Fn(i64) -> u64>(journal: &[i64], i: usize, read: F) -> Row
 }
 
 // Row i, counted from 0.
+// Kept, here and below: a journal and a row's index, and no method of `Rows`, since who writes a journal reads its rows too.
 pub fn read_row(journal: &[i64], i: usize) -> Row
     requires { RowIn journal.now i }
     ensures { result ≡ row_at journal.now i }
@@ -81,53 +82,50 @@ pub fn reference_at(journal: &[i64], i: usize) -> u64
     get(journal, i * ROW_WIDTH + REFERENCE_PLACE)
 }
 
-// Row number n of the used ones, counted from 1; blank where there is none.
-// Kept: the definitions' row is total too (Rows.row_no), and a blank row passes no test, so no caller asks whether there is one.
-pub fn row_numbered(journal: &[i64], used: usize, n: u64) -> Row
-    requires { used * row_width ≤ length journal.now }
-    ensures { result ≡ row_no (rows_of journal.now used) n }
-{
-    if n == 0 {
-        return Row::default();
+// The used rows of a journal that is lent to be read.
+#[derive(Clone, Copy)]
+pub struct Rows<'a> {
+    pub journal: &'a [i64],
+    pub used: usize,
+    pub ghost within: { used * row_width ≤ length journal.now },
+}
+
+impl Rows<'_> {
+    ghost use Rattle.table_rows.specs.UsedRows.{rows_in};
+
+    // Row number n, counted from 1; blank where there is none.
+    // Kept: the definitions' row is total too (Rows.row_no), and a blank row passes no test, so no caller asks whether there is one.
+    pub fn numbered(&self, n: u64) -> Row
+        ensures { result ≡ row_no (rows_in self.now) n }
+    {
+        if n == 0 {
+            return Row::default();
+        }
+        if n > self.used as u64 {
+            return Row::default();
+        }
+        read_row(self.journal, (n - 1) as usize)
     }
-    if n > used as u64 {
-        return Row::default();
-    }
-    read_row(journal, (n - 1) as usize)
 }
 
-// The first five words of a row, from place p on; the last five follow.
-// Kept: two halves of one list of stores, here and of an account and of a list, not two of a kind.
-fn put_first_words(journal: &mut [i64], p: usize, r: Row)
-    requires { (p + row_width ≤ length journal.old) × StorableRow r }
-    ensures { journal.new ≡ put_all journal.old p 0 (take 5 (row_words r)) }
-{
-    put(journal, p + KIND_PLACE, r.kind);
-    put(journal, p + ACCOUNT_PLACE, r.account);
-    put(journal, p + ROW_DAY_PLACE, r.day);
-    put(journal, p + AMOUNT_PLACE, r.amount);
-    put(journal, p + SETTLED_PLACE, r.settled);
-}
-
-fn put_last_words(journal: &mut [i64], p: usize, r: Row)
-    requires { (p + row_width ≤ length journal.old) × StorableRow r }
-    ensures { journal.new ≡ put_all journal.old p 5 (drop 5 (row_words r)) }
-{
-    put(journal, p + MARK_PLACE, r.mark);
-    put(journal, p + DUE_PLACE, r.due);
-    put(journal, p + DISPUTE_PLACE, r.dispute);
-    put(journal, p + HOLD_PLACE, r.hold);
-    put(journal, p + REFERENCE_PLACE, r.reference);
-}
-
-// Row i becomes r.
+// Row i becomes r, its words in the layout's order.
 pub fn write_row(journal: &mut [i64], i: usize, r: Row)
     requires { RowIn journal.old i × StorableRow r }
     ensures { RowChanged journal.old journal.new i r }
 {
-    let p = i * ROW_WIDTH;
-    put_first_words(journal, p, r);
-    put_last_words(journal, p, r);
+    let words = [
+        r.kind,
+        r.account,
+        r.day,
+        r.amount,
+        r.settled,
+        r.mark,
+        r.due,
+        r.dispute,
+        r.hold,
+        r.reference,
+    ];
+    put_words(journal, i * ROW_WIDTH, words);
 }
 
 // Row i has v settled: one word, since settlement writes no other.

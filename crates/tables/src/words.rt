@@ -1,7 +1,8 @@
 // One word of a table as a number, and a difference as a word: the only functions that see a signed number.
-ghost use Rattle.std.specs.Prelude.{◌≡◌, ◌^◌, ◌<◌, pos, length, set};
-ghost use Rattle.records.specs.Encoding.{word};
+ghost use Rattle.std.specs.Prelude.{◌≡◌, ◌+◌, ◌^◌, ◌≤◌, ◌<◌, map, pos, length, set};
+ghost use Rattle.records.specs.Encoding.{word, Storable};
 ghost use Rattle.rules.specs.Book.{minus};
+ghost use Rattle.tables.specs.Changes.{put_all};
 
 use records::words::natural;
 
@@ -19,6 +20,16 @@ pub fn put(t: &mut [i64], i: usize, v: u64)
     ensures { t.new ≡ set t.old i (pos v) }
 {
     t[i] = v as i64;
+}
+
+// A record's words stored, the first at place p.
+pub fn put_words<const N: usize>(t: &mut [i64], p: usize, words: [u64; N])
+    requires { (p + N ≤ length t.old) × Storable words }
+    ensures { t.new ≡ put_all t.old p 0 (map pos words.entry) }
+{
+    for i in 0..N {
+        put(t, p + i, words[i]);
+    }
 }
 
 // a - b as a word.

@@ -1,16 +1,16 @@
 // What remains of each account's sources and debits, in one pass.
-ghost use Rattle.std.specs.Prelude.{ℕ, ◌+◌, ◌<◌, List, ℤ};
-ghost use Rattle.account_sums.specs.Tallies.{Countable};
+ghost use Rattle.std.specs.Prelude.{◌+◌, ◌<◌, List, ℤ};
 ghost use Rattle.tick_base.specs.Remainders.{Remainders};
 
+use super::rows::CountableRows;
 use account_sums::{SLOTS, add, part};
 use plain_rows::{small_account, small_amount, small_settled};
-use records::codes::{KIND_CREDIT, KIND_PAYMENT};
+use row_tests::is_source_kind;
 use table_rows::kind_at;
 
 // By account number what remains of the account's sources, its money, and of its debits, what it owes. 4 KiB of a caller's stack.
-// Kept: two arrays; as one of pairs, a tick on 8,192 rows takes 0.55 of plain C in place of 0.51, and a batch of 4,096 events 0.27 in
-// place of 0.26.
+// Kept: two arrays, since no change may lose speed that was reached: as one of pairs, a tick on 8,192 rows takes 0.55 of plain C in place
+// of 0.51, and a batch of 4,096 events 0.27 in place of 0.26.
 #[derive(Drop)]
 pub struct Remains {
     pub money: [u64; SLOTS],
@@ -29,26 +29,26 @@ impl Remains {
     }
 
     // Row i, to its account's money or to what the account owes.
-    pub fn add_row(&mut self, journal: &[i64], i: usize)
-        requires { (used : ℕ) × Countable journal.now used × (i < used) × Remainders journal.now self.old i }
-        ensures { Remainders journal.now self.new (i + 1) }
+    pub fn add_row(&mut self, countable: &CountableRows, i: usize)
+        requires { (i < countable.now.rows.used)
+            × Remainders countable.now.rows.journal.now self.old i }
+        ensures { Remainders countable.now.rows.journal.now self.new (i + 1) }
     {
-        let a = small_account(journal, i) as usize;
-        let left = small_amount(journal, i) - small_settled(journal, i);
-        let kind = kind_at(journal, i);
-        let source = (kind == KIND_PAYMENT) | (kind == KIND_CREDIT);
+        let a = small_account(countable.rows.journal, i) as usize;
+        let left = small_amount(countable.rows.journal, i)
+            - small_settled(countable.rows.journal, i);
+        let source = is_source_kind(kind_at(countable.rows.journal, i));
         add(&mut self.money, a, part(source, left));
         add(&mut self.owed, a, part(!source, left));
     }
 
     // Of the used rows.
-    pub fn of_rows(journal: &[i64], used: usize) -> Remains
-        requires { Countable journal.now used }
-        ensures { Remainders journal.now result used }
+    pub fn of_rows(countable: &CountableRows) -> Remains
+        ensures { Remainders countable.now.rows.journal.now result countable.now.rows.used }
     {
         let mut sums = Remains::none();
-        for i in 0..used {
-            sums.add_row(journal, i);
+        for i in 0..countable.rows.used {
+            sums.add_row(countable, i);
         }
         sums
     }

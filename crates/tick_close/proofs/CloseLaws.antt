@@ -56,11 +56,17 @@ usable-left a t u used i e l = (omega (arith, l.inside, l.size, e.room), rw l.sa
 
 -- ---- one account
 
-module _ (today money owed : ℕ) (h a j : List ℤ) (i : ℕ) where
+module _ (today : ℕ) (r : Remains) (h a j : List ℤ) (i : ℕ) where
   abbrev x : Account
   x = account_at a i
 
-  pub stays_open : closes_by today owed x ≡ false → ClosedOne h h a a j j i today money owed
+  abbrev money : ℕ
+  money = get_or r.money (i + 1) 0
+
+  abbrev owed : ℕ
+  owed = get_or r.owed (i + 1) 0
+
+  pub stays_open : closes_by today owed x ≡ false → ClosedOne h h a a j j i today r
   unfolding close_by refunds_by
   stays_open e = record {
     account = unchanged account_at a i (close_by today owed x) (rw e);
@@ -69,7 +75,7 @@ module _ (today money owed : ℕ) (h a j : List ℤ) (i : ℕ) where
   }
 
   module _ (a' : List ℤ) (e : closes_by today owed x ≡ true) (w : AccountChanged a a' i (closed x)) where
-    pub closes-bare : money ≡ 0 → ClosedOne h h a a' j j i today money owed
+    pub closes-bare : money ≡ 0 → ClosedOne h h a a' j j i today r
     unfolding close_by refunds_by
     closes-bare m = record {
       account = rw e w;
@@ -77,7 +83,7 @@ module _ (today money owed : ℕ) (h a j : List ℤ) (i : ℕ) where
       none = λ z. (refl, refl);
     }
 
-    pub closes-refunding : (h' j' : List ℤ) → (money ≡ 0 → ⊥) → RowAdded h h' j j' (refund_of today money (i + 1)) → ClosedOne h h' a a' j j' i today money owed
+    pub closes-refunding : (h' j' : List ℤ) → (money ≡ 0 → ⊥) → RowAdded h h' j j' (refund_of today money (i + 1)) → ClosedOne h h' a a' j j' i today r
     unfolding close_by refunds_by
     closes-refunding h' j' m added = record {
       account = rw e w;
@@ -85,7 +91,7 @@ module _ (today money owed : ℕ) (h a j : List ℤ) (i : ℕ) where
       none = λ z. absurd (true≢false (rw (e, lt-ltb 0 money (omega arith)) at z));
     }
 
-  module _ (c : Closable h a j i today money owed) where
+  module _ (c : Closable h a j i today r) where
     pub closed-holds : StorableAccount (closed x)
     closed-holds = storable-set _ state_place state_closed (omega arith) c.holds
 
@@ -143,7 +149,7 @@ module _ (h a j : List ℤ) (today : ℕ) (r : Remains) where
         let g = length-gather-le (refund_at today r) (account_at a) (i + 1) count (omega arith) in
         omega (arith, rw e at f, length-append base (refunds_to today r a i), length-tabulate (row_at j) (word h used_place), c.room)
 
-    pub closable-next : Closable h' a' j' i today cash debt
+    pub closable-next : Closable h' a' j' i today r
     closable-next = record {
       account = rw m.size (omega arith);
       number = omega (arith, c.few);
@@ -153,7 +159,7 @@ module _ (h a j : List ℤ) (today : ℕ) (r : Remains) where
       room = λ e. rows-room (tables_at h a j) h' j' (base ++ refunds_to today r a i) m.rows c.header (refund-fits (rw same-account at e));
     }
 
-    pub closed-more : (h'' a'' j'' : List ℤ) → ClosedOne h' h'' a' a'' j' j'' i today cash debt → ClosedTo h a j h'' a'' j'' today r (i + 1)
+    pub closed-more : (h'' a'' j'' : List ℤ) → ClosedOne h' h'' a' a'' j' j'' i today r → ClosedTo h a j h'' a'' j'' today r (i + 1)
     closed-more h'' a'' j'' w =
         record {
           size = w.account.size ∙ m.size;

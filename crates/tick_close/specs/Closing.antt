@@ -1,6 +1,6 @@
 -- The closings of a tick in the terms in which code carries them out: `owed` and `money` are what an account owes and has, and `r` holds
 -- it at each account number.
-use Rattle.std.specs.Prelude.{◌≡◌, Bool, true, false, cond, ◌&&◌, ℕ, suc, ◌+◌, ◌*◌, ◌-◌, ◌/◌, ◌^◌, ◌≤◌, ◌<◌, List, ◌++◌, length, get_or, ℤ, ltb}
+use Rattle.std.specs.Prelude.{◌≡◌, Bool, true, false, cond, ◌&&◌, ℕ, ◌+◌, ◌*◌, ◌-◌, ◌/◌, ◌^◌, ◌≤◌, ◌<◌, List, ◌++◌, length, get_or, ℤ, ltb}
 use Rattle.records.specs.Layout.{header_width, day_place, used_place, row_width, account_width}
 use Rattle.records.specs.Encoding.{word, row_at, rows_of, account_at, accounts_of, StorableAccount}
 use Rattle.records.specs.AccountOperations.{closed}
@@ -8,8 +8,8 @@ use Rattle.lists.specs.Tests.{◌is◌}
 use Rattle.lists.specs.Lists.{one, gather, change}
 use Rattle.records.specs.Limits.{most_accounts}
 use Rattle.rules.specs.Rows.{Row, kind_refund, new_row, source, settle_whole}
-use Rattle.rules.specs.Book.{Account, unused}
-use Rattle.rules.specs.Tick.{closes, close_accounts}
+use Rattle.rules.specs.Book.{Account}
+use Rattle.rules.specs.Tick.{close_accounts}
 use Rattle.rules.specs.Tables.{Tables, book_of}
 use Rattle.tables.specs.Changes.{AccountIn, AccountChanged}
 use Rattle.posting.specs.Posts.{tables_at, RowRoom, RowAdded}
@@ -36,20 +36,24 @@ refunds_by today money owed x = closes_by today owed x && ltb 0 money
 abbrev pub refund_of : ℕ → ℕ → ℕ → Row
 refund_of today money n = settle_whole (new_row kind_refund n today money)
 
--- account i can be closed and a refund row added
-pub record Closable (h a j : List ℤ) (i today money owed : ℕ) : Type 0 where
+-- account n closes with money left
+abbrev pub refunds_at : ℕ → Remains → ℕ → Account → Bool
+refunds_at today r n = refunds_by today (get_or r.money n 0) (get_or r.owed n 0)
+
+-- account i, of number i + 1, can be closed and a refund row added
+pub record Closable (h a j : List ℤ) (i today : ℕ) (r : Remains) : Type 0 where
   pub account : AccountIn a i
   pub number : i < most_accounts
   pub holds : StorableAccount (account_at a i)
   pub day : today < 2 ^ 63
-  pub amount : money < 2 ^ 63
-  pub room : refunds_by today money owed (account_at a i) ≡ true → RowRoom h j
+  pub amount : get_or r.money (i + 1) 0 < 2 ^ 63
+  pub room : refunds_at today r (i + 1) (account_at a i) ≡ true → RowRoom h j
 
 -- account i closes if it is to, and its money leaves as one row if it has any
-pub record ClosedOne (h h' a a' j j' : List ℤ) (i today money owed : ℕ) : Type 0 where
-  pub account : AccountChanged a a' i (close_by today owed (account_at a i))
-  pub refund : refunds_by today money owed (account_at a i) ≡ true → RowAdded h h' j j' (refund_of today money (i + 1))
-  pub none : refunds_by today money owed (account_at a i) ≡ false → (h' ≡ h) × (j' ≡ j)
+pub record ClosedOne (h h' a a' j j' : List ℤ) (i today : ℕ) (r : Remains) : Type 0 where
+  pub account : AccountChanged a a' i (close_by today (get_or r.owed (i + 1) 0) (account_at a i))
+  pub refund : refunds_at today r (i + 1) (account_at a i) ≡ true → RowAdded h h' j j' (refund_of today (get_or r.money (i + 1) 0) (i + 1))
+  pub none : refunds_at today r (i + 1) (account_at a i) ≡ false → (h' ≡ h) × (j' ≡ j)
 
 -- ---- the sources
 
@@ -74,7 +78,7 @@ unfoldable pub close_at : ℕ → Remains → ℕ → Account → Account
 close_at today r n x = close_by today (get_or r.owed n 0) x
 
 unfoldable pub refund_at : ℕ → Remains → ℕ → Account → List Row
-refund_at today r n x = one (refunds_by today (get_or r.money n 0) (get_or r.owed n 0) x) (refund_of today (get_or r.money n 0) n)
+refund_at today r n x = one (refunds_at today r n x) (refund_of today (get_or r.money n 0) n)
 
 -- the refunds of the first i accounts
 abbrev pub refunds_to : ℕ → Remains → List ℤ → ℕ → List Row
@@ -98,9 +102,7 @@ pub record ClosedTo (h a j h' a' j' : List ℤ) (today : ℕ) (r : Remains) (i :
 
 -- ---- the tables
 
--- midway, with room for the refunds, and whether an account closes
-pub record ReadyToClose (t : Tables) (closing : Bool) : Type 0 where
+-- midway, with room for the refunds
+pub record ReadyToClose (t : Tables) : Type 0 where
   pub midway : Midway (word t.header day_place) t
   pub room : length (close_accounts (book_of t)).rows ≤ length t.journal / row_width
-  pub quiet : closing ≡ false → (k : ℕ) → k < length (book_of t).accounts →
-      closes (book_of t) (suc k) (get_or (book_of t).accounts k unused) ≡ false

@@ -2,11 +2,10 @@
 // one refund row.
 #![tactic(auto)]
 
-ghost use Rattle.std.specs.Prelude.{◌≡◌, ◌/◌, length};
-ghost use Rattle.records.specs.Layout.{account_width};
+ghost use Rattle.std.specs.Prelude.{◌≡◌};
 ghost use Rattle.records.specs.Encoding.{row_at};
 ghost use Rattle.rules.specs.Tick.{close_accounts};
-ghost use Rattle.rules.specs.Tables.{book_of};
+ghost use Rattle.rules.specs.Tables.{accounts_in, book_of};
 ghost use Rattle.tables.specs.Changes.{RowIn, RowChanged, RowsMapped};
 ghost use Rattle.posting.specs.Written.{Written};
 ghost use Rattle.tick_close.specs.Closing.{closes_by, Closable, ClosedOne, use_up_by, Usable, UsableRows};
@@ -18,12 +17,12 @@ use lent::TablesMut;
 use posting::rows::{add_row, new_row};
 use records::Account;
 use records::codes::KIND_REFUND;
-use records::layout::ACCOUNT_WIDTH;
 use row_passes::change_rows;
 use row_tests::is_source;
 use table_accounts::{read_account, write_account};
 use table_rows::{account_at, put_settled, read_row};
 use tick_base::days::days_over;
+use tick_base::rows::CountableRows;
 use tick_base::sums::Remains;
 
 // Its days are over and it owes nothing.
@@ -65,17 +64,18 @@ fn use_rows(accounts: &[i64], journal: &mut [i64], used: usize, today: u64, owed
 }
 
 // Account i, of number i + 1, closes if it is to; its money leaves as a row that is settled whole.
-fn close_account(t: &mut TablesMut, i: usize, today: u64, money: u64, owed: u64)
-    requires { Closable t.old.header.now t.old.accounts.now t.old.journal.now i today money owed }
+fn close_account(t: &mut TablesMut, i: usize, today: u64, remains: &Remains)
+    requires { Closable t.old.header.now t.old.accounts.now t.old.journal.now i today remains.now }
     ensures same { SameTables t.old t.new }
     ensures closed { ClosedOne t.old.header.now t.new.header.now t.old.accounts.now t.new.accounts.now
-        t.old.journal.now t.new.journal.now i today money owed }
+        t.old.journal.now t.new.journal.now i today remains.now }
 {
     let x = read_account(t.read().accounts, i);
-    if !is_closing(x, today, owed) {
+    if !is_closing(x, today, remains.owed[i + 1]) {
         return;
     }
     write_account(t.accounts, i, x.close());
+    let money = remains.money[i + 1];
     if money == 0 {
         return;
     }
@@ -90,28 +90,24 @@ fn close_each(t: &mut TablesMut, today: u64, remains: &Remains)
     ensures same { SameTables t.old t.new }
     ensures closed { ClosedTo t.old.header.now t.old.accounts.now t.old.journal.now t.new.header.now
         t.new.accounts.now t.new.journal.now today remains.now
-        (length t.old.accounts.now / account_width) }
+        (accounts_in (lent_mut t.old)) }
 {
-    for i in 0..t.accounts.len() / ACCOUNT_WIDTH {
-        let money = remains.money[i + 1];
-        let owed = remains.owed[i + 1];
-        close_account(t, i, today, money, owed);
+    for i in 0..t.count() {
+        close_account(t, i, today, remains);
     }
 }
 
-// What remains is summed first: an account is judged on the book before any closes. On most days none closes, and nothing changes.
-pub fn close_accounts(t: &mut TablesMut, closing: bool)
-    requires { ReadyToClose (lent_mut t.old) closing }
+// What remains is summed first: an account is judged on the book before any closes.
+pub fn close_accounts(t: &mut TablesMut)
+    requires { ReadyToClose (lent_mut t.old) }
     ensures same { SameTables t.old t.new }
     ensures written { Written (lent_mut t.old) (lent_mut t.new)
         (close_accounts (book_of (lent_mut t.old))) }
 {
-    if !closing {
-        return;
-    }
     let used = t.used() as usize;
     let today = t.day();
-    let remains = Remains::of_rows(t.read().journal, used);
+    let countable = CountableRows { rows: t.rows() };
+    let remains = Remains::of_rows(&countable);
     let accounts = &mut *t.accounts;
     let journal = &mut *t.journal;
     use_rows(accounts, journal, used, today, &remains.owed);

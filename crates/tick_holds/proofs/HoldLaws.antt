@@ -39,7 +39,7 @@ use Rattle.account_sums.specs.Tallies.{Tallied}
 use Rattle.posting.proofs.BookLaws.{day-read, used-read, count-read, used-room}
 use Rattle.tick_base.specs.Remainders.{counted}
 use Rattle.tick_base.proofs.MidwayLaws.{sound-midway, midway-row}
-use Rattle.tick_holds.specs.Holds.{ends_of, Ending, EndingRows, Ends, SettledThose, UnraisedRows}
+use Rattle.tick_holds.specs.Holds.{ends_of, Ending, EndingRows, SettledThose, UnraisedRows}
 
 -- ---- the rows of a sound journal can be released
 
@@ -168,11 +168,11 @@ module _ (t : Tables) (s : sound_tables t ≡ true) (ends : List ℕ) (u v : Lis
     rest = λ k h. d.rest k h ∙ m.left k h;
   }
 
--- where no hold ends, the journal is as it was
-pub unraised-same : (t : Tables) (ending : Bool) → Ends t ending → ending ≡ false → UnraisedRows t t.journal
-unraised-same t ending e z =
-    let r : rows_of t.journal (rows_used t) ≡ (book_of t).rows = sym (sound-rows t e.sound) in
-    record { size = refl; rows = r ∙ sym (none-ended (book_of t) (sound-book t e.sound) (sym e.told ∙ z)); rest = λ k h. refl }
+-- where no hold ends, the journal as it was is what the steps would leave
+pub unraised-same : (t : Tables) → sound_tables t ≡ true → exists (hold_ends ((book_of t).day + 1)) (book_of t).rows ≡ false → UnraisedRows t t.journal
+unraised-same t s z =
+    let r : rows_of t.journal (rows_used t) ≡ (book_of t).rows = sym (sound-rows t s) in
+    record { size = refl; rows = r ∙ sym (none-ended (book_of t) (sound-book t s) z); rest = λ k h. refl }
 
 -- ---- one row released, one account settled
 

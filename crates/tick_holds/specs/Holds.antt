@@ -1,12 +1,11 @@
 -- What the end of holds and the settlement after it leave of the journal.
-use Rattle.std.specs.Prelude.{◌≡◌, Bool, true, ℕ, ◌+◌, ◌*◌, ◌≤◌, ◌<◌, List, ltb, ℤ, length, get_or}
-use Rattle.lists.specs.Lists.{exists}
+use Rattle.std.specs.Prelude.{◌≡◌, true, ℕ, ◌*◌, ◌≤◌, ◌<◌, List, ltb, ℤ, length, get_or}
 use Rattle.records.specs.Layout.{row_width}
 use Rattle.records.specs.Encoding.{row_at, rows_of, StorableRow}
 use Rattle.rules.specs.Rows.{Row}
 use Rattle.rules.specs.Events.{release}
 use Rattle.rules.specs.Tick.{hold_ends, before_raising}
-use Rattle.rules.specs.Tables.{Tables, rows_used, book_of, sound_tables}
+use Rattle.rules.specs.Tables.{Tables, rows_used, book_of}
 use Rattle.settlement.specs.Settling.{RowsBecome}
 use Rattle.tick_rules.specs.Ticks.{settle_those}
 use Rattle.tick_base.specs.Remainders.{counted}
@@ -24,11 +23,6 @@ pub record Ending (today : ℕ) (r : Row) : Type 0 where
 pub record EndingRows (t : List ℤ) (used today : ℕ) : Type 0 where
   pub room : used * row_width ≤ length t
   pub each : (k : ℕ) → k < used → Ending today (row_at t k)
-
--- sound tables, and whether a hold ends at the tick to the next day
-pub record Ends (t : Tables) (ending : Bool) : Type 0 where
-  pub sound : sound_tables t ≡ true
-  pub told : ending ≡ exists (hold_ends ((book_of t).day + 1)) (book_of t).rows
 
 -- of accounts 1 to n those settled of which a hold has ended
 abbrev pub SettledThose : List ℕ → ℕ → List ℤ → List ℤ → ℕ → Type 0

@@ -2,34 +2,34 @@
 // have changed.
 #![tactic(auto)]
 
-ghost use Rattle.std.specs.Prelude.{◌≡◌, ◌≤◌};
+ghost use Rattle.std.specs.Prelude.{◌≡◌, true, ◌≤◌};
 ghost use Rattle.records.specs.Encoding.{row_at};
 ghost use Rattle.records.specs.Limits.{most_accounts, slot_count};
 ghost use Rattle.rules.specs.Tick.{end_hold};
+ghost use Rattle.rules.specs.Tables.{sound_tables};
 ghost use Rattle.tables.specs.Changes.{RowIn, RowChanged, RowsMapped};
-ghost use Rattle.account_sums.specs.Tallies.{Tallied, Countable};
+ghost use Rattle.account_sums.specs.Tallies.{Tallied};
 ghost use Rattle.settlement.specs.Settling.{Journal};
-ghost use Rattle.tick_holds.specs.Holds.{ends_of, Ending, EndingRows, Ends, SettledThose, UnraisedRows};
+ghost use Rattle.tick_holds.specs.Holds.{ends_of, Ending, EndingRows, SettledThose, UnraisedRows};
 ghost use Rattle.lent.specs.Lent.{lent_mut, SameTables};
 
 use account_sums::SLOTS;
 use lent::TablesMut;
 use posting::rows::released;
-use records::layout::ACCOUNT_WIDTH;
 use row_passes::change_rows;
 use settlement::settle;
 use table_rows::{read_row, write_row};
 use tick_base::days::hold_ends;
 use tick_base::holds::{count_held, ends_at};
+use tick_base::rows::CountableRows;
 
 // How many holds of each account end.
-fn count_ends(journal: &[i64], used: usize, today: u64) -> [u64; SLOTS]
-    requires { Countable journal.now used }
-    ensures { Tallied (ends_of today) slot_count journal.now result used }
+fn count_ends(countable: &CountableRows, today: u64) -> [u64; SLOTS]
+    ensures { Tallied (ends_of today) slot_count countable.now.rows.journal.now result countable.now.rows.used }
 {
     let mut ends = [0; SLOTS];
-    for i in 0..used {
-        count_held(journal, i, &mut ends, |r| hold_ends(r, today));
+    for i in 0..countable.rows.used {
+        count_held(countable, i, &mut ends, |r| hold_ends(r, today));
     }
     ends
 }
@@ -67,21 +67,19 @@ fn settle_freed(journal: &mut [i64], used: usize, count: usize, ends: &[u64; SLO
     }
 }
 
-// The holds that end at the tick to the next day, and the settlement that they allow. On most days none ends, and nothing changes.
-pub fn free_and_settle(t: &mut TablesMut, ending: bool)
-    requires { Ends (lent_mut t.old) ending }
+// The holds that end at the tick to the next day, and the settlement that they allow.
+pub fn free_and_settle(t: &mut TablesMut)
+    requires { sound_tables (lent_mut t.old) ≡ true }
     ensures same { SameTables t.old t.new }
     ensures header { t.new.header.now ≡ t.old.header.now }
     ensures accounts { t.new.accounts.now ≡ t.old.accounts.now }
     ensures rows { UnraisedRows (lent_mut t.old) t.new.journal.now }
 {
-    if !ending {
-        return;
-    }
     let used = t.used() as usize;
     let today = t.day() + 1;
-    let ends = count_ends(t.read().journal, used, today);
+    let countable = CountableRows { rows: t.rows() };
+    let ends = count_ends(&countable, today);
     end_holds(t.journal, used, today);
-    let count = t.accounts.len() / ACCOUNT_WIDTH;
+    let count = t.count();
     settle_freed(t.journal, used, count, &ends);
 }

@@ -6,10 +6,15 @@ use native.Mathlib.Omega.{arith}
 use native.Mathlib.Numerals.{add-one}
 use mathlib.Core.List.{List}
 use mir.Val.{bool_byte}
+use Rattle.lists.proofs.TestLaws.{byte-one, byte-few}
 use lib.IntN.{ℤ}
 use lib.ListN.{length, get_or, replicate}
 use lib.Dec.{eqb, leb, ltb}
-use borrow.Author.Tests.{ne_eqb, lt-ltb}
+use borrow.Author.Tests.{ne_eqb, lt-ltb, le-leb, ltb-true}
+use Rattle.std.specs.Prelude.{MatchBool}
+use Rattle.std.specs.List.{AllWithin, HoldsAt, range_with_len}
+use Rattle.std.proofs.lemmas.Bool.{MatchBool-at_false}
+use Rattle.std.proofs.lemmas.List.FromFn.{length-range_with_len, get_or-range_with_len}
 use Rattle.lists.specs.Tests.{◌is◌}
 use Rattle.lists.specs.Lists.{sum_by, exists, count, one, gather, gather_from, tabulate}
 use Rattle.lists.proofs.SumLaws.{sum_by-more}
@@ -62,21 +67,31 @@ module _ (s : Schedule) (today : ℕ) (r : Row) where
 
 -- ---- a test as a number, and what it counts
 
-byte-one : (v : Bool) → bool_byte v ≡ cond v 1 0
-byte-one true = refl
-byte-one false = refl
-
-pub byte-few : (v : Bool) → bool_byte v ≤ 1
-byte-few true = omega arith
-byte-few false = omega arith
-
-pub refund-counted : (today : ℕ) (c : RowCounts) (n : ℕ) (x : Account) (v : Bool) → v ≡ refunds_at today c n x → bool_byte v ≡ length (refund_at today c n x)
+pub refund-counted : (c : RowCounts) (n : ℕ) (x : Account) (v : Bool) → v ≡ refunds_at c n x → bool_byte v ≡ length (refund_at c n x)
 unfolding refund_at
-refund-counted today c n x v e = go v (refunds_at today c n x) e
+refund-counted c n x v e = go v (refunds_at c n x) e
   where
     go : (v w : Bool) → v ≡ w → bool_byte v ≡ length (one w blank)
     go v true e = rw e refl
     go v false e = rw e refl
+
+-- an account that closes, and owes less than it has, closes with money left
+pub close-refund : (today stays owed money : ℕ) (x : Account) → close_by today stays owed money x && ltb owed money ≡ refund_by today stays owed money x
+unfolding close_by refund_by
+close-refund today stays owed money x = both (days_over today x) (stays is 0) (leb owed money) (ltb owed money) (less owed money)
+  where
+    both : (p q l m : Bool) → l && m ≡ m → (p && q && l) && m ≡ p && q && m
+    both true true l m e = e
+    both true false l m e = refl
+    both false q l m e = refl
+
+    less : (o m : ℕ) → leb o m && ltb o m ≡ ltb o m
+    less o m = go (leb o m) (ltb o m) refl refl
+      where
+        go : (v w : Bool) → leb o m ≡ v → ltb o m ≡ w → v && w ≡ w
+        go true w p q = refl
+        go false false p q = refl
+        go false true p q = absurd (true≢false (sym (le-leb o m (omega (arith, ltb-true o m q))) ∙ p))
 
 -- a toll that stays held is in dispute
 pub stays-held : (today : ℕ) (r : Row) → (r.dispute ≡ dispute_held → ⊥) → held_toll r && not (hold_ends today r) ≡ false
@@ -85,9 +100,9 @@ stays-held today r n = rw (not-held r n)
 -- ---- one row more
 
 -- of no rows
-pub rows_none : (h t : List ℤ) (today : ℕ) (m : Remains) → Remainders t m 0 → RowsCounted h t today (record { remains = m; stays = replicate slot_count 0; fees = 0; ending = false }) 0
+pub rows_none : (h t : List ℤ) (today : ℕ) (m : Remains) → Remainders t m 0 → RowsCounted h t today (record { today = today; remains = m; stays = replicate slot_count 0; fees = 0; ending = false }) 0
 unfolding gather_from exists count sum_by tabulate
-rows_none h t today m r = record { sums = r; held = tallied-none (stays_of today) slot_count t; fees = refl; few = omega arith; ending = refl }
+rows_none h t today m r = record { day = refl; sums = r; held = tallied-none (stays_of today) slot_count t; fees = refl; few = omega arith; ending = refl }
 
 module _ (h t : List ℤ) (today i : ℕ) where
   -- some row passes a test, with row n in view
@@ -104,8 +119,9 @@ module _ (h t : List ℤ) (today i : ℕ) where
   pub rows_more : (c : RowCounts) → RowsCounted h t today c i → (m : Remains) (stays : List ℕ) → Remainders t m (i + 1) → Tallied (stays_of today) slot_count t stays (i + 1)
       → (brings : Bool) → ((k : ℕ) → cond brings 1 0 ≡ length (fee_row (schedule_from h header_schedule) today k (row_at t i)))
       → (ends : Bool) → ends ≡ hold_ends today (row_at t i)
-      → RowsCounted h t today (record { remains = m; stays = stays; fees = c.fees + bool_byte brings; ending = c.ending || ends }) (i + 1)
+      → RowsCounted h t today (record { today = c.today; remains = m; stays = stays; fees = c.fees + bool_byte brings; ending = c.ending || ends }) (i + 1)
   rows_more c w m stays r s brings f ends e = record {
+    day = w.day;
     sums = r;
     held = s;
     fees = omega (arith, w.fees, f (i + 1), byte-one brings, length-gather-tabulate (fee_row (schedule_from h header_schedule) today) (row_at t) i);
@@ -113,9 +129,27 @@ module _ (h t : List ℤ) (today i : ℕ) where
     ending = rw (exists-more (hold_ends today) i, w.ending, e);
   }
 
+-- ---- the accounts tested one by one
+
+module _ (c : RowCounts) (t : List ℤ) where
+  -- what the test of account i comes to
+  abbrev pub ClosesIs : Bool → ℕ → Type 0
+  ClosesIs b i = close_at c (i + 1) (account_at t i) ≡ b
+
+  module _ (n : ℕ) where
+    abbrev range : List ℕ
+    range = range_with_len 0 n
+
+    -- where the answer is no, it is no at each account
+    pub none-by : (b : Bool) → MatchBool b ((k : ℕ) × (k < length range) × HoldsAt (ClosesIs true) range k) (AllWithin (ClosesIs false) range 0 (length range))
+        → b ≡ false → NoneClosesBy c t n
+    none-by b f e k h =
+        let number : get_or range k 0 ≡ k = get_or-range_with_len 0 n k 0 h ∙ omega arith in
+        rw number at (MatchBool-at_false _ _ e f k 0 (omega arith) (rw length-range_with_len h))
+
 -- ---- the refunds counted are those of the definition
 
-module _ (b : Book) (t : List ℤ) (c : RowCounts) (n : ℕ) (rows : b.rows ≡ rows_of t n)
+module _ (b : Book) (t : List ℤ) (c : RowCounts) (day : c.today ≡ b.day + 1) (n : ℕ) (rows : b.rows ≡ rows_of t n)
     (s : Tallied (stays_of (b.day + 1)) slot_count t c.stays n) (r : Remainders t c.remains n) (few : length b.accounts ≤ 256) where
   zero_test : (m : ℕ) → eqb m 0 ≡ not (ltb 0 m)
   zero_test zero = refl
@@ -124,25 +158,25 @@ module _ (b : Book) (t : List ℤ) (c : RowCounts) (n : ℕ) (rows : b.rows ≡ 
   test : (p : Bool) (m : ℕ) (q : Bool) → p && eqb m 0 && q ≡ p && not (ltb 0 m) && q
   test p m q = rw (zero_test m)
 
-  refund-at : (k : ℕ) → k < slot_count → (x : Account) → refunds_at (b.day + 1) c k x ≡ will_refund b k x
+  refund-at : (k : ℕ) → k < slot_count → (x : Account) → refunds_at c k x ≡ will_refund b k x
   unfolding refunds_at refund_by will_refund days_over exists count counted stays_held money owed
-  refund-at k h x = rw (s.each k h, r.moneys.each k h, r.owings.each k h, rows) (test (x.state is state_pending && leb (x.request + closing_days) (b.day + 1)) (sum_by (stays_of (b.day + 1) k) (rows_of t n)) (ltb (sum_by (owed_of k) (rows_of t n)) (sum_by (money_of k) (rows_of t n))))
+  refund-at k h x = rw (day, s.each k h, r.moneys.each k h, r.owings.each k h, rows) (test (x.state is state_pending && leb (x.request + closing_days) (b.day + 1)) (sum_by (stays_of (b.day + 1) k) (rows_of t n)) (ltb (sum_by (owed_of k) (rows_of t n)) (sum_by (money_of k) (rows_of t n))))
 
-  close-told : (k : ℕ) → k < slot_count → (x : Account) → close_at (b.day + 1) c k x ≡ will_close b k x
+  close-told : (k : ℕ) → k < slot_count → (x : Account) → close_at c k x ≡ will_close b k x
   unfolding close_at close_by will_close days_over exists count counted stays_held money owed
-  close-told k h x = rw (s.each k h, r.moneys.each k h, r.owings.each k h, rows) (test (x.state is state_pending && leb (x.request + closing_days) (b.day + 1)) (sum_by (stays_of (b.day + 1) k) (rows_of t n)) (leb (sum_by (owed_of k) (rows_of t n)) (sum_by (money_of k) (rows_of t n))))
+  close-told k h x = rw (day, s.each k h, r.moneys.each k h, r.owings.each k h, rows) (test (x.state is state_pending && leb (x.request + closing_days) (b.day + 1)) (sum_by (stays_of (b.day + 1) k) (rows_of t n)) (leb (sum_by (owed_of k) (rows_of t n)) (sum_by (money_of k) (rows_of t n))))
 
-  pub none-closes : (a : List ℤ) (m : ℕ) → b.accounts ≡ accounts_of a m → NoneClosesBy (b.day + 1) c a m → NoneCloses b
+  pub none-closes : (a : List ℤ) (m : ℕ) → b.accounts ≡ accounts_of a m → NoneClosesBy c a m → NoneCloses b
   none-closes a m e z k h =
       let l : k < m = omega (arith, ap length e, length-tabulate (account_at a) m) in
       let x : get_or b.accounts k unused ≡ account_at a k = rw e (tabulate-at (account_at a) m k unused l) in
-      let q : close_at (b.day + 1) c (suc k) (account_at a k) ≡ false = rw (add-one k) at (z k l) in
+      let q : close_at c (suc k) (account_at a k) ≡ false = rw (add-one k) at (z k l) in
       sym (close-told (suc k) (omega arith) (get_or b.accounts k unused)) ∙ rw x q
 
-  pub refunds-counted : length (gather (refund_at (b.day + 1) c) b.accounts) ≡ refunds_added b
+  pub refunds-counted : length (gather (refund_at c) b.accounts) ≡ refunds_added b
   unfolding refunds_added refund_at
   refunds-counted =
-      length-gather-same (refund_at (b.day + 1) c) (λ k x. one (will_refund b k x) blank) 1 b.accounts unused
+      length-gather-same (refund_at c) (λ k x. one (will_refund b k x) blank) 1 b.accounts unused
       (λ k j e h. rw (refund-at k (omega arith) (get_or b.accounts j unused)))
 
 -- ---- the plan, over sound tables
@@ -162,19 +196,22 @@ module _ (t : Tables) (s : sound_tables t ≡ true) (c : RowCounts) (w : RowsCou
   few : length (book_of t).accounts ≤ 256
   few = accounts-le (book_of t).day (book_of t) (sound-book t s).near
 
+  day : c.today ≡ (book_of t).day + 1
+  day = rw (day-read t s) at w.day
+
   -- no account closes
-  pub quiet-planned : NoneClosesBy (word t.header day_place + 1) c t.accounts (accounts_in t)
+  pub quiet-planned : NoneClosesBy c t.accounts (accounts_in t)
       → Planned (book_of t) (record { added = c.fees; ending = c.ending; closing = false })
   quiet-planned z =
-      let n : NoneCloses (book_of t) = none-closes (book_of t) t.journal c (rows_used t) (sound-rows t s) (rw (day-read t s) at w.held) w.sums few t.accounts (accounts_in t) accounts-same (rw (day-read t s) at z) in
+      let n : NoneCloses (book_of t) = none-closes (book_of t) t.journal c day (rows_used t) (sound-rows t s) (rw (day-read t s) at w.held) w.sums few t.accounts (accounts_in t) accounts-same z in
       record { added = omega (arith, fees-told, no-refunds (book_of t) n); few = omega (arith, w.few, used-small t s); ending = ending-told; closing = λ e. n }
 
   -- one closes
-  module _ (refunds : ℕ) (g : refunds ≡ length (gather (refund_at (word t.header day_place + 1) c) (accounts_of t.accounts (accounts_in t)))) (l : refunds ≤ accounts_in t) where
+  module _ (refunds : ℕ) (g : refunds ≡ length (gather (refund_at c) (accounts_of t.accounts (accounts_in t)))) (l : refunds ≤ accounts_in t) where
     refunds-told : refunds ≡ refunds_added (book_of t)
     refunds-told =
-        rw (day-read t s, ← accounts-same) at g
-        ∙ refunds-counted (book_of t) t.journal c (rows_used t) (sound-rows t s) (rw (day-read t s) at w.held) w.sums few
+        rw (← accounts-same) at g
+        ∙ refunds-counted (book_of t) t.journal c day (rows_used t) (sound-rows t s) (rw (day-read t s) at w.held) w.sums few
 
     pub added-few : c.fees + refunds ≤ most_rows + most_accounts
     added-few = omega (arith, w.few, used-small t s, count_small t s)

@@ -24,27 +24,28 @@ unfoldable pub close_by : ℕ → ℕ → ℕ → ℕ → Account → Bool
 close_by today stays owed money x = days_over today x && stays is 0 && leb owed money
 
 -- account n does, by what its rows come to
-unfoldable pub close_at : ℕ → RowCounts → ℕ → Account → Bool
-close_at today c n x = close_by today (get_or c.stays n 0) (get_or c.remains.owed n 0) (get_or c.remains.money n 0) x
+unfoldable pub close_at : RowCounts → ℕ → Account → Bool
+close_at c n x = close_by c.today (get_or c.stays n 0) (get_or c.remains.owed n 0) (get_or c.remains.money n 0) x
 
 -- none of the first i does
-abbrev pub NoneClosesBy : ℕ → RowCounts → List ℤ → ℕ → Type 0
-NoneClosesBy today c a i = (k : ℕ) → k < i → close_at today c (k + 1) (account_at a k) ≡ false
+abbrev pub NoneClosesBy : RowCounts → List ℤ → ℕ → Type 0
+NoneClosesBy c a i = (k : ℕ) → k < i → close_at c (k + 1) (account_at a k) ≡ false
 
 -- it closes with money left
 unfoldable pub refund_by : ℕ → ℕ → ℕ → ℕ → Account → Bool
 refund_by today stays owed money x = days_over today x && stays is 0 && ltb owed money
 
 -- account n does, by what its rows come to
-unfoldable pub refunds_at : ℕ → RowCounts → ℕ → Account → Bool
-refunds_at today c n x = refund_by today (get_or c.stays n 0) (get_or c.remains.owed n 0) (get_or c.remains.money n 0) x
+unfoldable pub refunds_at : RowCounts → ℕ → Account → Bool
+refunds_at c n x = refund_by c.today (get_or c.stays n 0) (get_or c.remains.owed n 0) (get_or c.remains.money n 0) x
 
 -- the row that account n will bring, of whatever content
-unfoldable pub refund_at : ℕ → RowCounts → ℕ → Account → List Row
-refund_at today c n x = one (refunds_at today c n x) blank
+unfoldable pub refund_at : RowCounts → ℕ → Account → List Row
+refund_at c n x = one (refunds_at c n x) blank
 
--- what the first i rows come to
+-- what the first i rows come to, counted for this day
 pub record RowsCounted (h t : List ℤ) (today : ℕ) (c : RowCounts) (i : ℕ) : Type 0 where
+  pub day : c.today ≡ today
   pub sums : Remainders t c.remains i
   pub held : Tallied (stays_of today) slot_count t c.stays i
   pub fees : c.fees ≡ length (gather (fee_row (schedule_from h header_schedule) today) (rows_of t i))

@@ -12,9 +12,9 @@ ghost use Rattle.tick_plan.specs.Plans.{Planned};
 ghost use Rattle.lent.specs.Lent.{lent_mut};
 
 use lent::TablesMut;
-use records::layout::ACCOUNT_WIDTH;
-use refunds::{any_closes, refunds_added};
 use rows::RowCounts;
+use table_lists::Header;
+use tick_base::rows::CountableRows;
 
 // How many rows the tick adds, whether a hold ends, and whether an account closes.
 #[derive(Clone, Copy)]
@@ -28,18 +28,18 @@ pub fn plan_tick(t: &TablesMut) -> Plan
     requires { sound_tables (lent_mut t.now) ≡ true }
     ensures { Planned (book_of (lent_mut t.now)) result }
 {
-    let used = t.used() as usize;
     let today = t.day() + 1;
-    let counts = RowCounts::of_rows(t.header, t.journal, used, today);
-    let count = t.accounts.len() / ACCOUNT_WIDTH;
-    if !any_closes(t.accounts, count, today, &counts) {
+    let header = Header { words: t.header };
+    let countable = CountableRows { rows: t.rows() };
+    let counts = RowCounts::of_rows(header, &countable, today);
+    if !counts.any_closes(t) {
         return Plan {
             added: counts.fees,
             ending: counts.ending,
             closing: false,
         };
     }
-    let refunds = refunds_added(t.accounts, count, today, &counts);
+    let refunds = counts.refunds_added(t);
     Plan {
         added: counts.fees + refunds,
         ending: counts.ending,

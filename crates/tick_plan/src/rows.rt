@@ -1,20 +1,21 @@
 // What the used rows come to, in one pass.
-ghost use Rattle.std.specs.Prelude.{◌+◌, ◌≤◌, ◌<◌, List, ℤ, ℕ, length};
-ghost use Rattle.records.specs.Layout.{header_width};
-ghost use Rattle.account_sums.specs.Tallies.{Countable};
+ghost use Rattle.std.specs.Prelude.{◌+◌, ◌<◌, List, ℤ};
 ghost use Rattle.tick_plan.specs.Plans.{RowsCounted};
 
 use super::fees::brings_fee;
 use account_sums::SLOTS;
 use row_tests::held_toll;
+use table_lists::Header;
 use tick_base::days::hold_ends;
 use tick_base::holds::{count_held, ends_at};
+use tick_base::rows::CountableRows;
 use tick_base::sums::Remains;
 
-// What remains of each account's rows, how many of its tolls stay held, how many fee rows the tick adds, and whether a hold ends. 6 KiB
-// of a caller's stack.
+// For the day `today`: what remains of each account's rows, how many of its tolls stay held, how many fee rows the tick adds, and
+// whether a hold ends. 6 KiB of a caller's stack.
 #[derive(Drop)]
 pub struct RowCounts {
+    pub today: u64,
     pub remains: Remains,
     // Kept: an array of its own, since `count_held` counts into an array of numbers, which `tick_holds` shares.
     pub stays: [u64; SLOTS],
@@ -24,10 +25,11 @@ pub struct RowCounts {
 
 impl RowCounts {
     // Of no rows.
-    fn none() -> RowCounts
-        ensures { (h t : List ℤ) (today : ℕ) → RowsCounted h t today result 0 }
+    fn none(today: u64) -> RowCounts
+        ensures { (h t : List ℤ) → RowsCounted h t today result 0 }
     {
         RowCounts {
+            today,
             remains: Remains::none(),
             stays: [0; SLOTS],
             fees: 0,
@@ -36,33 +38,30 @@ impl RowCounts {
     }
 
     // Row i, to each sum and count.
-    fn add_row(&mut self, header: &[i64], journal: &[i64], i: usize, today: u64)
-        requires { (header_width ≤ length header.now)
-            × (used : ℕ)
-            × Countable journal.now used
-            × (i < used)
-            × RowsCounted header.now journal.now today self.old i }
-        ensures { RowsCounted header.now journal.now today self.new (i + 1) }
+    fn add_row(&mut self, header: Header, countable: &CountableRows, i: usize)
+        requires { (i < countable.now.rows.used)
+            × RowsCounted header.words.now countable.now.rows.journal.now self.old.today self.old i }
+        ensures { RowsCounted header.entry.words.now countable.now.rows.journal.now self.old.today self.new (i + 1) }
     {
-        self.remains.add_row(journal, i);
+        let today = self.today;
+        self.remains.add_row(countable, i);
         count_held(
-            journal,
+            countable,
             i,
             &mut self.stays,
             |r| held_toll(r) & !hold_ends(r, today),
         );
-        self.fees += brings_fee(header, journal, i, today) as usize;
-        self.ending |= ends_at(journal, i, today);
+        self.fees += usize::from(brings_fee(header, countable.rows.journal, i, today));
+        self.ending |= ends_at(countable.rows.journal, i, today);
     }
 
     // Of the used rows.
-    pub fn of_rows(header: &[i64], journal: &[i64], used: usize, today: u64) -> RowCounts
-        requires { (header_width ≤ length header.now) × Countable journal.now used }
-        ensures { RowsCounted header.now journal.now today result used }
+    pub fn of_rows(header: Header, countable: &CountableRows, today: u64) -> RowCounts
+        ensures { RowsCounted header.entry.words.now countable.now.rows.journal.now today result countable.now.rows.used }
     {
-        let mut counts = RowCounts::none();
-        for i in 0..used {
-            counts.add_row(header, journal, i, today);
+        let mut counts = RowCounts::none(today);
+        for i in 0..countable.rows.used {
+            counts.add_row(header, countable, i);
         }
         counts
     }

@@ -1,11 +1,12 @@
 -- The fourth step of a tick, turn after turn: the rows used after each, and the book at the end.
-use mathlib.Core.Path.{◌≡◌, refl, sym, ◌∙◌}
+use mathlib.Core.Path.{◌≡◌, refl, sym, ◌∙◌, ap}
 use mathlib.Core.Bool.{Bool, true, false, cond}
 use Prim.Native.Nat.{ℕ, ◌+◌, ◌*◌, ◌≤◌, ◌<◌}
 use native.Mathlib.Omega.{arith}
 use mathlib.Core.List.{List}
 use lib.ListN.{length}
 use mir.Val.{bool_byte}
+use Rattle.lists.proofs.TestLaws.{byte-one}
 use lib.IntN.{ℤ}
 use Rattle.records.specs.Layout.{day_place, used_place, row_width}
 use Rattle.records.specs.Encoding.{word, row_at, rows_of, StorableRow}
@@ -40,11 +41,6 @@ pub record Turns (t : Tables) (today : ℕ) (h j : List ℤ) (n i : ℕ) : Type 
   pub within : i ≤ rows_used t
   pub counted : n ≡ count (rises today) (rows_of t.journal i)
   pub rows : UsedRows t h j (raised_to t i)
-
--- a test as a number, in a sum
-counted-one : (n : ℕ) (v : Bool) → n + bool_byte v ≡ n + cond v 1 0
-counted-one n true = refl
-counted-one n false = refl
 
 module _ (past : ℕ) (t : Tables) (m : Midway past t) where
   abbrev b : Book
@@ -147,7 +143,7 @@ module _ (past : ℕ) (t : Tables) (m : Midway past t) where
           pub turns_more : Turns t today h' j' (n + bool_byte k) (i + 1)
           turns_more = record {
             within = omega arith;
-            counted = unfold count in (rw (sum_by-more (λ x. cond (rises today x) 1 0) r i, ← v.counted, ← row_now, ← w.told) (counted-one n k));
+            counted = unfold count in (rw (sum_by-more (λ x. cond (rises today x) 1 0) r i, ← v.counted, ← row_now, ← w.told) (ap (λ m. n + m) (byte-one k)));
             rows = rw (row_now, schedule-now, today-read, passed-more f g r (rows_used t) i l) at (w.rows t (raised_to t i) u);
           }
 

@@ -1,24 +1,24 @@
 // The fourth step of a day tick: tolls due today rise a stage, and from stage 2 a nonzero fee row naming each is added.
 #![tactic(auto)]
 
-ghost use Rattle.std.specs.Prelude.{◌≡◌, ◌+◌, ◌-◌, ◌/◌, ◌^◌, ◌≤◌, ◌<◌, length};
+ghost use Rattle.std.specs.Prelude.{◌≡◌, ◌+◌, ◌-◌, ◌^◌, ◌≤◌, ◌<◌, length};
 ghost use Rattle.lists.specs.Lists.{count};
-ghost use Rattle.records.specs.Layout.{day_place, row_width};
+ghost use Rattle.records.specs.Layout.{day_place};
 ghost use Rattle.records.specs.Encoding.{word};
-ghost use Rattle.rules.specs.Rows.{kind_fee, new_row, with_mark, with_due, with_reference};
+ghost use Rattle.rules.specs.Rows.{with_mark, with_due};
 ghost use Rattle.rules.specs.Tick.{rises, raise_tolls};
-ghost use Rattle.rules.specs.Tables.{book_of};
+ghost use Rattle.rules.specs.Tables.{book_of, room_in};
 ghost use Rattle.posting.specs.Written.{Written};
 ghost use Rattle.tick_base.specs.Midway.{Midway};
 ghost use Rattle.tick_raise.specs.Raising.{Raisable, RowRaised};
-ghost use Rattle.records.specs.Codes.{kind_fee};
 ghost use Rattle.lent.specs.Lent.{lent_mut, SameTables};
 
 use lent::TablesMut;
-use posting::rows::{add_row, new_row};
+use posting::rows::{add_row, row_naming};
 use records::Row;
 use records::codes::KIND_FEE;
 use records::layout::{HEADER_SCHEDULE, STAGE_PLACE};
+use table_lists::Header;
 use table_rows::{due_at, read_row, write_row};
 use tables::words::get;
 use tick_base::stages::{fee_of_stage, is_rising};
@@ -32,16 +32,6 @@ fn raised(r: Row, days: u64) -> Row
         mark: r.mark + 1,
         due: r.due + days,
         ..r
-    }
-}
-
-// A fee of today that names row n.
-fn fee_naming(n: u64, account: u64, today: u64, fee: u64) -> Row
-    ensures { result ≡ with_reference n (new_row kind_fee account today fee) }
-{
-    Row {
-        reference: n,
-        ..new_row(KIND_FEE, account, today, fee)
     }
 }
 
@@ -60,9 +50,9 @@ fn raise_row(header: &mut [i64], journal: &mut [i64], i: usize, today: u64) -> b
     }
     let up = raised(r, get(header, HEADER_SCHEDULE + STAGE_PLACE));
     write_row(journal, i, up);
-    let fee = fee_of_stage(header, up.mark);
+    let fee = fee_of_stage(Header { words: header }, up.mark);
     if fee != 0 {
-        let row = fee_naming(i as u64 + 1, r.account, today, fee);
+        let row = row_naming(KIND_FEE, r.account, today, fee, i as u64 + 1);
         add_row(header, journal, row);
     }
     true
@@ -71,7 +61,7 @@ fn raise_row(header: &mut [i64], journal: &mut [i64], i: usize, today: u64) -> b
 // The tolls due today are raised, in row order. The result is how many.
 pub fn raise_tolls(t: &mut TablesMut) -> u64
     requires { Midway (word t.old.header.now day_place - 1) (lent_mut t.old)
-        × (length (raise_tolls (book_of (lent_mut t.old))).rows ≤ length t.old.journal.now / row_width) }
+        × (length (raise_tolls (book_of (lent_mut t.old))).rows ≤ room_in (lent_mut t.old)) }
     ensures same { SameTables t.old t.new }
     ensures accounts { t.new.accounts.now ≡ t.old.accounts.now }
     ensures raised { result ≡ count (rises (word t.old.header.now day_place)) (book_of (lent_mut t.old)).rows }
@@ -81,7 +71,7 @@ pub fn raise_tolls(t: &mut TablesMut) -> u64
     let used = t.used() as usize;
     let mut n = 0;
     for i in 0..used {
-        n += raise_row(&mut *t.header, &mut *t.journal, i, today) as u64;
+        n += u64::from(raise_row(&mut *t.header, &mut *t.journal, i, today));
     }
     n
 }

@@ -22,7 +22,7 @@ fn number_of(outcome: Result<(), Refusal>) -> i64
 {
     match outcome {
         Ok(()) => 0,
-        Err(refusal) => refusal as i64,
+        Err(refusal) => i64::from(refusal),
     }
 }
 
@@ -38,7 +38,7 @@ fn reply(outcome: Result<i64, Refusal>, value: &mut i64) -> i64
         }
         Err(refusal) => {
             *value = 0;
-            refusal as i64
+            i64::from(refusal)
         }
     }
 }

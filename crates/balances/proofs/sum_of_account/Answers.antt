@@ -10,10 +10,10 @@ loop-i-init g c = λ f m. sum-none _ _ f
 
 pub overflow_add-sum : goal.overflow_add-sum
 overflow_add-sum g c =
-    let m = c.requires.2 in
+    let m = c.requires.1 in
     omega (
       arith,
-      sum_fits _ _ c.requires.0 _ _ m.within _ _ _ _ c.loop-i-test.true (c.loop-i.invariant _ m) c.read_row.ensures (m.gives _ _ c.part-sum.ensures),
+      sum_fits _ _ c.args.summable.amounts _ _ m.within _ _ _ _ c.loop-i-test.true (c.loop-i.invariant _ m) c.read_row.ensures (m.gives _ _ c.part-sum.ensures),
     )
 
 pub loop-i-preserved : goal.loop-i-preserved

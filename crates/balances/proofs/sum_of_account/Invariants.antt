@@ -7,4 +7,4 @@ use Rattle.balances.specs.Summed.{account_sum}
 use Rattle.balances.proofs.sum_of_account.Given as goal
 
 abbrev pub invariant-loop-i : goal.invariant-loop-i
-invariant-loop-i g l = (f : Row → ℕ) → Measures g.F.Fn l.part f → l.sum ≡ account_sum (rows_of l.journal l.i) l.account f
+invariant-loop-i g l = (f : Row → ℕ) → Measures g.F.Fn l.part f → l.sum ≡ account_sum (rows_of l.rows.journal.now l.i) l.account f

@@ -9,11 +9,11 @@ use Rattle.balances.proofs.sums_of.Goals as goal
 
 pub sum_of_account-requires : goal.sum_of_account-requires
 sum_of_account-requires c =
-    (c.requires, passed source (λ r. r.amount), record { takes = λ r. tt; gives = λ r x p. search rules; within = passed-le source _ (λ r. omega arith) })
+    (passed source (λ r. r.amount), record { takes = λ r. tt; gives = λ r x p. search rules; within = passed-le source _ (λ r. omega arith) })
 
 pub sum_of_account-requires-2 : goal.sum_of_account-requires-2
 sum_of_account-requires-2 c =
-    (c.requires, passed debit (λ r. r.amount), record { takes = λ r. tt; gives = λ r x p. search rules; within = passed-le debit _ (λ r. omega arith) })
+    (passed debit (λ r. r.amount), record { takes = λ r. tt; gives = λ r x p. search rules; within = passed-le debit _ (λ r. omega arith) })
 
 pub returns : goal.returns
 unfolding sources debits source_of debit_of

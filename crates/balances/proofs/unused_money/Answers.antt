@@ -9,7 +9,7 @@ use Rattle.balances.proofs.unused_money.Goals as goal
 
 pub sum_of_account-requires : goal.sum_of_account-requires
 sum_of_account-requires c =
-    (c.requires, passed source remaining, record { takes = λ r. tt; gives = λ r x p. search rules; within = passed-le source remaining (λ r. omega arith) })
+    (passed source remaining, record { takes = λ r. tt; gives = λ r x p. search rules; within = passed-le source remaining (λ r. omega arith) })
 
 pub returns : goal.returns
 unfolding money source_of

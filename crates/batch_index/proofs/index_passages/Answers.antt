@@ -8,4 +8,4 @@ pub loop-i-preserved : goal.loop-i-preserved
 loop-i-preserved c = inserted-trees _ _ _ _ _ c.loop-i-test.true c.requires.0.differ c.insert.ensures
 
 pub returns : goal.returns
-returns c = let e : c.loop-i.i ≡ c.args.used = omega arith in rw e at c.loop-i.invariant
+returns c = let e : c.loop-i.i ≡ c.args.rows.now.used = omega arith in rw e at c.loop-i.invariant

@@ -2,8 +2,7 @@
 use Rattle.call_questions.proofs.QuestionLaws.{asked-sound, question-refused, question-answered, sums-small, balance-read}
 use Rattle.rules.specs.Book as book
 use Rattle.rules.specs.Calls.{balance_call}
-use Rattle.rules.proofs.TableLaws.{header-length}
-use Rattle.posting.proofs.BookLaws.{journal-summable}
+use Rattle.posting.proofs.BookLaws.{rows-lie, journal-summable}
 use mir.Facts.{to_z-of_z}
 use Rattle.std.proofs.Common.{rules, w64}
 use Rattle.std.specs.Prelude.{Err}
@@ -31,19 +30,20 @@ returns-in_err-check_question c =
     let q : c.from_residual.result ≡ Err c.in_err-check_question.field-0.0 = search rules in
     rw q (question-refused book.balance (lent c.args.t) _ _ (numbered (goal.at.returns-in_err-check_question c).After-natural-n) _ c.in_err-check_question.ensures)
 
-pub get-used-requires : goal.get-used-requires
-get-used-requires c = omega (arith, header-length _ (asked (goal.at.get-used-requires c).In_ok-check_question))
+pub rows-requires : goal.rows-requires
+rows-requires c = rows-lie _ (asked (goal.at.rows-requires c).In_ok-check_question)
 
-pub sums_of-s-requires : goal.sums_of-s-requires
-sums_of-s-requires c = rw c.get-used.ensures (journal-summable _ (asked (goal.at.sums_of-s-requires c).In_ok-check_question))
+pub invariant_of-summable : goal.invariant_of-summable
+invariant_of-summable c =
+    rw (c.rows.ensures.journal, c.rows.ensures.used) (record { amounts = journal-summable _ (asked (goal.at.invariant_of-summable c).In_ok-check_question) })
 
-pub minus-requires : goal.minus-requires
-minus-requires c =
-    let h = sums-small (lent c.args.t) (asked (goal.at.minus-requires c).In_ok-check_question) _ c.get-used.ensures _ _ c.sums_of-s.ensures in
+pub balance-requires : goal.balance-requires
+balance-requires c =
+    let h = sums-small (lent c.args.t) (asked (goal.at.balance-requires c).In_ok-check_question) _ c.rows.ensures.used _ _ (rw c.rows.ensures.journal at c.sums_of-s.ensures) in
     (omega arith, omega arith)
 
 pub returns : goal.returns
 unfolding balance_call
 returns c =
     question-answered book.balance (lent c.args.t) _ _ (numbered (goal.at.returns c).After-natural-n) c.in_ok-check_question.ensures _
-    (to_z-of_z {w = w64} (sfits_of c.minus.type_inv) ∙ c.minus.ensures ∙ balance-read (lent c.args.t) (asked (goal.at.returns c).In_ok-check_question) _ c.get-used.ensures _ _ c.sums_of-s.ensures)
+    (to_z-of_z {w = w64} (sfits_of c.balance.type_inv) ∙ c.balance.ensures ∙ balance-read (lent c.args.t) (asked (goal.at.returns c).In_ok-check_question) _ c.rows.ensures.used _ _ (rw c.rows.ensures.journal at c.sums_of-s.ensures))

@@ -11,9 +11,9 @@ returns-then-not-sound c = refusal-unsound _ _ (sym c.sound.ensures ∙ not-true
 pub returns-then-x-eq-STATE_UNUSED : goal.returns-then-x-eq-STATE_UNUSED
 returns-then-x-eq-STATE_UNUSED c =
     let s = sym c.sound.ensures ∙ not-false _ c.if-not-sound.false-raw in
-    refusal-by _ _ s _ c.account_numbered-x.ensures true (eq-eqb _ _ c.if-x-eq-STATE_UNUSED.true)
+    refusal-by _ _ s _ c.account-x.ensures true (eq-eqb _ _ c.if-x-eq-STATE_UNUSED.true)
 
 pub returns : goal.returns
 returns c =
     let s = sym c.sound.ensures ∙ not-false _ c.if-not-sound.false-raw in
-    refusal-by _ _ s _ c.account_numbered-x.ensures false (ne_eqb _ _ c.if-x-eq-STATE_UNUSED.false)
+    refusal-by _ _ s _ c.account-x.ensures false (ne_eqb _ _ c.if-x-eq-STATE_UNUSED.false)

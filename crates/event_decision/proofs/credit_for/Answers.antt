@@ -7,17 +7,17 @@ use Rattle.event_decision.proofs.credit_for.Goals as goal
 
 pub with_fees-whole-requires : goal.with_fees-whole-requires
 with_fees-whole-requires c =
-    (c.requires, (λ r. r.amount), record { takes = λ r. tt; gives = λ r x p. search rules; within = λ r. omega arith })
+    ((λ r. r.amount), record { takes = λ r. tt; gives = λ r x p. search rules; within = λ r. omega arith })
 
 pub with_fees-requires : goal.with_fees-requires
 with_fees-requires c =
-    (c.requires, remaining, record { takes = λ r. tt; gives = λ r x p. search rules; within = λ r. omega arith })
+    (remaining, record { takes = λ r. tt; gives = λ r x p. search rules; within = λ r. omega arith })
 
 pub returns : goal.returns
 unfolding credit_for
 returns c =
     rw (
-      c.new_row-credit.ensures,
+      c.row_naming.ensures,
       c.with_fees-whole.ensures (λ r. r.amount) (record { takes = λ r. tt; gives = λ r x p. search rules; within = λ r. omega arith }),
       c.with_fees.ensures remaining (record { takes = λ r. tt; gives = λ r x p. search rules; within = λ r. omega arith }),
     )

@@ -1,35 +1,28 @@
 -- `check_dispute` meets its contract: each way through the tests is a case of the table.
-use borrow.Author.Tests.{not-true, not-false}
-use native.Mathlib.Omega.{arith}
-use mathlib.Core.Path.{refl}
+use mathlib.Core.Path.{refl, sym, ◌∙◌}
 use mathlib.Core.Bool.{true, false}
 use Rattle.lists.specs.Tests.{first}
-use Rattle.rules.proofs.TableLaws.{header-length}
-use Rattle.posting.proofs.BookLaws.{used-room}
-use Rattle.posting_laws.proofs.PutRowLaws.{row-read-by}
+use Rattle.posting.proofs.BookLaws.{row-read-in, rows-lie}
 use Rattle.event_dispute.proofs.DisputeLaws.{answer-by}
 use Rattle.event_dispute.proofs.check_dispute.Goals as goal
 
-pub used-requires : goal.used-requires
-used-requires c = omega (arith, header-length _ c.requires.0)
+pub rows-requires : goal.rows-requires
+rows-requires c = rows-lie _ c.requires.0
 
-pub row_numbered-r-requires : goal.row_numbered-r-requires
-row_numbered-r-requires c = rw c.used.ensures (used-room _ c.requires.0)
-
-pub returns-then-not-r-e : goal.returns-then-not-r-e
+pub returns-then-not-is_of : goal.returns-then-not-is_of
 unfolding first
-returns-then-not-r-e c =
-    let found = row-read-by _ c.requires.0 _ c.args.e.a _ c.used.ensures c.row_numbered-r.ensures in
-    answer-by _ c.requires.0 _ c.requires.1 c.requires.2 false _ (rw (← found) (not-true _ c.if-not-r-e.true-raw)) refl
+returns-then-not-is_of c =
+    let found = row-read-in _ c.requires.0 _ _ c.rows.ensures.journal c.rows.ensures.used _ _ c.numbered-r.ensures in
+    answer-by _ c.requires.0 _ c.requires.1 c.requires.2 false _ (rw (← found) (sym c.is_of.ensures ∙ c.if-not-is_of.true)) refl
 
 pub returns-then-r : goal.returns-then-r
 unfolding first
 returns-then-r c =
-    let found = row-read-by _ c.requires.0 _ c.args.e.a _ c.used.ensures c.row_numbered-r.ensures in
-    answer-by _ c.requires.0 _ c.requires.1 c.requires.2 true true (rw (← found) (not-false _ c.if-not-r-e.false-raw)) (rw (← found) c.if-r.true)
+    let found = row-read-in _ c.requires.0 _ _ c.rows.ensures.journal c.rows.ensures.used _ _ c.numbered-r.ensures in
+    answer-by _ c.requires.0 _ c.requires.1 c.requires.2 true true (rw (← found) (sym c.is_of.ensures ∙ c.if-not-is_of.false)) (rw (← found) c.if-r.true)
 
 pub returns : goal.returns
 unfolding first
 returns c =
-    let found = row-read-by _ c.requires.0 _ c.args.e.a _ c.used.ensures c.row_numbered-r.ensures in
-    answer-by _ c.requires.0 _ c.requires.1 c.requires.2 true false (rw (← found) (not-false _ c.if-not-r-e.false-raw)) (rw (← found) c.if-r.false)
+    let found = row-read-in _ c.requires.0 _ _ c.rows.ensures.journal c.rows.ensures.used _ _ c.numbered-r.ensures in
+    answer-by _ c.requires.0 _ c.requires.1 c.requires.2 true false (rw (← found) (sym c.is_of.ensures ∙ c.if-not-is_of.false)) (rw (← found) c.if-r.false)

@@ -5,14 +5,14 @@ use Rattle.rules.proofs.TableLaws.{header-length}
 use Rattle.tables.specs.Changes.{put_all}
 use Rattle.posting.proofs.BookLaws.{used-small}
 use Rattle.table_lists.proofs.UsedLaws.{used-few}
-use Rattle.event_list.proofs.ListLaws.{list-accepted, in-range, list-fits, put-length, list-posts}
+use Rattle.event_list.proofs.ListLaws.{list-accepted, in-range, list-fits, words-held, list-posts}
 use Rattle.event_list.proofs.add_list.Goals as goal
 
 pub used-used-requires : goal.used-used-requires
 used-used-requires c = omega (arith, header-length _ c.requires.0)
 
-pub lists_used-requires : goal.lists_used-requires
-lists_used-requires c = rw c.read.ensures.header (header-length _ c.requires.0)
+pub invariant_of-lists : goal.invariant_of-lists
+invariant_of-lists c = record { wide = rw c.read.ensures.header (omega (arith, header-length _ c.requires.0)) }
 
 pub overflow_mul-p : goal.overflow_mul-p
 overflow_mul-p c = omega (arith, (rw c.read.ensures.header at c.lists_used.ensures), used-few c.args.t.now.header.now)
@@ -20,15 +20,15 @@ overflow_mul-p c = omega (arith, (rw c.read.ensures.header at c.lists_used.ensur
 pub overflow_add-p : goal.overflow_add-p
 overflow_add-p c = omega (arith, (rw c.read.ensures.header at c.lists_used.ensures), used-few c.args.t.now.header.now)
 
-pub put_first_words-requires : goal.put_first_words-requires
-put_first_words-requires c =
-    let q = list-accepted _ c.requires.0 _ c.requires.1 c.requires.2 in
-    (rw (rw c.read.ensures.header at c.lists_used.ensures) (list-fits _ c.requires.0 _ c.requires.1 q), in-range _ c.requires.0 _ c.requires.1 q)
-
-pub put_last_words-requires : goal.put_last_words-requires
-put_last_words-requires c =
-    let q = list-accepted _ c.requires.0 _ c.requires.1 c.requires.2 in
-    (rw (put-length _ _ _ _ _ c.put_first_words.ensures, (rw c.read.ensures.header at c.lists_used.ensures)) (list-fits _ c.requires.0 _ c.requires.1 q), in-range _ c.requires.0 _ c.requires.1 q)
+pub put_words-requires : goal.put_words-requires
+put_words-requires c =
+    let q = list-accepted _ c.requires.0 _ c.requires.1 c.requires.2 in (
+      omega arith,
+      (
+        rw (rw c.read.ensures.header at c.lists_used.ensures) (list-fits _ c.requires.0 _ c.requires.1 q),
+        words-held c.args.e (in-range _ c.requires.0 _ c.requires.1 q),
+      ),
+    )
 
 pub posted-requires : goal.posted-requires
 posted-requires c =
@@ -40,4 +40,4 @@ unfolding put_all list_words rates_words
 returns-clause-posts c =
     let q = list-accepted _ c.requires.0 _ c.requires.1 c.requires.2 in
     rw c.posted.ensures
-    (list-posts _ c.requires.0 _ c.requires.1 q _ (rw (c.put_last_words.ensures, c.put_first_words.ensures, (rw c.read.ensures.header at c.lists_used.ensures))))
+    (list-posts _ c.requires.0 _ c.requires.1 q _ (rw (c.put_words.ensures, (rw c.read.ensures.header at c.lists_used.ensures))))

@@ -1,23 +1,23 @@
 -- `look_up` meets its contract: it searches for a toll's passage number and asks for a top-up, and passes over no row.
+use Rattle.std.proofs.Common.{rules}
 use native.Mathlib.Omega.{arith}
-use Rattle.rules.proofs.TableLaws.{header-length, sound-rows}
-use Rattle.posting.proofs.BookLaws.{used-room}
+use Rattle.rules.proofs.TableLaws.{sound-rows}
+use Rattle.posting.proofs.BookLaws.{rows-lie}
 use Rattle.event_lookups.proofs.LookupLaws.{looks-up-all}
 use Rattle.event_lookups.proofs.look_up.Goals as goal
 
-pub used-requires : goal.used-requires
-used-requires c = omega (arith, header-length _ c.requires)
-
-pub passage_found-requires : goal.passage_found-requires
-passage_found-requires c = rw c.used.ensures (used-room _ c.requires)
+pub rows-requires : goal.rows-requires
+rows-requires c = rows-lie _ c.requires
 
 pub returns-then-e-eq-EVENT_TOLL : goal.returns-then-e-eq-EVENT_TOLL
 returns-then-e-eq-EVENT_TOLL c =
-    looks-up-all _ _ _ _ (λ k. rw (sound-rows _ c.requires, ← c.used.ensures) c.passage_found.ensures)
+    looks-up-all _ _ _ (search rules) (search rules) (λ k. rw (sound-rows _ c.requires, ← c.rows.ensures.used, ← c.rows.ensures.journal) c.passage_found.ensures)
     (λ k. absurd (omega (arith, c.if-e-eq-EVENT_TOLL.true)))
 
 pub returns-then-e-eq-EVENT_TOPUP_RESULT : goal.returns-then-e-eq-EVENT_TOPUP_RESULT
-returns-then-e-eq-EVENT_TOPUP_RESULT c = looks-up-all _ _ _ _ (λ k. absurd (c.if-e-eq-EVENT_TOLL.false k)) (λ k. rw c.read.ensures.tables at c.topup_due.ensures)
+returns-then-e-eq-EVENT_TOPUP_RESULT c =
+    looks-up-all _ _ _ (search rules) (search rules) (λ k. absurd (c.if-e-eq-EVENT_TOLL.false k)) (λ k. rw c.read.ensures.tables at c.topup_due.ensures)
 
 pub returns-else-e-eq-EVENT_TOPUP_RESULT : goal.returns-else-e-eq-EVENT_TOPUP_RESULT
-returns-else-e-eq-EVENT_TOPUP_RESULT c = looks-up-all _ _ _ _ (λ k. absurd (c.if-e-eq-EVENT_TOLL.false k)) (λ k. absurd (c.if-e-eq-EVENT_TOPUP_RESULT.false k))
+returns-else-e-eq-EVENT_TOPUP_RESULT c =
+    looks-up-all _ _ _ (search rules) (search rules) (λ k. absurd (c.if-e-eq-EVENT_TOLL.false k)) (λ k. absurd (c.if-e-eq-EVENT_TOPUP_RESULT.false k))

@@ -12,5 +12,5 @@ pub returns : goal.returns
 returns c =
     let k = class_number-from_1 c.args.class in
     c.get.ensures
-    ∙ rw c.number-class.ensures
+    ∙ rw c.from-class.ensures
     (rate-on _ c.args.day _ _ _ _ c.list_on.ensures c.rates_place-first.ensures k.0 k.1 c.requires.1 c.requires.2)

@@ -11,7 +11,7 @@ unfolding list_refused
 returns-then-e-ne-EVENT_RATE_LIST c b q = rw (ne_eqb _ _ c.if-e-ne-EVENT_RATE_LIST.true)
 
 pub overflow_add-result : goal.overflow_add-result
-overflow_add-result c = omega (arith, used-few c.args.header.now, c.lists_used-used.ensures)
+overflow_add-result c = omega (arith, used-few c.args.h.words.now, c.lists_used-used.ensures)
 
 pub returns : goal.returns
 unfolding list_refused

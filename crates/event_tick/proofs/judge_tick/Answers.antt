@@ -1,7 +1,7 @@
 -- `judge_tick` meets its contract: each way through the tests is a case of the table.
 use native.Mathlib.Omega.{arith}
 use mathlib.Core.Path.{refl, sym, ◌∙◌}
-use borrow.Author.Tests.{eq-eqb, ne_eqb}
+use borrow.Author.Tests.{eq-eqb, ne_eqb, not-true, not-false, true-leb, false-leb}
 use mathlib.Core.Bool.{true, false}
 use Rattle.lists.specs.Tests.{first}
 use Rattle.rules.proofs.TableLaws.{header-length, sound-book}
@@ -21,19 +21,16 @@ returns-then-day-eq-FINAL_DAY c =
       plan = tt;
     }
 
-pub used-used-requires : goal.used-used-requires
-used-used-requires c = omega (arith, header-length _ c.requires.0)
+pub has_room-requires : goal.has_room-requires
+has_room-requires c =
+    (omega (arith, header-length _ c.requires.0), omega (arith, used-small _ c.requires.0, c.plan_tick-plan.ensures.few))
 
-pub overflow_add-used : goal.overflow_add-used
-overflow_add-used c =
-    omega (arith, c.used-used.ensures, used-small _ c.requires.0, c.plan_tick-plan.ensures.few)
-
-pub returns-then-t-used : goal.returns-then-t-used
+pub returns-then-not-has_room : goal.returns-then-not-has_room
 unfolding first
-returns-then-t-used c =
+returns-then-not-has_room c =
     record {
       number = tick-by _ _ (sound-book _ c.requires.0) c.requires.1 c.requires.2 false true (ne_eqb _ _ (λ z. c.if-day-eq-FINAL_DAY.false (c.day.ensures ∙ day-read _ c.requires.0 ∙ z)))
-          (tick-lacks _ c.requires.0 _ c.plan_tick-plan.ensures.added (rw c.used-used.ensures at c.if-t-used.true));
+          (tick-lacks _ c.requires.0 _ c.plan_tick-plan.ensures.added (false-leb _ _ (sym (not-true _ c.if-not-has_room.true-raw) ∙ c.has_room.ensures)));
       plan = tt;
     }
 
@@ -42,6 +39,6 @@ unfolding first
 returns c =
     record {
       number = tick-by _ _ (sound-book _ c.requires.0) c.requires.1 c.requires.2 false false (ne_eqb _ _ (λ z. c.if-day-eq-FINAL_DAY.false (c.day.ensures ∙ day-read _ c.requires.0 ∙ z)))
-          (tick-fits _ c.requires.0 _ c.plan_tick-plan.ensures.added (omega (arith, c.used-used.ensures, c.if-t-used.false)));
+          (tick-fits _ c.requires.0 _ c.plan_tick-plan.ensures.added (true-leb _ _ (sym (not-false _ c.if-not-has_room.false-raw) ∙ c.has_room.ensures)));
       plan = c.plan_tick-plan.ensures;
     }

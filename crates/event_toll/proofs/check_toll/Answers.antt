@@ -6,8 +6,7 @@ use mathlib.Core.Bool.{true, false}
 use Rattle.lists.specs.Tests.{◌is◌, first}
 use Rattle.rules.specs.Schedule.{class}
 use Rattle.rules.proofs.TableLaws.{header-length}
-use Rattle.posting.proofs.BookLaws.{day-read}
-use Rattle.posting_laws.proofs.RefusalLaws.{rows-lack, rows-suffice}
+use Rattle.posting.proofs.BookLaws.{day-read, room-asked, room-told}
 use Rattle.event_rates.proofs.RateLaws.{class_number-not_0}
 use Rattle.event_toll.proofs.TollLaws.{answer-by, day-within, toll-formed}
 use Rattle.event_toll.proofs.check_toll.Goals as goal
@@ -20,8 +19,8 @@ classed c = rw (← c.in-Some.ensures) (class_number-not_0 c.in-Some.class)
 pub day-today-requires : goal.day-today-requires
 day-today-requires c = omega (arith, header-length _ c.requires.0)
 
-pub used-used-requires : goal.used-used-requires
-used-used-requires c = omega (arith, header-length _ c.requires.0)
+pub has_room-requires : goal.has_room-requires
+has_room-requires c = room-asked _ c.requires.0 1 (omega arith)
 
 pub returns-in_default-clause-number : goal.returns-in_default-clause-number
 unfolding first
@@ -44,18 +43,16 @@ returns-then-k-clause-number c =
     answer-by _ _ c.requires.1 c.requires.3 false false true _ (classed (goal.at.returns-then-k-clause-number c).In-Some)
     (rw (← day-read _ c.requires.0, ← c.day-today.ensures) c.if-today-e.false) (sym (c.requires.2.duplicate c.requires.1) ∙ c.if-k.true) refl
 
-pub returns-then-t-used-clause-number : goal.returns-then-t-used-clause-number
+pub returns-then-not-has_room-clause-number : goal.returns-then-not-has_room-clause-number
 unfolding first
-returns-then-t-used-clause-number c =
-    let u = c.used-used.ensures in
-    answer-by _ _ c.requires.1 c.requires.3 false false false true (classed (goal.at.returns-then-t-used-clause-number c).In-Some)
+returns-then-not-has_room-clause-number c =
+    answer-by _ _ c.requires.1 c.requires.3 false false false true (classed (goal.at.returns-then-not-has_room-clause-number c).In-Some)
     (rw (← day-read _ c.requires.0, ← c.day-today.ensures) c.if-today-e.false) (sym (c.requires.2.duplicate c.requires.1) ∙ c.if-k.false)
-    (rows-lack _ c.requires.0 1 (omega (arith, c.if-t-used.true)))
+    (room-told _ c.requires.0 1 _ c.has_room.ensures ∙ c.if-not-has_room.true-raw)
 
 pub returns-clause-number : goal.returns-clause-number
 unfolding first
 returns-clause-number c =
-    let u = c.used-used.ensures in
     answer-by _ _ c.requires.1 c.requires.3 false false false false (classed (goal.at.returns-clause-number c).In-Some)
     (rw (← day-read _ c.requires.0, ← c.day-today.ensures) c.if-today-e.false) (sym (c.requires.2.duplicate c.requires.1) ∙ c.if-k.false)
-    (rows-suffice _ c.requires.0 1 (omega (arith, c.if-t-used.false)))
+    (room-told _ c.requires.0 1 _ c.has_room.ensures ∙ c.if-not-has_room.false-raw)

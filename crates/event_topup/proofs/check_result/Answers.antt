@@ -4,8 +4,8 @@ use native.Mathlib.Omega.{arith}
 use mathlib.Core.Path.{refl, sym, ◌∙◌}
 use mathlib.Core.Bool.{true, false}
 use Rattle.lists.specs.Tests.{first}
-use Rattle.rules.proofs.TableLaws.{header-length}
-use Rattle.event_topup.proofs.ResultLaws.{result_by, no-row-left}
+use Rattle.posting.proofs.BookLaws.{room-asked, room-told}
+use Rattle.event_topup.proofs.ResultLaws.{result_by}
 use Rattle.event_topup.proofs.check_result.Goals as goal
 
 pub returns-then-not-k : goal.returns-then-not-k
@@ -13,17 +13,17 @@ unfolding first
 returns-then-not-k c =
     result_by _ c.requires.0 _ c.requires.1 c.requires.3 false _ (sym (c.requires.2.due c.requires.1) ∙ not-true _ c.if-not-k.true) refl
 
-pub used-requires : goal.used-requires
-used-requires c = omega (arith, header-length _ c.requires.0)
+pub has_room-requires : goal.has_room-requires
+has_room-requires c = room-asked _ c.requires.0 1 (omega arith)
 
-pub returns-then-e-t : goal.returns-then-e-t
+pub returns-then-e-has_room : goal.returns-then-e-has_room
 unfolding first
-returns-then-e-t c =
+returns-then-e-has_room c =
     result_by _ c.requires.0 _ c.requires.1 c.requires.3 true true (sym (c.requires.2.due c.requires.1) ∙ not-false _ c.if-not-k.false)
-    (rw (no-row-left _ c.requires.0 _ refl, ← c.used.ensures) c.if-e-t.true)
+    (rw (room-told _ c.requires.0 1 _ c.has_room.ensures) c.if-e-has_room.true)
 
 pub returns : goal.returns
 unfolding first
 returns c =
     result_by _ c.requires.0 _ c.requires.1 c.requires.3 true false (sym (c.requires.2.due c.requires.1) ∙ not-false _ c.if-not-k.false)
-    (rw (no-row-left _ c.requires.0 _ refl, ← c.used.ensures) c.if-e-t.false)
+    (rw (room-told _ c.requires.0 1 _ c.has_room.ensures) c.if-e-has_room.false)

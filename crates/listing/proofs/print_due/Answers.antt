@@ -1,10 +1,14 @@
 -- `print_due` meets its contract: nothing is left where it is printed.
-use Rattle.std.proofs.Common.{sym, ◌∙◌}
+use Rattle.std.proofs.Common.{refl, sym, ◌∙◌}
 use Rattle.listing.proofs.TurnLaws.{printed-due, printed-else}
 use Rattle.listing.proofs.print_due.Goals as goal
 
-pub returns-then-not-must_print : goal.returns-then-not-must_print
-returns-then-not-must_print c = sym (printed-else c.args.p c.args.out.now (sym c.must_print.ensures ∙ c.if-not-must_print.true))
+pub returns-then-not-must_print-clause-printed : goal.returns-then-not-must_print-clause-printed
+returns-then-not-must_print-clause-printed c =
+    let l = c.args.listing.now in
+    rw (printed-else l.place l.out (sym c.must_print.ensures ∙ c.if-not-must_print.true)) refl
 
-pub returns : goal.returns
-returns c = c.clear.ensures ∙ sym (printed-due c.args.p c.args.out.now (sym c.must_print.ensures ∙ c.if-not-must_print.false))
+pub returns-clause-printed : goal.returns-clause-printed
+returns-clause-printed c =
+    let l = c.args.listing.now in
+    rw (printed-due l.place l.out (sym c.must_print.ensures ∙ c.if-not-must_print.false), c.clear.ensures) refl

@@ -6,8 +6,7 @@ use Rattle.listing.proofs.read_on.Goals as goal
 pub returns-then-more-eq0-clause-reads : goal.returns-then-more-eq0-clause-reads
 returns-then-more-eq0-clause-reads c =
     let r = c.read_more-more in
-    let rest = rw c.as_bytes.ensures at c.write_rest.ensures.text in
-    read-none _ _ _ _ _ r.result r.ensures.kept r.ensures.longer (c.requires.0.empty c.requires.1) (omega arith) _ _ rest
+    read-none _ _ _ _ _ r.result r.ensures.kept r.ensures.longer (c.requires.0.empty c.requires.1) (omega arith) _ c.write_rest.ensures.over c.write_rest.ensures.text
 
 pub returns-clause-reads : goal.returns-clause-reads
 returns-clause-reads c =

@@ -1,7 +1,7 @@
-use Rattle.lent.specs.Lent.{lent_mut, SameTables}
-use Rattle.listing.specs.Turns.{state_at}
+use Rattle.lent.specs.Lent.{SameTables}
+use Rattle.listing.specs.Turns.{state_of}
 use Rattle.listing.proofs.RunLaws.{Looping}
 use Rattle.listing.proofs.run.Given as goal
 
 abbrev pub invariant-loop-taken : goal.invariant-loop-taken
-invariant-loop-taken l = SameTables l.initial.t l.t × Looping (state_at (lent_mut l.t) l.input l.out l.p) l.taken
+invariant-loop-taken l = SameTables l.initial.listing.t l.listing.t × Looping (state_of l.listing) l.taken

@@ -16,4 +16,4 @@ returns-clause-text c =
     let a = c.args in
     let two = appended _ _ _ _ _ c.write_field.ensures.text c.write_field-2.ensures.text in
     let three = appended _ _ _ _ _ two c.write_balance.ensures.text in
-    λ b e. rw (← account-used b a.n a.x (rows_of a.journal.now a.used) e c.if-x-eq-STATE_UNUSED.false) three
+    λ b e. rw (← account-used b a.n a.x (rows_of a.summable.rows.journal.now a.summable.rows.used) e c.if-x-eq-STATE_UNUSED.false) three

@@ -8,6 +8,6 @@ use Rattle.listing_book.proofs.write_accounts.Given as goal
 
 abbrev pub invariant-loop-i : goal.invariant-loop-i
 invariant-loop-i l = record {
-  text : (b : Book) → b.rows ≡ rows_of l.journal l.used → l.out ≡ l.initial.out ++ gather (account_text b) (accounts_of l.accounts l.i);
+  text : (b : Book) → b.rows ≡ rows_of l.summable.rows.journal.now l.summable.rows.used → l.out ≡ l.initial.out ++ gather (account_text b) (accounts_of l.t.accounts.now l.i);
   short : length l.out ≤ length l.initial.out + l.i * most_account_bytes;
 }

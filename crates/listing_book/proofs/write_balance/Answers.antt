@@ -10,14 +10,14 @@ use Rattle.balances.proofs.AmountLaws.{sums-fit}
 use Rattle.decimal.proofs.WritingLaws.{appended}
 use Rattle.listing_book.proofs.write_balance.Goals as goal
 
-pub minus-requires : goal.minus-requires
-minus-requires c =
-    let h = sums-fit _ _ c.requires.1 _ _ c.sums_of-s.ensures in
+pub balance-requires : goal.balance-requires
+balance-requires c =
+    let h = sums-fit _ _ c.args.summable.amounts _ _ c.sums_of-s.ensures in
     (omega arith, omega arith)
 
 pub returns-clause-text : goal.returns-clause-text
 unfolding line
 returns-clause-text c =
-    let m = c.minus in
+    let m = c.balance in
     let e = to_z-of_z {w = w64} (sfits_of m.type_inv) ∙ m.ensures ∙ ap₂ minus c.sums_of-s.ensures.sources c.sums_of-s.ensures.debits in
     appended _ _ _ _ _ (rw e at c.push_number.ensures.text) c.push.ensures.text

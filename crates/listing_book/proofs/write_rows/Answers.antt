@@ -6,7 +6,7 @@ use Rattle.listing_book.proofs.ListedLaws.{listed-none, listed_more, row-dated}
 use Rattle.listing_book.proofs.write_rows.Goals as goal
 
 pub loop-i-init : goal.loop-i-init
-loop-i-init c = record { text = listed-none row_text (row_at c.args.journal.now) _; short = omega arith }
+loop-i-init c = record { text = listed-none row_text (row_at c.args.rows.now.journal.now) _; short = omega arith }
 
 pub write_row-requires : goal.write_row-requires
 write_row-requires c =
@@ -15,6 +15,6 @@ write_row-requires c =
 
 pub loop-i-preserved : goal.loop-i-preserved
 loop-i-preserved c = record {
-  text = listed_more row_text (row_at c.args.journal.now) _ _ _ c.loop-i.i _ c.read_row.ensures c.loop-i.invariant.text c.write_row.ensures.text;
+  text = listed_more row_text (row_at c.args.rows.now.journal.now) _ _ _ c.loop-i.i _ c.read_row.ensures c.loop-i.invariant.text c.write_row.ensures.text;
   short = omega arith;
 }

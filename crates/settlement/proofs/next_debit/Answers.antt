@@ -1,33 +1,35 @@
--- `settlement::next_debit` meets its contract: every row passed wants nothing.
+-- `settlement::next_debit` meets its contract: the first row that wants something, as `find` gives it.
+use Prim.Native.Nat.{ℕ, ◌-◌, ◌≤◌, ◌<◌}
 use native.Mathlib.Omega.{arith}
-use native.Mathlib.Decide.{ℕ_discrete}
+use mathlib.Core.Path.{◌≡◌, refl, sym, ◌∙◌}
+use mathlib.Core.List.{List}
+use lib.IntN.{ℤ}
+use Rattle.std.proofs.Common.{rules}
+use Rattle.std.proofs.lemmas.Iterator.{first_from_find, YieldsList-from_range}
+use Rattle.std.proofs.lemmas.List.FromFn.{length-range_with_len, get_or-range_with_len}
+use Rattle.std.specs.Prelude.{Option, Some, None}
+use Rattle.records.specs.Encoding.{row_at, rows_of}
+use Rattle.lists.specs.Lists.{only}
+use Rattle.lists.proofs.SearchLaws.{Finds, first-from}
+use Rattle.rules.specs.Rows.{remaining, payable}
+use Rattle.settlement.specs.Settling.{NextDebit}
 use Rattle.settlement.proofs.next_debit.Goals as goal
 
-pub loop-k-init : goal.loop-k-init
-loop-k-init c = λ i h l. absurd (omega arith)
+abbrev want : List ℤ → ℕ → ℕ → ℕ → ℕ
+want t used a k = only (payable (rows_of t used) a) remaining (row_at t k)
 
-pub wanted-requires : goal.wanted-requires
-wanted-requires c = (c.requires.0, omega arith)
-
-pub returns-then-wanted-gt0 : goal.returns-then-wanted-gt0
-returns-then-wanted-gt0 c =
-    record {
-      after = omega arith;
-      within = omega arith;
-      passed = c.loop-k.invariant;
-      wants = λ h. rw c.wanted.ensures at c.if-wanted-gt0.true;
-    }
-
-pub loop-k-preserved : goal.loop-k-preserved
-loop-k-preserved c =
-    let l = c.loop-k in
-    let w = rw c.wanted.ensures at c.if-wanted-gt0.false in
-    λ i h q.
-    elim (ℕ_discrete i l.k) [
-      | yes e ↦ rw e (omega arith)
-      | no n ↦ l.invariant i h (omega arith)
-    ]
+next : (t : List ℤ) (used a j : ℕ) → j ≤ used → (r : Option ℕ) → Finds (λ k. 0 < want t used a k) (λ k. want t used a k ≡ 0) j used r
+    → NextDebit t used a j r
+next t used a j h None m = (first-from (λ k. 0 < want t used a k) (λ k. want t used a k ≡ 0) j used h None m).passed
+next t used a j h (Some k) m =
+    let f = first-from (λ k. 0 < want t used a k) (λ k. want t used a k ≡ 0) j used h (Some k) m in
+    let i : m.1 < used - j = rw length-range_with_len at m.2 in
+    let within : k < used = omega (arith, sym (get_or-range_with_len j (used - j) m.1 0 i) ∙ m.3 0) in
+    record { after = f.after; within = within; passed = f.passed; wants = f.found within }
 
 pub returns : goal.returns
 returns c =
-    record { after = omega arith; within = omega arith; passed = λ i h l. c.loop-k.invariant i h (omega arith); wants = λ h. absurd (omega arith) }
+    let t = c.args.rows.now in
+    next t.journal.now t.used c.args.account c.args.j c.requires c.find.result
+    (first_from_find _ _ _ (λ k. 0 < want t.journal.now t.used c.args.account k) (λ k. want t.journal.now t.used c.args.account k ≡ 0) c.find.ensures.ran
+    (YieldsList-from_range c.args.j t.used _ refl refl) (λ k q d. search rules) (λ k q d. search rules))

@@ -13,26 +13,25 @@ use Rattle.settlement.proofs.settle_from.Goals.{After-min-m}
 
 turn-from : (c : After-min-m) → c.min-m.result ≡ min c.loop-x.x c.wanted.result → (old : List ℤ)
     → Walking c.args.account c.args.used old c.sources.journal c.sources.i c.sources.j
-    → Turn c.args.account c.args.used old c.loop-x.journal c.sources.i c.next_debit-j.result c.min-m.result
+    → Turn c.args.account c.args.used old c.loop-x.journal c.sources.i c.in-Some.next c.min-m.result
 turn-from c m old start =
     let l = c.loop-x in
-    let n = c.next_debit-j in
-    let y : c.wanted.result ≡ only (payable (rows_of l.journal c.args.used) c.args.account) remaining (row_at l.journal n.result) = c.wanted.ensures in
+    let n = c.in-Some in
+    let y : c.wanted.result ≡ only (payable (rows_of l.journal c.args.used) c.args.account) remaining (row_at l.journal n.next) = c.wanted.ensures in
     let x = l.invariant.1 in
-    let h = c.if-used-j.false in
-    let p = n.ensures.wants h in
+    let p = n.ensures.wants in
     let q = c.loop-x-test.true in
     record {
-      walk = walking-debit _ _ _ _ _ _ _ (l.invariant.0 old start) n.ensures;
+      walk = walking-debit _ _ _ _ _ _ _ (l.invariant.0 old start) n.ensures.after (omega (arith, n.ensures.within)) n.ensures.passed;
       in-i = omega arith;
-      in-k = h;
+      in-k = n.ensures.within;
       has = omega arith;
       wants = omega arith;
       some = omega arith;
     }
 
 turn : (c : After-min-m) → c.min-m.result ≡ min c.loop-x.x c.wanted.result
-    → Turn c.args.account c.args.used c.args.journal.now c.loop-x.journal c.sources.i c.next_debit-j.result c.min-m.result
+    → Turn c.args.account c.args.used c.args.journal.now c.loop-x.journal c.sources.i c.in-Some.next c.min-m.result
 turn c m = turn-from c m c.args.journal.now c.sources.invariant
 
 pub sources-init : goal.sources-init
@@ -46,13 +45,11 @@ unused-x-requires c =
 pub loop-x-init : goal.loop-x-init
 loop-x-init c = (λ old w. w, c.unused-x.ensures)
 
-pub next_debit-j-requires : goal.next_debit-j-requires
-next_debit-j-requires c =
-    let w = c.loop-x.invariant.0 c.args.journal.now c.sources.invariant in
-    (w.journal.room, w.j-in)
+pub next_debit-requires : goal.next_debit-requires
+next_debit-requires c = (c.loop-x.invariant.0 c.args.journal.now c.sources.invariant).j-in
 
 pub wanted-requires : goal.wanted-requires
-wanted-requires c = ((c.loop-x.invariant.0 c.args.journal.now c.sources.invariant).journal.room, c.if-used-j.false)
+wanted-requires c = c.in-Some.ensures.within
 
 pub add_settled-requires : goal.add_settled-requires
 add_settled-requires c =
@@ -91,7 +88,7 @@ sources-preserved c =
 pub returns-after-sources : goal.returns-after-sources
 returns-after-sources c = no-source-left _ _ _ _ _ _ c.sources.invariant (omega arith)
 
-pub returns-then-used-j : goal.returns-then-used-j
-returns-then-used-j c =
+pub returns-in_default : goal.returns-in_default
+returns-in_default c =
     let w = c.loop-x.invariant.0 c.args.journal.now c.sources.invariant in
-    no-debit-left _ _ _ _ _ _ (walking-debit _ _ _ _ _ _ _ w c.next_debit-j.ensures) c.if-used-j.true
+    no-debit-left _ _ _ _ _ c.args.used (walking-debit _ _ _ _ _ _ _ w w.j-in (omega arith) c.in_default.ensures) (omega arith)

@@ -1,10 +1,9 @@
--- `unused_zero` meets its contract: only an unused account is asked for zeros.
-use mathlib.Core.Bool.{true}
-use mathlib.Core.List.{map}
-use lib.ListN.{drop}
-use Rattle.lists.specs.Tests.{◌is◌}
-use Rattle.lists.proofs.TestLaws.{all_left_lem}
-use Rattle.records.specs.Encoding.{account_fields}
+-- `unused_zero` meets its contract: only an unused account is asked to be the default one.
+use mathlib.Core.Bool.{true, and-true}
+use mathlib.Core.Path.{◌≡◌}
+use Rattle.std.proofs.Common.{rules}
+use Rattle.lists.specs.Tests.{◌is◌, all_of}
+use Rattle.rules.specs.Book.{unused}
 use Rattle.rules.specs.Soundness.{unused_zero}
 use native.Mathlib.Omega.{arith}
 use borrow.Author.Tests.{eq-eqb, ne_eqb}
@@ -15,7 +14,9 @@ unfolding unused_zero
 returns-then-x-ne-STATE_UNUSED c = rw (ne_eqb c.args.x.state 0 c.if-x-ne-STATE_UNUSED.true)
 
 pub returns : goal.returns
-unfolding unused_zero
+unfolding unused_zero all_of
 returns c =
     let x = c.args.x in
-    rw (eq-eqb x.state 0 (omega arith)) (all_left_lem true (map (λ n. n is 0) (drop 1 (account_fields x))))
+    let none : c.default.result ≡ unused = search rules in
+    let zero : x.state is 0 ≡ true = eq-eqb x.state 0 (omega arith) in
+    rw (zero, and-true) (rw (none, zero) at c.eq.ensures)

@@ -1,13 +1,16 @@
--- `row_empty` meets its contract: ten tests, from the left.
-use mathlib.Core.List.{[], ◌∷◌}
-use Rattle.lists.proofs.TestLaws.{all_left_lem}
+-- `row_empty` meets its contract: the row as it is read is the default one where each of its words is 0.
+use mathlib.Core.Bool.{and-true}
+use mathlib.Core.Path.{◌≡◌, ◌∙◌}
+use Rattle.std.proofs.Common.{rules}
+use Rattle.lists.specs.Tests.{all_of}
+use Rattle.rules.specs.Rows.{blank}
+use Rattle.plain_rows.proofs.AlikeLaws.{alike-test}
 use Rattle.sound_header.specs.Clauses.{empty_row}
-use lib.Dec.{eqb}
+use Rattle.sound_journal.proofs.JournalLaws.{empty-small}
 use Rattle.sound_journal.proofs.row_empty.Goals as goal
 
 pub returns : goal.returns
-unfolding empty_row
+unfolding empty_row all_of
 returns c =
-    let r = c.args.r in
-    all_left_lem (eqb r.kind 0) (eqb r.account 0 ∷ eqb r.day 0 ∷ eqb r.amount 0 ∷ eqb r.settled 0
-    ∷ eqb r.mark 0 ∷ eqb r.due 0 ∷ eqb r.dispute 0 ∷ eqb r.hold 0 ∷ eqb r.reference 0 ∷ [])
+    let none : c.default.result ≡ blank = search rules in
+    rw (and-true) (rw none at c.eq.ensures) ∙ alike-test empty_row empty-small _ _ c.plain_row.ensures

@@ -7,4 +7,4 @@ use Prim.Native.Nat.{ℕ, ◌+◌, ◌<◌}
 use Rattle.sound_lists.proofs.lists_fit.Given as goal
 
 abbrev pub invariant-loop-i : goal.invariant-loop-i
-invariant-loop-i l = (l.before ≡ (list_no (lists_in l.header) (l.i + 1)).first_day) × ((k : ℕ) → k < l.i → rises l.header (k + 1) (later_list_at l.header k) ≡ true)
+invariant-loop-i l = (l.before ≡ (list_no (lists_in l.h.words.now) (l.i + 1)).first_day) × ((k : ℕ) → k < l.i → rises l.h.words.now (k + 1) (later_list_at l.h.words.now k) ≡ true)

@@ -7,18 +7,18 @@ use Rattle.tick_close.proofs.close_account.Goals as goal
 pub returns-then-not-is_closing-clause-closed : goal.returns-then-not-is_closing-clause-closed
 returns-then-not-is_closing-clause-closed c =
     let x = rw c.read.ensures.accounts at c.read_account-x.ensures in
-    stays_open _ _ _ _ _ _ _ (rw (← x) (sym c.is_closing.ensures ∙ not-true _ c.if-not-is_closing.true-raw))
+    stays_open _ _ _ _ _ _ (rw (← x) (sym c.is_closing.ensures ∙ not-true _ c.if-not-is_closing.true-raw))
 
 pub write_account-requires : goal.write_account-requires
 write_account-requires c =
     let p = c.requires in
     let x = rw c.read.ensures.accounts at c.read_account-x.ensures in
-    (p.account, rw (c.close.ensures, x) (closed-holds _ _ _ _ _ _ _ p))
+    (p.account, rw (c.close.ensures, x) (closed-holds _ _ _ _ _ _ p))
 
 pub returns-then-money-eq0-clause-closed : goal.returns-then-money-eq0-clause-closed
 returns-then-money-eq0-clause-closed c =
     let x = rw c.read.ensures.accounts at c.read_account-x.ensures in
-    closes-bare _ _ _ _ _ _ _ _
+    closes-bare _ _ _ _ _ _ _
     (rw (← x) (sym c.is_closing.ensures ∙ not-false _ c.if-not-is_closing.false-raw))
     (rw (c.close.ensures, x) at c.write_account.ensures)
     c.if-money-eq0.true
@@ -27,16 +27,16 @@ pub add_row-requires : goal.add_row-requires
 add_row-requires c =
     let p = c.requires in
     let x = rw c.read.ensures.accounts at c.read_account-x.ensures in (
-      refund-room _ _ _ _ _ _ _ p
+      refund-room _ _ _ _ _ _ p
           (rw (← x) (sym c.is_closing.ensures ∙ not-false _ c.if-not-is_closing.false-raw))
           c.if-money-eq0.false,
-      rw c.new_row-r.ensures (refund-holds _ _ _ _ _ _ _ p),
+      rw c.new_row-r.ensures (refund-holds _ _ _ _ _ _ p),
     )
 
 pub returns-clause-closed : goal.returns-clause-closed
 returns-clause-closed c =
     let x = rw c.read.ensures.accounts at c.read_account-x.ensures in
-    closes-refunding _ _ _ _ _ _ _ _
+    closes-refunding _ _ _ _ _ _ _
     (rw (← x) (sym c.is_closing.ensures ∙ not-false _ c.if-not-is_closing.false-raw))
     (rw (c.close.ensures, x) at c.write_account.ensures)
     _ _

@@ -12,7 +12,7 @@ loop-i-init c = tallied-none (ends_of c.args.today) slot_count _
 
 pub count_held-requires : goal.count_held-requires
 count_held-requires c =
-    (c.args.used, c.requires, c.loop-i-test.true, hold_ends c.args.today, record { takes = λ r. tt; gives = λ r b p. search rules; held = no_end c.args.today }, c.loop-i.invariant)
+    (c.loop-i-test.true, hold_ends c.args.today, record { takes = λ r. tt; gives = λ r b p. search rules; held = no_end c.args.today }, c.loop-i.invariant)
 
 pub loop-i-preserved : goal.loop-i-preserved
 loop-i-preserved c =

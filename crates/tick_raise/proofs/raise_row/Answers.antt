@@ -30,8 +30,8 @@ pub add_row-requires : goal.add_row-requires
 add_row-requires c =
     let f = c.fee_of_stage-fee.ensures in
     let z = c.if-fee-ne0.true in
-    (fee-room _ _ _ _ c.requires _ c.read_row-r.ensures (sym c.is_rising.ensures ∙ c.if-not-is_rising.false) _ c.get.ensures _ c.raised-up.ensures _ c.write_row.ensures _ f z, rw c.fee_naming-row.ensures (fee-storable _ _ _ _ c.requires _ c.read_row-r.ensures (sym c.is_rising.ensures ∙ c.if-not-is_rising.false) _ c.get.ensures _ c.raised-up.ensures _ c.write_row.ensures _ f z))
+    (fee-room _ _ _ _ c.requires _ c.read_row-r.ensures (sym c.is_rising.ensures ∙ c.if-not-is_rising.false) _ c.get.ensures _ c.raised-up.ensures _ c.write_row.ensures _ f z, rw c.row_naming-row.ensures (fee-storable _ _ _ _ c.requires _ c.read_row-r.ensures (sym c.is_rising.ensures ∙ c.if-not-is_rising.false) _ c.get.ensures _ c.raised-up.ensures _ c.write_row.ensures _ f z))
 
 pub returns-then-fee-ne0 : goal.returns-then-fee-ne0
 returns-then-fee-ne0 c =
-    raised-fee _ _ _ _ c.requires _ c.read_row-r.ensures (sym c.is_rising.ensures ∙ c.if-not-is_rising.false) _ c.get.ensures _ c.raised-up.ensures _ c.write_row.ensures _ c.fee_of_stage-fee.ensures c.if-fee-ne0.true _ _ (rw c.fee_naming-row.ensures at c.add_row.ensures)
+    raised-fee _ _ _ _ c.requires _ c.read_row-r.ensures (sym c.is_rising.ensures ∙ c.if-not-is_rising.false) _ c.get.ensures _ c.raised-up.ensures _ c.write_row.ensures _ c.fee_of_stage-fee.ensures c.if-fee-ne0.true _ _ (rw c.row_naming-row.ensures at c.add_row.ensures)

@@ -1,9 +1,7 @@
 -- `raise_tolls` meets its contract: turn after turn, the rows passed are raised and their fees added.
 use native.Mathlib.Omega.{arith}
-use mathlib.Core.Path.{◌≡◌, refl, ◌∙◌}
+use mathlib.Core.Path.{refl, ◌∙◌}
 use Rattle.lent.proofs.LentLaws.{same-none}
-use Rattle.records.specs.Layout.{used_place}
-use Rattle.records.specs.Encoding.{word}
 use Rattle.tick_base.proofs.MidwayLaws.{midway-header}
 use Rattle.tick_raise.proofs.RaisingLaws.{turns-none, turn-raisable, turns_more, turns-few, turns-counted, turns-written}
 use Rattle.tick_raise.proofs.raise_tolls.Goals as goal
@@ -30,7 +28,7 @@ loop-i-preserved c =
     let p = c.requires in
     let l = c.loop-i in
     let s = l.invariant.1 in (
-      turns_more _ _ p.0 p.1 _ c.day-today.ensures _ _ _ _ l.invariant.0 (rw c.used-used.ensures at c.loop-i-test.true) _ _ _ c.raise_row.ensures,
+      rw c.from-n.ensures (turns_more _ _ p.0 p.1 _ c.day-today.ensures _ _ _ _ l.invariant.0 (rw c.used-used.ensures at c.loop-i-test.true) _ _ _ c.raise_row.ensures),
       (s.0, s.1, s.2, c.raise_row.auto.header ∙ s.3, s.4, c.raise_row.auto.journal ∙ s.5),
       l.invariant.2,
     )

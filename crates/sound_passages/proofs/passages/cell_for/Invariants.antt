@@ -3,7 +3,7 @@ use Prim.Native.Nat.{◌*◌, ◌-◌}
 use Rattle.sound_passages.proofs.passages.cell_for.Given as goal
 
 abbrev pub invariant-loop-s : goal.invariant-loop-s
-invariant-loop-s l = Way l.space l.journal l.cells l.n l.x l.y l.c l.s
+invariant-loop-s l = Way l.space l.passed.journal.now l.cells l.passed.used l.x l.y l.c l.s
 
 abbrev pub decreases-loop-s : goal.decreases-loop-s
 decreases-loop-s l = 4 * l.space - l.c

@@ -1,30 +1,17 @@
--- `all_agree` meets its contract: the invariant is that every account passed stands.
-use Rattle.sound_sums.specs.Accounts.{all_agree}
-use Rattle.lists.proofs.ListLaws.{every-tabulate, every-fails}
-use Rattle.records.specs.Encoding.{account_at}
-use borrow.Author.Count.{below_more}
-use mathlib.Core.Path.{◌≡◌, sym, ◌∙◌}
+-- `all_agree` meets its contract: every account passes, or one does not.
+use Rattle.std.proofs.Common.{rules}
+use Rattle.std.proofs.lemmas.Iterator.{cases_from_all, YieldsList-from_range}
+use Rattle.sound_sums.proofs.AccountLaws.{TestIs, agree-by}
+use Rattle.sound_sums.specs.Accounts.{sums_at}
+use mathlib.Core.Bool.{true, false}
+use mathlib.Core.Path.{refl}
 use native.Mathlib.Omega.{arith}
 use Rattle.sound_sums.proofs.accounts.all_agree.Goals as goal
 
-pub loop-i-init : goal.loop-i-init
-loop-i-init c k h = absurd (omega arith)
-
-pub account_passes-requires : goal.account_passes-requires
-account_passes-requires c =
-    (c.loop-i-test.true, c.requires)
-
-pub returns-then-not-account_passes : goal.returns-then-not-account_passes
-unfolding all_agree
-returns-then-not-account_passes c =
-    sym (every-fails _ (account_at _) _ _ c.loop-i-test.true (sym c.account_passes.ensures ∙ c.if-not-account_passes.true))
-
-pub loop-i-preserved : goal.loop-i-preserved
-loop-i-preserved c =
-    below_more _ _ c.loop-i.invariant (sym c.account_passes.ensures ∙ c.if-not-account_passes.false)
-
 pub returns : goal.returns
-unfolding all_agree
 returns c =
-    let e : c.loop-i.i ≡ c.args.f.now.count = omega arith in
-    sym (every-tabulate _ (account_at _) _ (rw e at c.loop-i.invariant))
+    let f = c.args.f.now in
+    let sums = sums_at c.args.sums.now in
+    agree-by f.term.today sums f.accounts.now f.count _
+    (cases_from_all _ _ _ (TestIs f.term.today sums f.accounts.now true) (TestIs f.term.today sums f.accounts.now false) c.all.ensures.ran
+    (YieldsList-from_range 0 f.count f.count refl (omega arith)) (λ i q k. search rules) (λ i q k. search rules))

@@ -32,9 +32,9 @@ returns-then-r-eq-KIND_CREDIT-clause-walks c =
     let t = stands (goal.at.returns-then-r-eq-KIND_CREDIT-clause-walks c).Else-not-other_passes in
     let k = c.if-r-eq-KIND_CREDIT.true in
     let w = c.requires.3 in
-    let d = source-added f.journal.now f.used a.sums.now c.args.i w.tallies c.args.r t.same (row-addable f c.args.i c.args.r t w.tallies) false (rw k) (rw k) in
-    row-walks f c.args.i c.args.r t w w.held (trees-skip a.space f.journal.now a.cells.now c.args.i w.trees (rw t.same at c.requires.1))
-    (counted_skip a.space f.journal.now a.counts.now c.args.i w.fees (rw t.same at c.if-r-eq-KIND_FEE.false))
+    let d = source-added f.rows.journal.now f.rows.used a.sums.now c.args.i w.tallies c.args.r t.same (row-addable f c.args.i c.args.r t w.tallies) false (rw k) (rw k) in
+    row-walks f c.args.i c.args.r t w w.held (trees-skip a.space f.rows.journal.now a.cells.now c.args.i w.trees (rw t.same at c.requires.1))
+    (counted_skip a.space f.rows.journal.now a.counts.now c.args.i w.fees (rw t.same at c.if-r-eq-KIND_FEE.false))
     (rw c.add_source.ensures d)
 
 pub add_debit-requires : goal.add_debit-requires
@@ -49,7 +49,7 @@ returns-clause-walks c =
     let q = c.if-r-eq-KIND_FEE.false in
     let w = c.requires.3 in
     let n = no_source c.args.r c.requires.2 c.if-r-eq-KIND_CREDIT.false in
-    let d = debit-added f.journal.now f.used a.sums.now c.args.i w.tallies c.args.r t.same (row-addable f c.args.i c.args.r t w.tallies) false (none-held (frame_rows f) c.args.r c.requires.1 q) n (row-debit f c.args.i c.args.r t n) in
-    row-walks f c.args.i c.args.r t w w.held (trees-skip a.space f.journal.now a.cells.now c.args.i w.trees (rw t.same at c.requires.1))
-    (counted_skip a.space f.journal.now a.counts.now c.args.i w.fees (rw t.same at q))
+    let d = debit-added f.rows.journal.now f.rows.used a.sums.now c.args.i w.tallies c.args.r t.same (row-addable f c.args.i c.args.r t w.tallies) false (none-held (frame_rows f) c.args.r c.requires.1 q) n (row-debit f c.args.i c.args.r t n) in
+    row-walks f c.args.i c.args.r t w w.held (trees-skip a.space f.rows.journal.now a.cells.now c.args.i w.trees (rw t.same at c.requires.1))
+    (counted_skip a.space f.rows.journal.now a.counts.now c.args.i w.fees (rw t.same at q))
     (rw c.add_debit.ensures d)

@@ -20,11 +20,11 @@ pub insert_toll-requires : goal.insert_toll-requires
 insert_toll-requires c =
     let t = stands (goal.at.insert_toll-requires c).Else-not-toll_passes in
     let w = c.requires.2 in
-    (omega (arith, c.args.f.now.bounds.room, t.inside), omega (arith, w.held, t.inside), w.trees, rw t.same at c.requires.1, rw t.same)
+    (omega (arith, c.args.f.now.rows.within, t.inside), omega (arith, w.held, t.inside), w.trees, rw t.same at c.requires.1, rw t.same)
 
 pub returns-then-not-insert_toll-clause-walks : goal.returns-then-not-insert_toll-clause-walks
 returns-then-not-insert_toll-clause-walks c =
-    walks-bad c.args.f.now (unfit-passage c.args.f.now (c.insert_toll.ensures.bad c.if-not-insert_toll.true c.args.f.now.used c.requires.0.inside))
+    walks-bad c.args.f.now (unfit-passage c.args.f.now (c.insert_toll.ensures.bad c.if-not-insert_toll.true c.args.f.now.rows.used c.requires.0.inside))
 
 pub add_debit-requires : goal.add_debit-requires
 add_debit-requires c =
@@ -37,7 +37,7 @@ returns-clause-walks c =
     let k = c.requires.1 in
     let w = c.requires.2 in
     let a = row-addable f c.args.i c.args.r t w.tallies in
-    let d = debit-added f.journal.now f.used c.args.self.now.sums.now c.args.i w.tallies c.args.r t.same a _ (toll-held (frame_rows f) c.args.r k) (rw k) (rw k) in
+    let d = debit-added f.rows.journal.now f.rows.used c.args.self.now.sums.now c.args.i w.tallies c.args.r t.same a _ (toll-held (frame_rows f) c.args.r k) (rw k) (rw k) in
     row-walks f c.args.i c.args.r t w w.held (c.insert_toll.ensures.good c.if-not-insert_toll.false)
-    (counted_skip c.args.self.now.space f.journal.now c.args.self.now.counts.now c.args.i w.fees (λ z. omega (arith, rw t.same at k)))
+    (counted_skip c.args.self.now.space f.rows.journal.now c.args.self.now.counts.now c.args.i w.fees (λ z. omega (arith, rw t.same at k)))
     (rw c.add_debit.ensures d)

@@ -36,7 +36,7 @@ returns-clause-walks c =
     let k = c.if-r-ne-KIND_PAYMENT.false in
     let z = rw t.same at k in
     let w = c.requires.1 in
-    let d = source-added f.journal.now f.used a.sums.now c.args.i w.tallies r t.same (row-addable f c.args.i r t w.tallies) (eqb r.mark 4) (rw k) (rw k) in
-    row-walks f c.args.i r t w w.held (trees-skip a.space f.journal.now a.cells.now c.args.i w.trees (λ y. omega arith))
-    (counted_skip a.space f.journal.now a.counts.now c.args.i w.fees (λ y. omega arith))
+    let d = source-added f.rows.journal.now f.rows.used a.sums.now c.args.i w.tallies r t.same (row-addable f c.args.i r t w.tallies) (eqb r.mark 4) (rw k) (rw k) in
+    row-walks f c.args.i r t w w.held (trees-skip a.space f.rows.journal.now a.cells.now c.args.i w.trees (λ y. omega arith))
+    (counted_skip a.space f.rows.journal.now a.counts.now c.args.i w.fees (λ y. omega arith))
     (rw c.add_source.ensures d)

@@ -12,13 +12,13 @@ returns-then-dispute_at-ne-DISPUTE_HELD g c = λ u m s.
 
 pub add-requires : goal.add-requires
 add-requires g c =
-    let u = c.requires.3 in
-    let w : c.part.result ≡ cond (u c.read_row-r.result) 1 0 = c.part.ensures ∙ rw (c.requires.4.gives _ _ c.test.ensures) in
-    share-asked (counted u) u (λ r. 1) (share-counted u) c.args.journal.now c.args.counts.now c.args.i c.requires.5 c.requires.0 c.requires.1 c.requires.2
-    c.read_row-r.result c.read_row-r.ensures c.part.result w (one-small c.args.journal.now c.requires.0 c.requires.1)
+    let u = c.requires.1 in
+    let w : c.part.result ≡ cond (u c.read_row-r.result) 1 0 = rw (← c.requires.2.gives _ _ c.test.ensures) c.part.ensures in
+    share-asked (counted u) u (λ r. 1) (share-counted u) c.args.countable.now.rows.journal.now c.args.counts.now c.args.i c.requires.3 c.args.countable.now.rows.used c.args.countable.now.countable c.requires.0
+    c.read_row-r.result c.read_row-r.ensures c.part.result w (one-small c.args.countable.now.rows.journal.now c.args.countable.now.rows.used c.args.countable.now.countable)
 
 pub returns : goal.returns
 returns g c = λ u m s.
     let w : c.part.result ≡ cond (u c.read_row-r.result) 1 0 = c.part.ensures ∙ rw (m.gives _ _ c.test.ensures) in
-    share-added (counted u) u (λ r. 1) (share-counted u) c.args.journal.now c.args.counts.now c.args.i s c.requires.0 c.requires.1 c.requires.2
+    share-added (counted u) u (λ r. 1) (share-counted u) c.args.countable.now.rows.journal.now c.args.counts.now c.args.i s c.args.countable.now.rows.used c.args.countable.now.countable c.requires.0
     c.read_row-r.result c.read_row-r.ensures c.part.result w _ c.add.ensures

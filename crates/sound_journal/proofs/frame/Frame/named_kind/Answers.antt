@@ -7,7 +7,7 @@ pub returns-then-r-n : goal.returns-then-r-n
 returns-then-r-n c m = names-later (frame_rows c.args.self.now) c.args.n c.args.r m c.if-r-n.true
 
 pub returns-then-named-r : goal.returns-then-named-r
-returns-then-named-r c m = names-other (frame_rows c.args.self.now) c.args.n c.args.r m c.row_numbered-named.result c.row_numbered-named.ensures c.if-named-r.true
+returns-then-named-r c m = names-other (frame_rows c.args.self.now) c.args.n c.args.r m c.numbered-named.result c.numbered-named.ensures c.if-named-r.true
 
 pub returns : goal.returns
-returns c m = names_same (frame_rows c.args.self.now) c.args.n c.args.r m c.row_numbered-named.result c.row_numbered-named.ensures c.if-r-n.false c.if-named-r.false
+returns c m = names_same (frame_rows c.args.self.now) c.args.n c.args.r m c.numbered-named.result c.numbered-named.ensures c.if-r-n.false c.if-named-r.false

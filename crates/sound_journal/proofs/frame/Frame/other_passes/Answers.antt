@@ -8,7 +8,7 @@ use Rattle.sound_journal.proofs.frame.Frame.other_passes.Goals as goal
 pub returns-then-not-other_alone : goal.returns-then-not-other_alone
 unfolding row_passes all_of
 returns-then-not-other_alone c =
-    let e = sym (c.other_alone.ensures c.args.self.now.stage) ∙ c.if-not-other_alone.true in
+    let e = sym (c.other_alone.ensures c.args.self.now.term.stage) ∙ c.if-not-other_alone.true in
     rw e
 
 pub returns-then-not-account_used : goal.returns-then-not-account_used
@@ -20,6 +20,6 @@ returns-then-not-account_used c =
 pub returns : goal.returns
 unfolding row_passes all_of
 returns c =
-    let t1 = sym (c.other_alone.ensures c.args.self.now.stage) ∙ c.if-not-other_alone.false in
+    let t1 = sym (c.other_alone.ensures c.args.self.now.term.stage) ∙ c.if-not-other_alone.false in
     let t2 = sym c.account_used.ensures ∙ c.if-not-account_used.false in
     rw (t1, t2, and-true) c.reference_fits.ensures

@@ -8,9 +8,9 @@ use Rattle.tick_plan.proofs.rows.RowCounts.add_row.Goals as goal
 
 pub count_held-requires : goal.count_held-requires
 count_held-requires c =
-    (c.requires.1, c.requires.2, c.requires.3, (λ r. held_toll r && not (hold_ends c.args.today r)), record { takes = λ r. tt; gives = λ r b p. search rules; held = stays-held c.args.today }, c.requires.4.held)
+    (c.requires.0, (λ r. held_toll r && not (hold_ends c.args.self.now.today r)), record { takes = λ r. tt; gives = λ r b p. search rules; held = stays-held c.args.self.now.today }, c.requires.1.held)
 
 pub returns : goal.returns
 returns c =
-    let held = c.count_held.ensures (λ r. held_toll r && not (hold_ends c.args.today r)) (record { takes = λ r. tt; gives = λ r b p. search rules; held = stays-held c.args.today }) c.requires.4.held in
-    rows_more _ _ _ _ _ c.requires.4 _ _ c.add_row.ensures held _ c.brings_fee.ensures _ c.ends_at.ensures
+    let held = c.count_held.ensures (λ r. held_toll r && not (hold_ends c.args.self.now.today r)) (record { takes = λ r. tt; gives = λ r b p. search rules; held = stays-held c.args.self.now.today }) c.requires.1.held in
+    rw c.from.ensures (rows_more _ _ _ _ _ c.requires.1 _ _ c.add_row.ensures held _ c.brings_fee.ensures _ c.ends_at.ensures)

@@ -2,4 +2,4 @@
 use Rattle.tick_plan.proofs.rows.RowCounts.of_rows.Goals as goal
 
 pub loop-i-init : goal.loop-i-init
-loop-i-init c = c.none-counts.ensures _ _ _
+loop-i-init c = c.none-counts.ensures _ _

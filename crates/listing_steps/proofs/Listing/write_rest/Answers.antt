@@ -1,0 +1,26 @@
+-- `write_rest` meets its contract: the bytes that are left are the last line, and the end comes after it.
+use Rattle.std.proofs.Common.{arith, rules, sym, ◌∙◌}
+use Rattle.listing_steps.proofs.StepLaws.{rest-none, rest-bad, rest-ready, rest-good}
+use Rattle.listing_steps.proofs.Listing.write_rest.Goals as goal
+
+pub returns-then-is_empty-clause-text : goal.returns-then-is_empty-clause-text
+returns-then-is_empty-clause-text c =
+    rw (← rest-none c.args.self.now.place.lines _ c.args.self.now.input (search rules)) c.write_end.ensures
+
+pub write_end-requires-then-is_ok : goal.write_end-requires-then-is_ok
+write_end-requires-then-is_ok c =
+    let w = rw c.as_bytes-rest.ensures at c.take_line.ensures.taken in
+    let good = sym c.is_ok.ensures.value ∙ c.if-is_ok.true in
+    (rest-ready c.args.self.now.place.lines _ _ c.args.self.now.input _ _ _ w c.requires.1 (search rules) good, omega (arith, w.short))
+
+pub returns-then-is_ok-clause-text : goal.returns-then-is_ok-clause-text
+returns-then-is_ok-clause-text c =
+    let w = rw c.as_bytes-rest.ensures at c.take_line.ensures.taken in
+    let good = sym c.is_ok.ensures.value ∙ c.if-is_ok.true in
+    rest-good c.args.self.now.place.lines _ _ c.args.self.now.input _ _ _ w c.requires.1 (search rules) good _ c.write_end-then-is_ok.ensures
+
+pub returns-else-is_ok-clause-text : goal.returns-else-is_ok-clause-text
+returns-else-is_ok-clause-text c =
+    let w = rw c.as_bytes-rest.ensures at c.take_line.ensures.taken in
+    let bad = sym c.is_ok.ensures.value ∙ c.if-is_ok.false in
+    rest-bad c.args.self.now.place.lines _ _ c.args.self.now.input _ _ _ w c.requires.1 (search rules) bad
