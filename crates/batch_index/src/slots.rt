@@ -104,6 +104,7 @@ fn open_at(journal: &[i64], i: usize, account: u64, side: Side) -> bool
 }
 
 // The next row from i on of which something is left on this side of the account, or the end of the used rows.
+// Kept beside `settlement::next_debit`, a search of a line over another test; its end is a place, which a slot keeps.
 fn next_open(countable: &CountableRows, account: u64, side: Side, i: usize) -> usize
     requires { i ≤ countable.now.rows.used }
     ensures { NextOpen (of_side side account) countable.now.rows.journal.now countable.now.rows.used i result }
