@@ -2,7 +2,7 @@
 use mathlib.Core.Path.{◌≡◌, refl, sym, ap, ◌∙◌}
 use mathlib.Core.Logic.{◌≢◌}
 use mathlib.Core.Bool.{Bool, true, false, cond, and-false}
-use Prim.Native.Nat.{ℕ, suc, ◌+◌, ◌*◌, ◌-◌, ◌^◌, ◌≤◌, ◌<◌}
+use Prim.Native.Nat.{ℕ, suc, ◌+◌, ◌*◌, ◌-◌, ◌≤◌, ◌<◌}
 use native.Mathlib.Omega.{arith}
 use native.Mathlib.Decide.{ℕ_discrete, dec_lt}
 use mathlib.Core.List.{List, ◌∷◌}
@@ -190,9 +190,6 @@ module _ (j : List ℤ) (n i : ℕ) (slots : List Slot) (t : SlotsHold j n (i + 
     money-noted : old.money + v ≡ money r.account (drop i (rows_of j n))
     money-noted = omega (arith, w, ms r.account note-account, money-from j n r.account i l, source-adds r.account f refl)
 
-    pub note-fits : old.money + v < 2 ^ 64
-    note-fits = omega (arith, money-noted, money-small j n c r.account i, c.few)
-
     pub note-source : SlotsHold j n i (set slots r.account noted-source) × MoneysOf (drop i (rows_of j n)) (set slots r.account noted-source)
     note-source = (
       note-first noted-source (rw (source-side r f) refl)
@@ -243,9 +240,6 @@ module _ (j : List ℤ) (n i : ℕ) (slots : List Slot) (t : SlotsHold j i 0 slo
 
   left-small : remaining r ≤ highest_refund
   left-small = let h : r.amount ≤ highest_refund = rw e (c.amount i l) in omega arith
-
-  pub add-fits : slot.money + remaining r < 2 ^ 64
-  add-fits = omega (arith, t.bounded r.account added-account, left-small, c.few)
 
   module _ (v : ℕ) (w : v ≡ money_with r.account slot.money r) where
     abbrev with-row : Slot
