@@ -18,10 +18,10 @@ use Rattle.lists.proofs.TestLaws.{and_left, and_right}
 use Rattle.records.specs.Limits.{highest_topup}
 use Rattle.rules.specs.Book.{Account, Instruction, state_open, Book, put_account}
 use Rattle.rules.specs.Events.{open_account}
-use Rattle.rules.specs.Refusals.{change_of, zero_from-c, open_form, form_of, well_formed, unclassed, misdated, duplicate, barred, no_row, untimely, last_day, refusals, answer_number, shared_count, own_refusals}
+use Rattle.rules.specs.Refusals.{change_of, zero_from-c, open_form, form_of, well_formed, answer_number, own_refusals}
 use Rattle.rules.specs.Posting.{removes_topup}
 use Rattle.rules.specs.Tables.{Tables, rows_used, book_of, sound_tables}
-use Rattle.rules.proofs.RefusalLaws.{answer_number-own}
+use Rattle.rules.proofs.RefusalLaws.{own_tests, answer_number-own}
 use Rattle.preservation.proofs.Accepted.{accepted}
 use Rattle.tables.specs.Changes.{AccountChanged}
 use Rattle.posting.specs.Posts.{tables_at, acceptance_of, Posts}
@@ -39,7 +39,7 @@ module _ (b : Book) (e : Instruction) (fit : length b.rows ≤ b.room) where
   change-open = refl
 
   own-1 : first (own_refusals b event1) ≡ 0
-  unfolding own_refusals shared_count refusals unclassed misdated duplicate barred no_row untimely last_day first
+  unfolding own_tests
   own-1 = rw (never-full b event1 change-open fit, never-above b event1 change-open)
 
 -- on sound tables, event 1 is accepted where no shared refusal applies

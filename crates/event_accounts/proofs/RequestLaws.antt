@@ -15,10 +15,10 @@ use Rattle.records.specs.AccountOperations.{close_requested_on}
 use Rattle.lists.specs.Tests.{◌is◌, first}
 use Rattle.rules.specs.Book.{Account, Instruction, state_pending, Book, account, put_account}
 use Rattle.rules.specs.Events.{request_close}
-use Rattle.rules.specs.Refusals.{change_of, unclassed, misdated, duplicate, barred, no_row, untimely, last_day, refusals, answer_number, shared_count, own_refusals}
+use Rattle.rules.specs.Refusals.{change_of, answer_number, own_refusals}
 use Rattle.rules.specs.Posting.{removes_topup}
 use Rattle.rules.specs.Tables.{Tables, rows_used, book_of, sound_tables}
-use Rattle.rules.proofs.RefusalLaws.{answer_number-own}
+use Rattle.rules.proofs.RefusalLaws.{own_tests, answer_number-own}
 use Rattle.rules.proofs.StorableLaws.{day-le}
 use Rattle.rules.proofs.TableLaws.{sound-book}
 use Rattle.tables.specs.Changes.{AccountChanged}
@@ -39,7 +39,7 @@ module _ (b : Book) (e : Instruction) (fit : length b.rows ≤ b.room) where
   change-request = refl
 
   own-8 : first (own_refusals b event8) ≡ first (request_refusals b event8)
-  unfolding own_refusals shared_count refusals unclassed misdated duplicate barred no_row untimely last_day first request_refusals
+  unfolding own_tests request_refusals
   own-8 = rw (never-full b event8 change-request fit, never-above b event8 change-request)
 
 -- the number that event 8 gets on sound tables where no shared refusal applies, with what its test came to

@@ -1,6 +1,6 @@
 -- Event 6: what each verdict changes, and which refusals concern it.
 use mathlib.Core.Path.{◌≡◌, refl, ap, ◌∙◌}
-use mathlib.Core.Bool.{Bool, true, false, not, ◌&&◌, ◌||◌, or-false}
+use mathlib.Core.Bool.{Bool, true, false, not, ◌&&◌}
 use Prim.Native.Nat.{◌+◌, ◌-◌}
 use native.Mathlib.Omega.{arith}
 use mathlib.Core.List.{List, [], ◌∷◌, map}
@@ -13,9 +13,9 @@ use Rattle.lists.specs.Lists.{sum_by, count}
 use Rattle.rules.specs.Rows.{Row, toll, held_toll}
 use Rattle.rules.specs.Book.{Instruction, Book, with_rows, row, put_row, add_row}
 use Rattle.rules.specs.Events.{release, reject, with_fees, uphold, decide}
-use Rattle.rules.specs.Refusals.{change_of, after, unclassed, misdated, duplicate, barred, no_row, untimely, last_day, full, ceiling, refusals, answer_number, shared_count, own_refusals}
+use Rattle.rules.specs.Refusals.{change_of, after, full, ceiling, answer_number, own_refusals}
 use Rattle.rules.specs.Tables.{Tables, book_of, sound_tables}
-use Rattle.rules.proofs.RefusalLaws.{answer_number-own}
+use Rattle.rules.proofs.RefusalLaws.{own_tests, answer_number-own}
 use Rattle.rules.proofs.TableLaws.{used_le}
 use Rattle.records.specs.Updates.{of_kind}
 use Rattle.posting_laws.proofs.RefusalLaws.{at-kind, length-after, no-ceiling, rows-suffice}
@@ -75,15 +75,9 @@ module _ (b : Book) (e : Instruction) where
   abbrev event6 : Instruction
   event6 = of_kind event_decision e
 
-  untimely-6 : untimely b event6 ≡ not (held_toll (row b e.a))
-  unfolding untimely
-  untimely-6 =
-      let x : Bool = not (held_toll (row b e.a)) in
-      or-false (x || false) ∙ or-false x
-
   own-6 : ltb b.room (length b.rows + 0) ≡ false → first (own_refusals b event6) ≡ first (decision_refusals b event6)
-  unfolding own_refusals shared_count refusals unclassed misdated duplicate barred no_row last_day first decision_refusals
-  own-6 f = rw (decision-full b event6 refl f, decision-ceiling b event6 refl, untimely-6)
+  unfolding own_tests decision_refusals
+  own-6 f = rw (decision-full b event6 refl f, decision-ceiling b event6 refl)
 
 -- the number that event 6 gets, with what each test came to
 pub answer-by : (t : Tables) → sound_tables t ≡ true → (e : Instruction) → e.kind ≡ event_decision → Admitted t e → (n h r : Bool)

@@ -1,6 +1,6 @@
 -- Event 5: which refusals concern it, and the row that it changes.
-use mathlib.Core.Path.{◌≡◌, refl, sym, ◌∙◌}
-use mathlib.Core.Bool.{Bool, true, false, not, ◌&&◌, ◌||◌, or-false}
+use mathlib.Core.Path.{◌≡◌, refl, sym}
+use mathlib.Core.Bool.{Bool, true, false, not, ◌&&◌, ◌||◌}
 use Prim.Native.Nat.{◌+◌, ◌<◌}
 use native.Mathlib.Omega.{arith}
 use mathlib.Core.List.{[], ◌∷◌}
@@ -13,9 +13,9 @@ use Rattle.lists.specs.Tests.{◌is◌, first}
 use Rattle.rules.specs.Rows.{Row, kind_toll, toll, unsettled}
 use Rattle.rules.specs.Book.{Instruction, Book, row, put_row}
 use Rattle.rules.specs.Events.{hold_from, hold_toll}
-use Rattle.rules.specs.Refusals.{change_of, unclassed, misdated, duplicate, barred, no_row, untimely, last_day, full, refusals, answer_number, shared_count, own_refusals}
+use Rattle.rules.specs.Refusals.{change_of, no_row, full, answer_number, own_refusals}
 use Rattle.rules.specs.Tables.{Tables, book_of, sound_tables}
-use Rattle.rules.proofs.RefusalLaws.{answer_number-own}
+use Rattle.rules.proofs.RefusalLaws.{own_tests, answer_number-own}
 use Rattle.rules.proofs.StorableLaws.{day-le}
 use Rattle.rules.proofs.TableLaws.{sound-book, used_le}
 use Rattle.preservation.proofs.Accepted.{accepted}
@@ -40,17 +40,11 @@ module _ (b : Book) (e : Instruction) where
   abbrev event5 : Instruction
   event5 = of_kind event_dispute e
 
-  untimely-5 : untimely b event5 ≡ not (unsettled (row b e.a)) || not ((row b e.a).dispute is dispute_never)
-  unfolding untimely
-  untimely-5 =
-      let x : Bool = not (unsettled (row b e.a)) || not ((row b e.a).dispute is dispute_never) in
-      or-false (x || false || false) ∙ or-false (x || false) ∙ or-false x
-
   own-5 : ltb b.room (length b.rows + 0) ≡ false → first (own_refusals b event5) ≡ first (dispute_refusals b event5)
-  unfolding own_refusals shared_count refusals unclassed misdated duplicate barred no_row last_day full first dispute_refusals
+  unfolding own_tests full dispute_refusals
   own-5 f =
       let c = changed b event5 refl in
-      rw (length-put b event5 e.a _ c, no-ceiling-put b event5 e.a _ c, f, untimely-5)
+      rw (length-put b event5 e.a _ c, no-ceiling-put b event5 e.a _ c, f)
 
 -- the number that event 5 gets, with what each test came to
 pub answer-by : (t : Tables) → sound_tables t ≡ true → (e : Instruction) → e.kind ≡ event_dispute → Admitted t e → (n c : Bool)

@@ -21,10 +21,10 @@ use Rattle.lists.proofs.ListLaws.{length-tabulate}
 use Rattle.rules.specs.RateLists.{list_of, last_first_day, list_in_range}
 use Rattle.rules.specs.Book.{Instruction, Book, with_lists}
 use Rattle.rules.specs.Events.{add_list}
-use Rattle.rules.specs.Refusals.{change_of, after, list_form, form_of, well_formed, list_refused, unclassed, misdated, duplicate, barred, no_row, untimely, last_day, refusals, answer_number, shared_count, own_refusals}
+use Rattle.rules.specs.Refusals.{change_of, after, list_form, form_of, well_formed, list_refused, answer_number, own_refusals}
 use Rattle.rules.specs.Posting.{removes_topup}
 use Rattle.rules.specs.Tables.{Tables, rows_used, later_list_at, lists_used, lists_in, book_of, list_words, header_words, tables_of, sound_tables}
-use Rattle.rules.proofs.RefusalLaws.{answer_number-own}
+use Rattle.rules.proofs.RefusalLaws.{own_tests, answer_number-own}
 use Rattle.rules.proofs.StorableLaws.{list-storable}
 use Rattle.rules.proofs.TableLaws.{sound-book, header-length, tables_of-book_of, header-more}
 use Rattle.preservation.proofs.Accepted.{Accepted, accepted}
@@ -58,7 +58,7 @@ module _ (b : Book) (e : Instruction) (fit : length b.rows ≤ b.room) where
   change-list = refl
 
   own-10 : first (own_refusals b event10) ≡ 0
-  unfolding own_refusals shared_count refusals unclassed misdated duplicate barred no_row untimely last_day first
+  unfolding own_tests
   own-10 = rw (never-full b event10 change-list fit, never-above b event10 change-list)
 
 -- on sound tables, event 10 is accepted where no shared refusal applies

@@ -20,10 +20,10 @@ use Rattle.rules.specs.Rows.{Row, kind_payment, new_row, with_mark}
 use Rattle.rules.specs.Settlement.{settle}
 use Rattle.rules.specs.Book.{Instruction, Book, account, add_row, with_rows}
 use Rattle.rules.specs.Events.{post_payment}
-use Rattle.rules.specs.Refusals.{whole_book, change_of, after, zero_from-c, payment_form, form_of, well_formed, unclassed, misdated, duplicate, barred, no_row, untimely, last_day, full, refusals, answer_number, shared_count, shared_refusals, own_refusals}
+use Rattle.rules.specs.Refusals.{whole_book, change_of, after, zero_from-c, payment_form, form_of, well_formed, full, answer_number, shared_refusals, own_refusals}
 use Rattle.rules.specs.Posting.{removes_topup}
 use Rattle.rules.specs.Tables.{Tables, accounts_in, room_in, rows_used, book_of, sound_tables}
-use Rattle.rules.proofs.RefusalLaws.{answer_number-own}
+use Rattle.rules.proofs.RefusalLaws.{own_tests, answer_number-own}
 use Rattle.rules.proofs.StorableLaws.{between_le, day-le, accounts-le}
 use Rattle.rules.proofs.TableLaws.{sound-book}
 use Rattle.preservation.proofs.Accepted.{Accepted, accepted}
@@ -50,7 +50,7 @@ module _ (b : Book) (e : Instruction) where
   change-payment = refl
 
   own-3 : first (own_refusals b event3) ≡ first (payment_refusals b event3)
-  unfolding own_refusals shared_count refusals unclassed misdated duplicate barred no_row untimely last_day full first payment_refusals count sum_by
+  unfolding own_tests full payment_refusals count sum_by
   own-3 =
       let l = length-after b event3 b.rows (payment_row b event3 ∷ []) change-payment refl in
       let z = no-ceiling b event3 b.rows (payment_row b event3 ∷ []) change-payment refl refl in

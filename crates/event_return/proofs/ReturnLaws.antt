@@ -1,7 +1,7 @@
 -- Event 4: which refusals concern it, and the book that it makes.
 use mathlib.Core.Path.{◌≡◌, refl, sym, ap, ◌∙◌}
 use mathlib.Core.Logic.{◌≢◌}
-use mathlib.Core.Bool.{Bool, true, false, not, ◌&&◌, or-false}
+use mathlib.Core.Bool.{Bool, true, false, not, ◌&&◌}
 use Prim.Native.Nat.{ℕ, zero, suc, ◌+◌, ◌-◌, ◌^◌, ◌≤◌, ◌<◌}
 use native.Mathlib.Omega.{arith}
 use mathlib.Core.List.{List, [], ◌∷◌, ◌++◌, append_assoc}
@@ -26,10 +26,10 @@ use Rattle.rules.specs.Settlement.{settle}
 use Rattle.rules.specs.Book.{Account, Instruction, state_closed, state_pending, Book, account, row, with_rows, with_accounts}
 use Rattle.rules.specs.Events.{return_check}
 use Rattle.rules.specs.Soundness.{returned_of, returned_fits}
-use Rattle.rules.specs.Refusals.{whole_book, change_of, after, zero_from-c, return_form, form_of, well_formed, unclassed, misdated, duplicate, barred, no_row, untimely, last_day, full, refusals, answer_number, shared_count, shared_refusals, own_refusals}
+use Rattle.rules.specs.Refusals.{whole_book, change_of, after, zero_from-c, return_form, form_of, well_formed, no_row, full, answer_number, shared_refusals, own_refusals}
 use Rattle.rules.specs.Posting.{removes_topup}
 use Rattle.rules.specs.Tables.{Tables, accounts_in, room_in, rows_used, book_of, sound_tables}
-use Rattle.rules.proofs.RefusalLaws.{answer_number-own}
+use Rattle.rules.proofs.RefusalLaws.{own_tests, answer_number-own}
 use Rattle.rules.proofs.StorableLaws.{day-le, accounts-le}
 use Rattle.rules.proofs.TableLaws.{sound-book}
 use Rattle.preservation.proofs.Accepted.{Accepted, accepted}
@@ -85,14 +85,13 @@ module _ (b : Book) (e : Instruction) where
   change-return = added-both b event4
 
   own-4 : first (own_refusals b event4) ≡ first (return_refusals b event4)
-  unfolding own_refusals shared_count refusals unclassed misdated duplicate barred no_row untimely last_day full first return_refusals count sum_by
+  unfolding own_tests full return_refusals count sum_by
   own-4 =
       let more : List Row = reversal_row b event4 ∷ fee_row b event4 ∷ [] in
       let n : length (marked_rows b event4) ≡ length b.rows = length-set b.rows (e.a - 1) (marked_row b event4) in
       let l = length-after b event4 (marked_rows b event4) more change-return n in
       let z = no-ceiling b event4 (marked_rows b event4) more change-return n refl in
-      let o = or-false (not ((row b e.a).mark is method_check)) in
-      rw (l, z, o, o, o, o)
+      rw (l, z)
 
 pub answer-return : (b : Book) (e : Instruction) → e.kind ≡ event_returned_check → first (shared_refusals b e) ≡ 0 → answer_number b e ≡ first (return_refusals b e)
 answer-return b e k a = answer_number-own b e a ∙ at-kind (λ x. first (own_refusals b x) ≡ first (return_refusals b x)) e 4 k (own-4 b e)

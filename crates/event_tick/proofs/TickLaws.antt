@@ -8,14 +8,14 @@ use mathlib.Core.List.{[], ◌∷◌}
 use lib.ListN.{length}
 use lib.Dec.{ltb}
 use borrow.Author.Tests.{eqb-false, ltb-false, lt-ltb, le-leb, le-ltb}
-use Rattle.records.specs.Numbers.{answer_unclassed, answer_misdated, answer_duplicate, answer_barred, answer_no_row, answer_untimely, answer_last_day, answer_full, answer_ceiling}
+use Rattle.records.specs.Numbers.{answer_last_day, answer_full, answer_ceiling}
 use Rattle.records.specs.Codes.{event_tick}
 use Rattle.lists.specs.Tests.{◌is◌, first}
 use Rattle.records.specs.Limits.{final_day}
 use Rattle.rules.specs.Book.{Instruction, Book}
-use Rattle.rules.specs.Refusals.{after, unclassed, misdated, duplicate, barred, no_row, untimely, last_day, full, ceiling, refusals, answer_number, shared_count, shared_refusals, own_refusals}
+use Rattle.rules.specs.Refusals.{after, full, ceiling, answer_number, shared_refusals, own_refusals}
 use Rattle.rules.specs.Tables.{Tables, room_in, rows_used, book_of, whole_records, lengths_fit, used_fits, sound_tables}
-use Rattle.rules.proofs.RefusalLaws.{answer_number-own}
+use Rattle.rules.proofs.RefusalLaws.{own_tests, answer_number-own}
 use Rattle.rules.specs.SoundFacts.{Near, Sound}
 use Rattle.tick_rules.specs.Ticks.{fees_added, refunds_added}
 use Rattle.tick_rules.proofs.CountLaws.{rows-after, tick-low}
@@ -31,7 +31,7 @@ use Rattle.event_tick.specs.TickEvent.{tick_refusals}
 
 -- 14 where nothing before it applies is no number of its own; 13 is told from the book before the tick, which has a day to come
 in_order : (d r r' c : Bool) → (d ≡ false → r ≡ r') → (d ≡ false → r ≡ false → c ≡ false)
-    → first ((answer_unclassed, false) ∷ (answer_misdated, false) ∷ (answer_duplicate, false) ∷ (answer_barred, false) ∷ (answer_no_row, false) ∷ (answer_untimely, false) ∷ (answer_last_day, d) ∷ (answer_full, r) ∷ (answer_ceiling, c) ∷ [])
+    → first ((answer_last_day, d) ∷ (answer_full, r) ∷ (answer_ceiling, c) ∷ [])
     ≡ first ((answer_last_day, d) ∷ (answer_full, r') ∷ [])
 unfolding first
 in_order true r r' c p q = refl
@@ -51,7 +51,7 @@ module _ (b : Book) (e : Instruction) (s : Sound b) where
       tick-low b s ne event9 refl (omega (arith, rows-after b s ne event9 refl, ltb-false b.room (length (after b event9).rows) r))
 
   own-9 : first (own_refusals b event9) ≡ first (tick_refusals b event9)
-  unfolding own_refusals shared_count refusals unclassed misdated duplicate barred no_row untimely last_day full tick_refusals
+  unfolding own_tests full tick_refusals
   own-9 =
       in_order (b.day is final_day) (ltb b.room (length (after b event9).rows)) (ltb b.room (length b.rows + fees_added b + refunds_added b)) (ceiling b event9)
       lacking low

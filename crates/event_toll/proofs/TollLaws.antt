@@ -23,10 +23,10 @@ use Rattle.rules.specs.Rows.{Row, kind_toll, toll, new_row, with_due, with_refer
 use Rattle.rules.specs.Settlement.{settle}
 use Rattle.rules.specs.Book.{Instruction, Book, add_row, with_rows}
 use Rattle.rules.specs.Events.{toll_rate, post_toll}
-use Rattle.rules.specs.Refusals.{whole_book, change_of, after, zero_from-f, toll_form, form_of, well_formed, unclassed, misdated, duplicate, barred, no_row, untimely, last_day, full, refusals, answer_number, shared_count, shared_refusals, own_refusals}
+use Rattle.rules.specs.Refusals.{whole_book, change_of, after, zero_from-f, toll_form, form_of, well_formed, unclassed, full, answer_number, shared_refusals, own_refusals}
 use Rattle.rules.specs.Posting.{removes_topup}
 use Rattle.rules.specs.Tables.{Tables, accounts_in, room_in, rows_used, schedule_from, lists_in, book_of, sound_tables}
-use Rattle.rules.proofs.RefusalLaws.{answer_number-own, shared-formed}
+use Rattle.rules.proofs.RefusalLaws.{own_tests, answer_number-own, shared-formed}
 use Rattle.rules.proofs.RateListLaws.{in_force-rates}
 use Rattle.rules.proofs.StorableLaws.{between_le, day-le, stage-le, accounts-le}
 use Rattle.rules.proofs.TableLaws.{sound-book}
@@ -53,7 +53,7 @@ module _ (b : Book) (e : Instruction) where
   change-toll = refl
 
   own-2 : first (own_refusals b event2) ≡ first (toll_refusals b event2)
-  unfolding own_refusals shared_count refusals unclassed misdated duplicate barred no_row untimely last_day full first toll_refusals count sum_by
+  unfolding own_tests full toll_refusals count sum_by
   own-2 =
       let l = length-after b event2 b.rows (toll_row b event2 ∷ []) change-toll refl in
       let z = no-ceiling b event2 b.rows (toll_row b event2 ∷ []) change-toll refl refl in

@@ -1,6 +1,6 @@
 -- Event 7: which refusals concern it.
 use mathlib.Core.Path.{◌≡◌, refl, ◌∙◌}
-use mathlib.Core.Bool.{Bool, true, false, not, ◌&&◌, and-false, or-false}
+use mathlib.Core.Bool.{Bool, true, false, not, ◌&&◌, and-false}
 use Prim.Native.Nat.{◌+◌, ◌≤◌}
 use mathlib.Core.List.{[], ◌∷◌, ◌++◌}
 use lib.ListN.{length}
@@ -12,10 +12,10 @@ use Rattle.lists.specs.Lists.{sum_by, count}
 use Rattle.rules.specs.Rows.{Row, kind_payment, new_row, with_mark}
 use Rattle.rules.specs.Book.{Instruction, Book, account, low_balance, topup_due}
 use Rattle.rules.specs.Events.{pay_topup, decline_topup, topup_result}
-use Rattle.rules.specs.Refusals.{change_of, unclassed, misdated, duplicate, barred, no_row, untimely, last_day, full, ceiling, refusals, answer_number, shared_count, shared_refusals, own_refusals}
+use Rattle.rules.specs.Refusals.{change_of, full, ceiling, answer_number, shared_refusals, own_refusals}
 use Rattle.rules.specs.Tables.{Tables, book_of, sound_tables}
 use Rattle.records.specs.Updates.{of_kind}
-use Rattle.rules.proofs.RefusalLaws.{answer_number-own}
+use Rattle.rules.proofs.RefusalLaws.{own_tests, answer_number-own}
 use Rattle.posting_laws.proofs.RefusalLaws.{at-kind, length-after, no-ceiling}
 use Rattle.posting_laws.proofs.AccountEventLaws.{rows_fit, never-full, never-above}
 use Rattle.event_refusals.specs.Admissions.{Admitted}
@@ -48,8 +48,8 @@ module _ (b : Book) (e : Instruction) (fit : length b.rows ≤ b.room) where
   above-7 false q = never-above b event7 (rows-declined q)
 
   own-7 : first (own_refusals b event7) ≡ first (result_refusals b event7)
-  unfolding own_refusals shared_count refusals unclassed misdated duplicate barred no_row untimely last_day first result_refusals
-  own-7 = rw (full-7 (e.b is code_yes) refl, above-7 (e.b is code_yes) refl, or-false (not (topup_due b e.account)))
+  unfolding own_tests result_refusals
+  own-7 = rw (full-7 (e.b is code_yes) refl, above-7 (e.b is code_yes) refl)
 
 -- the number that event 7 gets where no shared refusal applies
 pub answer-result : (b : Book) (e : Instruction) → length b.rows ≤ b.room → e.kind ≡ event_topup_result → first (shared_refusals b e) ≡ 0

@@ -38,7 +38,7 @@ module _ (b : Book) (i : Instruction) where
 
     open-toll : not (unsettled it) || not (eqb it.dispute 0) ≡ false
     unfolding untimely
-    open-toll = or_left _ false (or_left _ false (or_left _ false q.timely))
+    open-toll = q.timely
 
     still_open : unsettled it ≡ true
     still_open = not-false _ (or_left (not (unsettled it)) _ open-toll)
@@ -182,7 +182,7 @@ module _ (b : Book) (i : Instruction) where
   unfolding no_row untimely
   decided q =
       let it : Row = row b i.a in
-      let is_held_lem = not-false (held_toll it) (or_left _ false (or_left _ false q.timely)) in
+      let is_held_lem = not-false (held_toll it) q.timely in
       record { toll = named-kind b i.a i.account 1 q.named; account = named-account b i.a i.account 1 q.named; held = eqb-true it.dispute 1 (and_right (eqb it.kind 1) _ is_held_lem) }
 
   pub reject-near : Near b.day b → Accepted b event6 → Near b.day (reject b event6)

@@ -11,7 +11,7 @@ use Rattle.records.specs.Codes.{event_payment, event_topup_result}
 use Rattle.records.specs.AccountOperations.{topup_paid, declined_on}
 use Rattle.records.specs.Updates.{with_topup, with_declines, of_kind}
 use Rattle.lists.specs.Tests.{◌from◌to◌, ◌implies◌}
-use Rattle.lists.proofs.TestLaws.{and_left, and_right, and_both, or_left}
+use Rattle.lists.proofs.TestLaws.{and_left, and_right, and_both}
 use Rattle.records.specs.Limits.{highest_payment, highest_topup, most_declines}
 use Rattle.rules.specs.Rows.{Row, kind_payment, new_row, with_mark, fee_naming}
 use Rattle.rules.specs.Book.{Account, Instruction, Book, account, add_row, put_account, topup_due, low_balance}
@@ -107,7 +107,7 @@ module _ (b : Book) (i : Instruction) where
 
     due : topup_due b i.account ≡ true
     unfolding untimely
-    due = not-false (topup_due b i.account) (or_left (not (topup_due b i.account)) false q.timely)
+    due = not-false (topup_due b i.account) q.timely
 
     first_two : eqb it.state 1 && ltb 0 it.topup ≡ true
     unfolding topup_due

@@ -14,7 +14,7 @@ use Rattle.records.specs.Updates.{with_state, with_returned, of_kind, on_account
 use Rattle.records.specs.AccountOperations.{check_returned}
 use Rattle.lists.specs.Tests.{◌from◌to◌}
 use Rattle.lists.specs.Lists.{only, count}
-use Rattle.lists.proofs.TestLaws.{and_left, and_right, and_both, or_left}
+use Rattle.lists.proofs.TestLaws.{and_left, and_right, and_both}
 use Rattle.lists.proofs.SumLaws.{sum_by-set, sum_by-set-same}
 use Rattle.records.specs.Limits.{highest_payment, highest_fee, highest_charge, return_fee}
 use Rattle.rules.specs.Rows.{Row, kind_fee, kind_reversal, blank, row_no, toll, new_row, with_mark, with_reference, fee_naming, source_of, debit_of}
@@ -116,7 +116,7 @@ module _ (b : Book) (k j : ℕ) (i : Instruction) where
 
     is-check : it.mark ≡ 3
     unfolding untimely
-    is-check = eqb-true it.mark 3 (not-false _ (or_left _ false (or_left _ false (or_left _ false (or_left _ false q.timely)))))
+    is-check = eqb-true it.mark 3 (not-false _ q.timely)
 
     row-there : j < length b.rows
     row-there = there b.day b s j (omega (arith, is-payment))

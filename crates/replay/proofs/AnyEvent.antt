@@ -5,7 +5,7 @@ use Prim.Native.Nat.{ℕ, suc, ◌≤◌, ◌<◌}
 use native.Mathlib.Omega.{arith}
 use lib.Dec.{leb, ltb}
 use borrow.Author.Tests.{eqb-true, leb-true, ltb-true, lt-ltb, not-false}
-use Rattle.records.specs.Codes.{method_check, event_open, event_returned_check, event_dispute, event_decision, event_topup_result}
+use Rattle.records.specs.Codes.{event_open, event_dispute, event_decision, event_topup_result}
 use Rattle.lists.specs.Tests.{◌is◌}
 use Rattle.lists.proofs.TestLaws.{and_left, and_right, and_then, or_left, or_right}
 use Rattle.rules.specs.Rows.{held_toll, unsettled}
@@ -48,37 +48,21 @@ module _ (b : Book) (e : Instruction) (z : answer_number b e ≡ 0) where
       eqb-true _ _ (rw q at (and_left ((row b e.a).kind is named_kind e) _ (not-false _ h)))
 
   -- 11
-  abbrev late4 : Bool
-  late4 = e.kind is event_returned_check && not ((row b e.a).mark is method_check)
-
-  abbrev late5 : Bool
-  late5 = e.kind is event_dispute && (not (unsettled (row b e.a)) || not ((row b e.a).dispute is 0))
-
-  abbrev late6 : Bool
-  late6 = e.kind is event_decision && not (held_toll (row b e.a))
-
-  abbrev late7 : Bool
-  late7 = e.kind is event_topup_result && not (topup_due b e.account)
-
-  timely : late4 || late5 || late6 || late7 ≡ false
-  unfolding untimely
-  timely = or_left (late4 || late5 || late6 || late7) _ acc.timely
-
   undisputed : e.kind is event_dispute ≡ true → (row b e.a).dispute ≡ 0
-  undisputed k =
-      let h : late5 ≡ false = or_right late4 late5 (or_left (late4 || late5) late6 (or_left (late4 || late5 || late6) late7 timely)) in
-      eqb-true _ _ (not-false _ (or_right (not (unsettled (row b e.a))) _ (and_then (e.kind is event_dispute) _ k h)))
+  unfolding untimely
+  undisputed k = eqb-true _ _ (not-false _ (or_right (not (unsettled (row b e.a))) _ (rw (eqb-true _ _ k) at acc.timely)))
 
   held-still : e.kind is event_decision ≡ true → held_toll (row b e.a) ≡ true
-  held-still k = not-false _ (and_then (e.kind is event_decision) _ k (or_right (late4 || late5) late6 (or_left (late4 || late5 || late6) late7 timely)))
+  unfolding untimely
+  held-still k = not-false _ (rw (eqb-true _ _ k) at acc.timely)
 
   topped-up : e.kind is event_topup_result ≡ true → 0 < (account b e.account).topup
-  unfolding topup_due
+  unfolding untimely topup_due
   topped-up k =
       let x = account b e.account in
       let o : Bool = x.state is state_open && ltb 0 x.topup in
       let d : Bool = not (x.declined is b.day) in
-      let h : o && d && low_balance b e.account ≡ true = not-false _ (and_then (e.kind is event_topup_result) _ k (or_right (late4 || late5 || late6) late7 timely)) in
+      let h : o && d && low_balance b e.account ≡ true = not-false _ (rw (eqb-true _ _ k) at acc.timely) in
       ltb-true _ _ (and_right (x.state is state_open) (ltb 0 x.topup) (and_left o d (and_left (o && d) (low_balance b e.account) h)))
 
   -- ---- each event by its kind

@@ -1,4 +1,5 @@
--- The answer's number, told by the refusals that concern every kind alike and, where none of them applies, by the others.
+-- The answer's number, told by the refusals that concern every kind alike and, where none of them applies, by the others; the others' tests,
+-- to be unfolded together.
 use mathlib.Core.Path.{◌≡◌, refl, sym, ap, ◌∙◌}
 use mathlib.Core.Bool.{true, false}
 use mathlib.Core.List.{◌++◌}
@@ -8,7 +9,12 @@ use Rattle.records.specs.Numbers.{answer_malformed}
 use Rattle.lists.specs.Tests.{◌is◌, first}
 use Rattle.lists.proofs.TestLaws.{positive, case_of, first-zero, first-append, first-append-none}
 use Rattle.rules.specs.Book.{Instruction, Book}
-use Rattle.rules.specs.Refusals.{well_formed, shared_count, refusals, answer_number, shared_refusals, own_refusals}
+use Rattle.rules.specs.Refusals.{well_formed, unclassed, misdated, duplicate, barred, no_row, untimely, last_day, shared_count, refusals, answer_number, shared_refusals, own_refusals}
+
+-- the refusals of the kinds' own, with the tests that compute at a known kind: `unfolding own_tests` unfolds them all
+unfoldable pub own_tests : Unit {0}
+unfolding own_refusals shared_count refusals unclassed misdated duplicate barred no_row untimely last_day first
+own_tests = tt
 
 module _ (b : Book) (e : Instruction) where
   joined : shared_refusals b e ++ own_refusals b e ≡ refusals b e

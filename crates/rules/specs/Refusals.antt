@@ -171,14 +171,33 @@ named_kind e = get_or (0 ∷ 0 ∷ 0 ∷ 0 ∷ kind_payment ∷ kind_toll ∷ ki
 unfoldable pub no_row : Refusal
 no_row b e = ltb 0 (named_kind e) && not ((row b e.a).kind is named_kind e && (row b e.a).account is e.account)
 
--- 11 "event 4: mark not 3; 5: settled whole or dispute not 0; 6: not held; 7: not due; 8: pending"
+-- 11 of a kind that is never untimely
+abbrev pub never : Refusal
+never b e = false
+
+-- 11 "event 4: mark not 3"
+abbrev pub not_check : Refusal
+not_check b e = not ((row b e.a).mark is method_check)
+
+-- 11 "5: settled whole or dispute not 0"
+abbrev pub not_disputable : Refusal
+not_disputable b e = not (unsettled (row b e.a)) || not ((row b e.a).dispute is 0)
+
+-- 11 "6: not held"
+abbrev pub not_held : Refusal
+not_held b e = not (held_toll (row b e.a))
+
+-- 11 "7: not due"
+abbrev pub not_due : Refusal
+not_due b e = not (topup_due b e.account)
+
+-- 11 "8: pending"
+abbrev pub pending : Refusal
+pending b e = state_of b e is state_pending
+
+-- 11 by the event's kind
 unfoldable pub untimely : Refusal
-untimely b e =
-    e.kind is event_returned_check && not ((row b e.a).mark is method_check)
-    || e.kind is event_dispute && (not (unsettled (row b e.a)) || not ((row b e.a).dispute is 0))
-    || e.kind is event_decision && not (held_toll (row b e.a))
-    || e.kind is event_topup_result && not (topup_due b e.account)
-    || e.kind is event_close_request && state_of b e is state_pending
+untimely b e = get_or (never ∷ never ∷ never ∷ never ∷ not_check ∷ not_disputable ∷ not_held ∷ not_due ∷ pending ∷ []) e.kind never b e
 
 -- 12 "tick on day 36,525"
 unfoldable pub last_day : Refusal
