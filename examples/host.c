@@ -157,9 +157,10 @@ static struct toll_ledger_event_record *read_events(const char *path, size_t *co
     return events;
 }
 
-static const char *const number_names[] = {"posted",   "unsound",   "malformed", "unknown", "taken",
-                                           "closed",   "unclassed", "misdated",  "duplicate", "barred",
-                                           "no row",   "untimely",  "last day",  "full",    "ceiling", "list"};
+static const char *const number_names[] = {
+    "posted",    "unsound", "malformed", "unknown",  "taken",    "closed", "unclassed", "misdated",
+    "duplicate", "barred",  "no row",    "untimely", "last day", "full",   "ceiling",   "list",
+    "reserve"};
 
 /* Posts events in batches of the most that one call takes, and prints the refused ones. */
 static void post(struct book *b, const struct toll_ledger_event_record *events, size_t count)
@@ -203,6 +204,15 @@ static const char *dollars(int64_t cents)
     return text;
 }
 
+/* A top-up that is due is asked of the primary card, after two declines in a row of the reserve. */
+static const char *due_text(const int64_t *account, int64_t due)
+{
+    const int turns = account[TOLL_LEDGER_ACCOUNT_DECLINES] == 2;
+    if (due && turns && account[TOLL_LEDGER_ACCOUNT_RESERVE] == 1)
+        return ", top-up due from the reserve";
+    return due ? ", top-up due" : "";
+}
+
 static void print_statement(const struct book *b)
 {
     static const char *const states[] = {"unused", "open", "pending", "closed"};
@@ -216,7 +226,7 @@ static void print_statement(const struct book *b)
             toll_ledger_topup_due(TABLES(b), n, &due) != TOLL_LEDGER_POSTED)
             continue; /* unused */
         printf("account %" PRId64 ", %s, balance %s%s\n", n, states[account[TOLL_LEDGER_ACCOUNT_STATE]],
-               dollars(balance), due ? ", top-up due" : "");
+               dollars(balance), due_text(account, due));
         for (int64_t r = 1; r <= used; r++) {
             const int64_t *row = b->journal + (r - 1) * TOLL_LEDGER_ROW_WORDS;
             if (row[TOLL_LEDGER_ROW_ACCOUNT] == n)

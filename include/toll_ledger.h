@@ -27,8 +27,8 @@
 
 /* The version of this interface: the first number rises where a host must change or its stored
  * books no longer fit, the second where something is added, the third where neither is. */
-#define TOLL_LEDGER_VERSION_MAJOR 2
-#define TOLL_LEDGER_VERSION_MINOR 1
+#define TOLL_LEDGER_VERSION_MAJOR 3
+#define TOLL_LEDGER_VERSION_MINOR 0
 #define TOLL_LEDGER_VERSION_PATCH 0
 
 /* For compilers that can warn: a call's number must not be ignored, and no pointer may be null. */
@@ -42,11 +42,11 @@
 extern "C" {
 #endif
 
-/* Sizes. A header has exactly 62 words; accounts are 1 to 256 of 7 words each, numbered from 1; a
+/* Sizes. A header has exactly 62 words; accounts are 1 to 256 of 8 words each, numbered from 1; a
  * journal is 1 to 8,192 rows of 10 words each, numbered from 1. How many accounts and rows a book
  * has room for is the host's choice at opening, told by the tables' lengths. */
 #define TOLL_LEDGER_HEADER_WORDS 62
-#define TOLL_LEDGER_ACCOUNT_WORDS 7
+#define TOLL_LEDGER_ACCOUNT_WORDS 8
 #define TOLL_LEDGER_ROW_WORDS 10
 #define TOLL_LEDGER_MOST_ACCOUNTS 256
 #define TOLL_LEDGER_MOST_ROWS 8192
@@ -72,7 +72,7 @@ enum toll_ledger_number {
                                    on the new one's first day or later */
     TOLL_LEDGER_UNKNOWN = 3,    /* the account is unused, or not from 1 to the table's count */
     TOLL_LEDGER_TAKEN = 4,      /* event 1: the account is used */
-    TOLL_LEDGER_CLOSED = 5,     /* events 2, 3, 7, 8: the account is closed */
+    TOLL_LEDGER_CLOSED = 5,     /* events 2, 3, 7, 8, 11: the account is closed */
     TOLL_LEDGER_UNCLASSED = 6,  /* event 2: one axle above 90 inches */
     TOLL_LEDGER_MISDATED = 7,   /* event 2: a passage after today or over 60 days back */
     TOLL_LEDGER_DUPLICATE = 8,  /* event 2: the passage number stands in the journal */
@@ -80,7 +80,8 @@ enum toll_ledger_number {
     TOLL_LEDGER_NO_ROW = 10,    /* events 4, 5, 6: no such row, or of another kind or account */
     TOLL_LEDGER_UNTIMELY = 11,  /* event 4: not a check, or already returned; 5: the toll is settled
                                    whole or was disputed before; 6: it isn't held; 7: no top-up is
-                                   due; 8: the account is pending */
+                                   due; 8: the account is pending; 11: it has no top-up */
+    TOLL_LEDGER_RESERVE = 16,   /* event 11: the account has a reserve already, or none to remove */
     TOLL_LEDGER_LAST_DAY = 12,  /* event 9 on day 36,525 */
     TOLL_LEDGER_FULL = 13,      /* the journal has fewer free rows than the event adds */
     TOLL_LEDGER_CEILING = 14    /* event 9: a refund above 10,649,600,000. No book has so much
@@ -112,7 +113,7 @@ enum toll_ledger_list_word {
     TOLL_LEDGER_LIST_RATES = 1      /* here begin its six rates, in the order of the first list's */
 };
 
-/* The words of an account: account n has the words from 7 * (n - 1) on. */
+/* The words of an account: account n has the words from 8 * (n - 1) on. */
 enum toll_ledger_account_word {
     TOLL_LEDGER_ACCOUNT_STATE = 0,         /* enum toll_ledger_state */
     TOLL_LEDGER_ACCOUNT_REQUEST_DAY = 1,   /* of its close request, 0 without one */
@@ -120,7 +121,8 @@ enum toll_ledger_account_word {
     TOLL_LEDGER_ACCOUNT_THRESHOLD = 3,     /* top-up threshold */
     TOLL_LEDGER_ACCOUNT_TOPUP = 4,         /* top-up amount, 0: no top-up */
     TOLL_LEDGER_ACCOUNT_DECLINES = 5,      /* in a row: 0 to 2 */
-    TOLL_LEDGER_ACCOUNT_LAST_DECLINE = 6   /* its day, 0 without one */
+    TOLL_LEDGER_ACCOUNT_LAST_DECLINE = 6,  /* its day, 0 without one */
+    TOLL_LEDGER_ACCOUNT_RESERVE = 7        /* 1: a reserve card; only beside a top-up, else 0 */
 };
 
 enum toll_ledger_state {
@@ -195,8 +197,11 @@ enum toll_ledger_event_kind {
     /* a row of a held toll, b verdict. 0: the hold ends, the due day moves by the days held. 1:
      * upheld, a credit of the toll and all its fees settles what is unsettled of them. */
     TOLL_LEDGER_EVENT_DECISION = 6,
-    /* b 1 paid, 0 declined: the result of a top-up that is due (toll_ledger_topup_due). Paid: adds a
-     * card payment of the top-up amount. The third decline in a row removes the top-up. */
+    /* b 1 paid, 0 declined: the result of a top-up that is due (toll_ledger_topup_due). It concerns
+     * the primary card, but after two declines in a row the reserve, where there is one. Paid: adds
+     * a card payment of the top-up amount and clears the declines; a reserve that pays becomes the
+     * primary, and the account has none until one is added. The third decline in a row removes the
+     * top-up, and a reserve with it. */
     TOLL_LEDGER_EVENT_TOPUP_RESULT = 7,
     /* The account is pending from today; a tick closes it 15 days on or later, once nothing is
      * owed. */
@@ -207,7 +212,10 @@ enum toll_ledger_event_kind {
     /* Account 0, a first day 1 to 36,525, b to g six rates, 1 to 1,000,000 each, in the header's
      * order. Adds a rate list, which begins after the last one: on a day to come or one gone by.
      * Tolls in the journal keep their amounts. */
-    TOLL_LEDGER_EVENT_RATE_LIST = 10
+    TOLL_LEDGER_EVENT_RATE_LIST = 10,
+    /* a 1 adds a reserve card beside the primary, the top-up's own; 0 removes it. Event 7 tells
+     * when it is asked: one added after the second decline is asked next. */
+    TOLL_LEDGER_EVENT_RESERVE = 11
 };
 
 enum toll_ledger_mode { TOLL_LEDGER_MODE_TAG = 1, TOLL_LEDGER_MODE_PLATE = 2 };
@@ -242,7 +250,7 @@ enum toll_ledger_answer_word {
     TOLL_LEDGER_ANSWER_FIRST_ROW = 1, /* the first new row, 0 if none */
     TOLL_LEDGER_ANSWER_NEW_ROWS = 2,  /* how many */
     TOLL_LEDGER_ANSWER_RAISED = 3,    /* tolls raised by a tick */
-    TOLL_LEDGER_ANSWER_REMOVED = 4    /* 1 if the top-up was removed */
+    TOLL_LEDGER_ANSWER_REMOVED = 4    /* 1 if the top-up was removed, by a third decline */
 };
 
 /*
@@ -252,16 +260,16 @@ enum toll_ledger_answer_word {
  * rows have kinds 1 to 6; later rows and unused accounts are all 0. The request day is 0 in state
  * open, in pending and closed from 1 to today; returned checks are the account's payments with
  * mark 4; threshold and top-up amount lie in 0 to 1,000,000, declines in 0 to 2, last decline in 0
- * to today, declines and last decline are 0 together, all four 0 where the amount is. Rows name
- * used accounts, days 1 to today, and references of the right kind in an earlier row of the same
- * account. Amounts are at least 1 and at most 1,000,000 (toll, reversal, payment), 100,000 (fee),
- * 1,300,000 (credit), 10,649,600,000 (refund); settled is 0 to amount, a refund's all of it.
- * Passage numbers differ. A toll of stage k is named by at most k - 1 fees (none at 0). An
- * unsettled toll under stage 4 that isn't held is due after today and by today + L, other tolls
- * from 1 to today + L. Hold start is 0 but for a held toll, then from today - 29 to today and at
- * least 1, the toll unsettled, due by hold start + L and, under stage 4, after hold start. Per
- * account, used sources = settled debits, no unused source stands beside an unsettled debit that
- * isn't held, and a closed account has nothing unused or unsettled.
+ * to today, the reserve is 0 or 1, declines and last decline are 0 together, all five 0 where the
+ * amount is. Rows name used accounts, days 1 to today, and references of the right kind in an
+ * earlier row of the same account. Amounts are at least 1 and at most 1,000,000 (toll, reversal,
+ * payment), 100,000 (fee), 1,300,000 (credit), 10,649,600,000 (refund); settled is 0 to amount, a
+ * refund's all of it. Passage numbers differ. A toll of stage k is named by at most k - 1 fees
+ * (none at 0). An unsettled toll under stage 4 that isn't held is due after today and by today +
+ * L, other tolls from 1 to today + L. Hold start is 0 but for a held toll, then from today - 29 to
+ * today and at least 1, the toll unsettled, due by hold start + L and, under stage 4, after hold
+ * start. Per account, used sources = settled debits, no unused source stands beside an unsettled
+ * debit that isn't held, and a closed account has nothing unused or unsettled.
  *
  * Opening makes a sound book, and every call leaves a sound book sound. So a host meets "unsound"
  * only where something else wrote the tables, or where their lengths changed.

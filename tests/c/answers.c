@@ -1,5 +1,6 @@
-/* Every answer number with events that give it, rate lists, and document 01's marked examples M1 to
- * M8. The parts between marks below stand word for word in docs/HOSTS.md; tests/run compares. */
+/* Every answer number with events that give it, rate lists, reserves, and document 01's marked
+ * examples M1 to M8. The parts between marks below stand word for word in docs/HOSTS.md; tests/run
+ * compares. */
 #include "book.h"
 
 #include <string.h>
@@ -76,6 +77,7 @@ static void closed(struct book *b)
     CHECK(post(b, TOLL_LEDGER_EVENT_CLOSE_REQUEST, 7) == TOLL_LEDGER_POSTED);
     ticks(b, 15);
     CHECK(post(b, TOLL_LEDGER_EVENT_PAYMENT, 7, 500, 2) == TOLL_LEDGER_CLOSED);
+    CHECK(post(b, TOLL_LEDGER_EVENT_RESERVE, 7, 1) == TOLL_LEDGER_CLOSED);
 }
 
 /* 6 unclassed: one axle above 90 inches. */
@@ -129,7 +131,8 @@ static void no_row(struct book *b)
 }
 
 /* 11 untimely: a card payment isn't returned; a settled toll isn't disputed; a toll that isn't held
- * isn't decided; no top-up is due above the threshold; a pending account has made its request. */
+ * isn't decided; no top-up is due above the threshold; a pending account has made its request; an
+ * account without a top-up has no reserve. */
 static void untimely(struct book *b)
 {
     CHECK(post(b, TOLL_LEDGER_EVENT_OPEN, 7, 0, 2000) == TOLL_LEDGER_POSTED);
@@ -142,6 +145,18 @@ static void untimely(struct book *b)
     CHECK(post(b, TOLL_LEDGER_EVENT_TOPUP_RESULT, 7, 0, 1) == TOLL_LEDGER_UNTIMELY);
     CHECK(post(b, TOLL_LEDGER_EVENT_CLOSE_REQUEST, 7) == TOLL_LEDGER_POSTED);
     CHECK(post(b, TOLL_LEDGER_EVENT_CLOSE_REQUEST, 7) == TOLL_LEDGER_UNTIMELY);
+    CHECK(post(b, TOLL_LEDGER_EVENT_OPEN, 8, 0, 0) == TOLL_LEDGER_POSTED);
+    CHECK(post(b, TOLL_LEDGER_EVENT_RESERVE, 8, 1) == TOLL_LEDGER_UNTIMELY);
+}
+
+/* 16 reserve: none is there to remove; a second one isn't added. */
+static void reserve(struct book *b)
+{
+    CHECK(post(b, TOLL_LEDGER_EVENT_OPEN, 7, 0, 2000) == TOLL_LEDGER_POSTED);
+    CHECK(post(b, TOLL_LEDGER_EVENT_RESERVE, 7, 0) == TOLL_LEDGER_RESERVE);
+    CHECK(post(b, TOLL_LEDGER_EVENT_RESERVE, 7, 1) == TOLL_LEDGER_POSTED);
+    CHECK(account_of(b, 7)[TOLL_LEDGER_ACCOUNT_RESERVE] == 1);
+    CHECK(post(b, TOLL_LEDGER_EVENT_RESERVE, 7, 1) == TOLL_LEDGER_RESERVE);
 }
 
 /* 12 last day: a book opened on day 36,525 has no next day. */
@@ -200,6 +215,43 @@ static void held_topup(struct book *b)
     CHECK(post(b, TOLL_LEDGER_EVENT_TOPUP_RESULT, 7, 0, 0) == TOLL_LEDGER_UNTIMELY);
     CHECK(post(b, TOLL_LEDGER_EVENT_DECISION, 7, 1, 0) == TOLL_LEDGER_POSTED);
     CHECK(balance(b, 7) == -399 && topup_due(b, 7) == 1);
+}
+/* examples: end */
+
+/* examples: begin, of reserves */
+/* Posts results that decline, each on a day of its own. */
+static void decline(struct book *b, int64_t count)
+{
+    for (int64_t i = 0; i < count; i++) {
+        CHECK(topup_due(b, 7) == 1);
+        CHECK(post(b, TOLL_LEDGER_EVENT_TOPUP_RESULT, 7, 0, 0) == TOLL_LEDGER_POSTED);
+        ticks(b, 1);
+    }
+}
+
+/* The reserve is asked after two declines and pays: it is the primary now, with no decline. Once
+ * another reserve is there and is declined in its turn, the account has no top-up any more. */
+static void reserve_life(struct book *b)
+{
+    const int64_t *x = account_of(b, 7);
+    CHECK(post(b, TOLL_LEDGER_EVENT_OPEN, 7, 100, 2000) == TOLL_LEDGER_POSTED);
+    CHECK(post(b, TOLL_LEDGER_EVENT_RESERVE, 7, 1) == TOLL_LEDGER_POSTED);
+    decline(b, 2);
+    CHECK(x[TOLL_LEDGER_ACCOUNT_DECLINES] == 2 && x[TOLL_LEDGER_ACCOUNT_RESERVE] == 1);
+    CHECK(post(b, TOLL_LEDGER_EVENT_TOPUP_RESULT, 7, 0, 1) == TOLL_LEDGER_POSTED);
+    CHECK(b->answer[TOLL_LEDGER_ANSWER_REMOVED] == 0 && balance(b, 7) == 2000);
+    CHECK(x[TOLL_LEDGER_ACCOUNT_THRESHOLD] == 100 && x[TOLL_LEDGER_ACCOUNT_TOPUP] == 2000);
+    CHECK(x[TOLL_LEDGER_ACCOUNT_DECLINES] == 0 && x[TOLL_LEDGER_ACCOUNT_LAST_DECLINE] == 0);
+    CHECK(x[TOLL_LEDGER_ACCOUNT_RESERVE] == 0);
+    for (int64_t passage = 1; passage <= 4; passage++)
+        CHECK(post(b, TOLL_LEDGER_EVENT_TOLL, 7, passage, 1, 2, 60, 2) == TOLL_LEDGER_POSTED);
+    decline(b, 2);
+    CHECK(post(b, TOLL_LEDGER_EVENT_RESERVE, 7, 1) == TOLL_LEDGER_POSTED); /* and asked next */
+    CHECK(b->answer[TOLL_LEDGER_ANSWER_REMOVED] == 0);
+    CHECK(post(b, TOLL_LEDGER_EVENT_TOPUP_RESULT, 7, 0, 0) == TOLL_LEDGER_POSTED);
+    CHECK(b->answer[TOLL_LEDGER_ANSWER_REMOVED] == 1);
+    for (int word = TOLL_LEDGER_ACCOUNT_THRESHOLD; word <= TOLL_LEDGER_ACCOUNT_RESERVE; word++)
+        CHECK(x[word] == 0);
 }
 /* examples: end */
 
@@ -321,7 +373,7 @@ static void declines(struct book *b)
         CHECK(post(b, TOLL_LEDGER_EVENT_TOPUP_RESULT, 7, 0, 0) == TOLL_LEDGER_UNTIMELY);
         ticks(b, 1);
     }
-    for (int word = TOLL_LEDGER_ACCOUNT_THRESHOLD; word <= TOLL_LEDGER_ACCOUNT_LAST_DECLINE; word++)
+    for (int word = TOLL_LEDGER_ACCOUNT_THRESHOLD; word <= TOLL_LEDGER_ACCOUNT_RESERVE; word++)
         CHECK(account_of(b, 7)[word] == 0);
 }
 
@@ -337,7 +389,8 @@ int main(void)
         {duplicate, 64, 512, 1}, {barred, 64, 512, 1},    {no_row, 64, 512, 1},    {untimely, 64, 512, 1},
         {last_day, 64, 512, 36525}, {full, 64, 1, 1},     {largest_refund, 7, 8192, 1}, {listing, 64, 512, 1},
         {classes, 64, 512, 1},   {stages_and_holds, 64, 512, 1}, {closing, 64, 512, 1}, {declines, 64, 512, 1},
-        {rates_ahead, 64, 512, 1}, {held_topup, 64, 512, 1},
+        {rates_ahead, 64, 512, 1}, {held_topup, 64, 512, 1}, {reserve, 64, 512, 1},
+        {reserve_life, 64, 512, 1},
     };
     for (size_t i = 0; i < sizeof examples / sizeof examples[0]; i++) {
         struct book b = open_book(examples[i].accounts, examples[i].rows, examples[i].first_day);

@@ -1,5 +1,5 @@
-/* The borders of the calls: lengths of every kind, words of every size, rate lists, answer tables,
- * batches, and full books. Every table stands in a place of exactly its size. */
+/* The borders of the calls: lengths of every kind, words of every size, rate lists, reserves,
+ * answer tables, batches, and full books. Every table stands in a place of exactly its size. */
 #include "book.h"
 
 #include <string.h>
@@ -66,6 +66,7 @@ static struct book varied_book(void)
     CHECK(post(&b, TOLL_LEDGER_EVENT_RETURNED_CHECK, 4, 8, 100) == 0); /* rows 9, 10: reversal and fee */
     CHECK(post(&b, TOLL_LEDGER_EVENT_CLOSE_REQUEST, 4) == 0);
     CHECK(post(&b, TOLL_LEDGER_EVENT_TOPUP_RESULT, 1, 0, 0) == 0);   /* declined */
+    CHECK(post(&b, TOLL_LEDGER_EVENT_RESERVE, 1, 1) == 0);
     CHECK(add_list(&b, 50, 300) == 0 && add_list(&b, 61, 400) == 0 && add_list(&b, 500, 600) == 0);
     CHECK(b.header[TOLL_LEDGER_HEADER_ROWS_USED] == 10);
     CHECK(account_of(&b, 3)[0] == 3 && account_of(&b, 4)[0] == 2 && account_of(&b, 5)[0] == 0);
@@ -85,14 +86,15 @@ static void all_refuse_as_unsound(struct book *b)
 
 static int fits(size_t header, size_t accounts, size_t journal)
 {
-    return header == 62 && accounts % 7 == 0 && accounts >= 7 && accounts <= 256 * 7 &&
+    return header == 62 && accounts % 8 == 0 && accounts >= 8 && accounts <= 256 * 8 &&
            journal % 10 == 0 && journal >= 10 && journal <= 8192 * 10;
 }
 
 static void lengths_of_tables(void)
 {
     const size_t headers[] = {0, 1, 12, 13, 61, 62, 63, 69, 124};
-    const size_t accounts[] = {0, 1, 6, 7, 8, 13, 14, 21, 256 * 7 - 1, 256 * 7, 256 * 7 + 1, 257 * 7};
+    const size_t accounts[] = {0, 1, 7, 8, 9, 14, 15, 16, 24,
+                               256 * 8 - 1, 256 * 8, 256 * 8 + 1, 257 * 8};
     const size_t journals[] = {0, 1, 9, 10, 11, 19, 20, 30, 8192 * 10 - 1, 8192 * 10, 8192 * 10 + 1, 8193 * 10};
     for (size_t h = 0; h < sizeof headers / sizeof headers[0]; h++)
         for (size_t a = 0; a < sizeof accounts / sizeof accounts[0]; a++)
@@ -141,7 +143,7 @@ static void lengths_of_a_sound_book(void)
             memcpy(b.accounts, whole.accounts, (which == 1 && more < 12 ? *words : whole.accounts_words) * sizeof(int64_t));
             memcpy(b.journal, whole.journal, (which == 2 && more < 12 ? *words : whole.journal_words) * sizeof(int64_t));
             /* whole records more, and unused ones less, leave a sound book */
-            const int keeps = which == 1 ? more == 5 || more == 12 || more == 19
+            const int keeps = which == 1 ? more == 4 || more == 12 || more == 20
                                          : which == 2 ? more == 2 || more == 12 || more == 22 : more == 12;
             if (keeps)
                 CHECK(sound(&b) == TOLL_LEDGER_POSTED);
@@ -152,6 +154,25 @@ static void lengths_of_a_sound_book(void)
     free_book(&whole);
 }
 
+/* Accounts of seven words, as books of older versions have them: five have no length of this one,
+ * eight have that of seven here, but no such words. */
+static void older_accounts(void)
+{
+    struct book whole = varied_book(), b = whole;
+    b.accounts_words = 5 * 7;
+    b.accounts = new_table(b.accounts_words);
+    for (int n = 0; n < 5; n++)
+        memcpy(b.accounts + 7 * n, account_of(&whole, n + 1), 7 * sizeof(int64_t));
+    all_refuse_as_unsound(&b);
+    free_table(b.accounts, b.accounts_words);
+    free_book(&whole);
+    b = open_book(7, 3, 1);
+    for (int n = 0; n < 8; n++)
+        b.accounts[7 * n + TOLL_LEDGER_ACCOUNT_STATE] = TOLL_LEDGER_STATE_OPEN;
+    all_refuse_as_unsound(&b);
+    free_book(&b);
+}
+
 static void lengths_of_schedules(void)
 {
     for (size_t words = 0; words <= 13; words++) {
@@ -159,11 +180,11 @@ static void lengths_of_schedules(void)
         int64_t *before = copy_words(&b), *schedule = new_table(words);
         for (size_t i = 0; i < words; i++)
             schedule[i] = i < 11 ? example_schedule[i] : 1;
-        const int64_t number = toll_ledger_open(b.header, 62, b.accounts, 14, b.journal, 30, schedule, words);
+        const int64_t number = toll_ledger_open(b.header, 62, b.accounts, 16, b.journal, 30, schedule, words);
         CHECK(number == (words == 11 ? TOLL_LEDGER_POSTED : TOLL_LEDGER_MALFORMED));
         if (number != 0)
             CHECK(same_words(&b, before));
-        CHECK(toll_ledger_open(b.header, 61, b.accounts, 14, b.journal, 30, schedule, words) == TOLL_LEDGER_UNSOUND);
+        CHECK(toll_ledger_open(b.header, 61, b.accounts, 16, b.journal, 30, schedule, words) == TOLL_LEDGER_UNSOUND);
         free_table(schedule, words);
         free(before);
         free_book(&b);
@@ -183,7 +204,7 @@ static void ranges_of_schedules(void)
             int64_t schedule[11], *before = copy_words(&b);
             memcpy(schedule, example_schedule, sizeof schedule);
             schedule[word] = values[v];
-            const int64_t number = toll_ledger_open(b.header, 62, b.accounts, 14, b.journal, 30, schedule, 11);
+            const int64_t number = toll_ledger_open(b.header, 62, b.accounts, 16, b.journal, 30, schedule, 11);
             CHECK(number == (v < 2 ? TOLL_LEDGER_POSTED : TOLL_LEDGER_MALFORMED));
             if (v < 2) {
                 CHECK(b.header[0] == schedule[0] && b.header[1] == 0);
@@ -216,7 +237,7 @@ static void lengths_of_events_and_answers(void)
                     e[i] = i < 2; /* opens account 1 */
                 const int64_t want = damaged ? TOLL_LEDGER_UNSOUND
                                      : words == 9 && room >= 5 ? TOLL_LEDGER_POSTED : TOLL_LEDGER_MALFORMED;
-                CHECK(toll_ledger_event(b.header, 62, b.accounts, 14, b.journal, 30, e, words, answer, room) == want);
+                CHECK(toll_ledger_event(b.header, 62, b.accounts, 16, b.journal, 30, e, words, answer, room) == want);
                 CHECK(want == TOLL_LEDGER_POSTED || same_words(&b, before));
                 for (size_t i = 0; i < room; i++)
                     CHECK(answer[i] == (room < 5 || i >= 5 ? -77 : i == 0 ? want : 0));
@@ -250,7 +271,7 @@ static void wild_words_in_events(void)
 {
     const int64_t good[][9] = {{1, 5, 100, 2000}, {2, 1, 43, 61, 2, 60, 2}, {3, 1, 500, 1}, {4, 4, 8, 100}, {5, 1, 1},
                                {6, 1, 1, 1},      {7, 1, 0, 1},             {8, 1},         {9},
-                               {10, 0, 501, 1, 2, 3, 4, 5, 6}};
+                               {10, 0, 501, 1, 2, 3, 4, 5, 6}, {11, 1, 0}};
     struct book b = varied_book();
     for (size_t k = 0; k < sizeof good / sizeof good[0]; k++)
         for (size_t word = 0; word < 9; word++)
@@ -259,7 +280,7 @@ static void wild_words_in_events(void)
                 memcpy(e, good[k], sizeof e);
                 e[word] = wild[v];
                 const int64_t kind = good[k][0];
-                const int64_t want = word == 1 && kind < 9                 ? TOLL_LEDGER_UNKNOWN
+                const int64_t want = word == 1 && kind != 9 && kind != 10  ? TOLL_LEDGER_UNKNOWN
                                      : word == 2 && kind >= 4 && kind <= 6 ? TOLL_LEDGER_NO_ROW
                                                                            : TOLL_LEDGER_MALFORMED;
                 CHECK(post_words(&b, e) == want);
@@ -294,6 +315,12 @@ static void ranges_of_events(void)
         {{10, 0, 1, 1, 1, 1, 1, 1, 1}, 15},     {{10, 0, 0, 1, 1, 1, 1, 1, 1}, 2},
         {{10, 1, 501, 1, 1, 1, 1, 1, 1}, 2},    {{10, -1, 501, 1, 1, 1, 1, 1, 1}, 2},
         {{10, 0, 500, 1, 1, 1, 1, 1, 0}, 2},    {{13, 0, 501, 1, 1, 1, 1, 1, 1}, 2},
+        {{11, 1, 0}, 0},       {{11, 1, 1}, 16},         {{11, 1, 2}, 2},
+        {{11, 1, -1}, 2},      {{11, 6, 2}, 2},          {{11, 5, 1}, 3},
+        {{11, 0, 1}, 3},       {{11, 3, 1}, 5},          {{11, 3, 0}, 5},
+        {{11, 2, 1}, 11},      {{11, 2, 0}, 11},         {{11, 4, 1}, 11},
+        {{12, 1, 1}, 2},       {{11, 1, 0, 1}, 2},       {{11, 1, 0, 0, 1}, 2},
+        {{11, 1, 0, 0, 0, 1}, 2}, {{11, 1, 0, 0, 0, 0, 1}, 2},
     };
     for (size_t i = 0; i < sizeof cases / sizeof cases[0]; i++) {
         struct book b = varied_book();
@@ -307,7 +334,8 @@ static void ranges_of_events(void)
 static void last_words_of_events(void)
 {
     const int64_t good[][9] = {{1, 5, 100, 2000}, {2, 1, 43, 61, 2, 60, 2}, {3, 1, 500, 1}, {4, 4, 8, 100}, {5, 1, 1},
-                               {6, 1, 1, 1},      {7, 1, 0, 1},             {8, 1},         {9}};
+                               {6, 1, 1, 1},      {7, 1, 0, 1},             {8, 1},         {9},
+                               {11, 1, 0}};
     struct book b = varied_book();
     for (size_t k = 0; k < sizeof good / sizeof good[0]; k++)
         for (size_t word = 7; word < 9; word++) {
@@ -431,6 +459,157 @@ static void fewer_lists(void)
     free_book(&b);
 }
 
+/* Account 2 with a top-up, after so many declines, each on a day of its own. */
+static struct book declined_book(int64_t declines)
+{
+    struct book b = open_book(3, 8, 1);
+    CHECK(post(&b, TOLL_LEDGER_EVENT_OPEN, 2, 100, 2000) == 0);
+    for (int64_t i = 0; i < declines; i++) {
+        CHECK(post(&b, TOLL_LEDGER_EVENT_TOPUP_RESULT, 2, 0, 0) == 0);
+        ticks(&b, 1);
+    }
+    CHECK(account_of(&b, 2)[TOLL_LEDGER_ACCOUNT_DECLINES] == declines);
+    return b;
+}
+
+/* Event 11 changes the reserve alone, after any declines, on open accounts and on pending ones. */
+static void changing_reserves(void)
+{
+    const size_t place =
+        TOLL_LEDGER_HEADER_WORDS + TOLL_LEDGER_ACCOUNT_WORDS + TOLL_LEDGER_ACCOUNT_RESERVE;
+    for (int pending = 0; pending < 2; pending++)
+        for (int64_t declines = 0; declines <= 2; declines++) {
+            struct book b = declined_book(declines);
+            if (pending)
+                CHECK(post(&b, TOLL_LEDGER_EVENT_CLOSE_REQUEST, 2) == 0);
+            for (int turn = 0; turn < 4; turn++) { /* added, removed, and again */
+                const int64_t adds = turn % 2 == 0;
+                CHECK(post(&b, TOLL_LEDGER_EVENT_RESERVE, 2, 1 - adds) == TOLL_LEDGER_RESERVE);
+                int64_t *want = copy_words(&b);
+                CHECK(post(&b, TOLL_LEDGER_EVENT_RESERVE, 2, adds) == TOLL_LEDGER_POSTED);
+                for (int word = 1; word < TOLL_LEDGER_ANSWER_WORDS; word++)
+                    CHECK(b.answer[word] == 0);
+                want[place] = adds;
+                CHECK(same_words(&b, want));
+                CHECK(sound(&b) == TOLL_LEDGER_POSTED);
+                free(want);
+            }
+            free_book(&b);
+        }
+}
+
+/* A closed account keeps its reserve, and none is added or removed until a returned check has made
+ * it pending; closed is told before all else that refuses event 11. */
+static void reserves_after_closing(void)
+{
+    struct book b = open_book(3, 8, 1);
+    CHECK(post(&b, TOLL_LEDGER_EVENT_OPEN, 1, 0, 0) == 0);
+    CHECK(post(&b, TOLL_LEDGER_EVENT_OPEN, 2, 100, 2000) == 0);
+    CHECK(post(&b, TOLL_LEDGER_EVENT_RESERVE, 2, 1) == 0);
+    CHECK(post(&b, TOLL_LEDGER_EVENT_PAYMENT, 2, 700, 3) == 0); /* row 1 */
+    CHECK(post(&b, TOLL_LEDGER_EVENT_CLOSE_REQUEST, 1) == 0);
+    CHECK(post(&b, TOLL_LEDGER_EVENT_CLOSE_REQUEST, 2) == 0);
+    ticks(&b, 15);
+    for (int64_t adds = 0; adds < 2; adds++) {
+        CHECK(post(&b, TOLL_LEDGER_EVENT_RESERVE, 1, adds) == TOLL_LEDGER_CLOSED);
+        CHECK(post(&b, TOLL_LEDGER_EVENT_RESERVE, 2, adds) == TOLL_LEDGER_CLOSED);
+        CHECK(post(&b, TOLL_LEDGER_EVENT_RESERVE, 3, adds) == TOLL_LEDGER_UNKNOWN);
+    }
+    const int64_t *x = account_of(&b, 2);
+    CHECK(x[TOLL_LEDGER_ACCOUNT_TOPUP] == 2000 && x[TOLL_LEDGER_ACCOUNT_RESERVE] == 1);
+    CHECK(post(&b, TOLL_LEDGER_EVENT_RETURNED_CHECK, 2, 1, 0) == 0);
+    CHECK(x[TOLL_LEDGER_ACCOUNT_STATE] == TOLL_LEDGER_STATE_PENDING);
+    CHECK(post(&b, TOLL_LEDGER_EVENT_RESERVE, 2, 1) == TOLL_LEDGER_RESERVE);
+    CHECK(post(&b, TOLL_LEDGER_EVENT_RESERVE, 2, 0) == TOLL_LEDGER_POSTED);
+    CHECK(post(&b, TOLL_LEDGER_EVENT_RESERVE, 2, 1) == TOLL_LEDGER_POSTED);
+    free_book(&b);
+}
+
+/* What a result leaves of the account after so many declines, with no reserve or with one that was
+ * added after `at` of them; -1: none. */
+static void result_after(int64_t declines, int64_t at, int64_t paid)
+{
+    struct book b = declined_book(at < 0 ? 0 : at);
+    if (at >= 0)
+        CHECK(post(&b, TOLL_LEDGER_EVENT_RESERVE, 2, 1) == 0);
+    for (int64_t i = at < 0 ? 0 : at; i < declines; i++) {
+        CHECK(post(&b, TOLL_LEDGER_EVENT_TOPUP_RESULT, 2, 0, 0) == 0);
+        CHECK(b.answer[TOLL_LEDGER_ANSWER_REMOVED] == 0);
+        ticks(&b, 1);
+    }
+    const int third = declines == 2, removed = third && !paid, counts = !third && !paid;
+    const int64_t want[] = {TOLL_LEDGER_STATE_OPEN, 0, 0, removed ? 0 : 100, removed ? 0 : 2000,
+                            counts ? declines + 1 : 0, counts ? today(&b) : 0, !third && at >= 0};
+    CHECK(sizeof want == TOLL_LEDGER_ACCOUNT_WORDS * sizeof(int64_t));
+    CHECK(post(&b, TOLL_LEDGER_EVENT_TOPUP_RESULT, 2, 0, paid) == TOLL_LEDGER_POSTED);
+    const int64_t answer[] = {TOLL_LEDGER_POSTED, paid, paid, 0, removed};
+    CHECK(memcmp(b.answer, answer, sizeof answer) == 0);
+    CHECK(memcmp(account_of(&b, 2), want, sizeof want) == 0);
+    CHECK(balance(&b, 2) == 2000 * paid);
+    if (paid)
+        CHECK(row_of(&b, 1)[TOLL_LEDGER_ROW_KIND] == TOLL_LEDGER_KIND_PAYMENT &&
+              row_of(&b, 1)[TOLL_LEDGER_ROW_MARK] == TOLL_LEDGER_METHOD_CARD);
+    if (removed)
+        for (int64_t adds = 0; adds < 2; adds++)
+            CHECK(post(&b, TOLL_LEDGER_EVENT_RESERVE, 2, adds) == TOLL_LEDGER_UNTIMELY);
+    CHECK(sound(&b) == TOLL_LEDGER_POSTED);
+    free_book(&b);
+}
+
+static void results_with_reserves(void)
+{
+    for (int64_t declines = 0; declines <= 2; declines++)
+        for (int64_t at = -1; at <= declines; at++)
+            for (int64_t paid = 0; paid < 2; paid++)
+                result_after(declines, at, paid);
+}
+
+/* A payment by the reserve that finds the journal full changes no word, and the reserve is asked
+ * again. */
+static void reserve_on_a_full_journal(void)
+{
+    struct book b = open_book(2, 1, 1);
+    CHECK(post(&b, TOLL_LEDGER_EVENT_OPEN, 1, 0, 0) == 0);
+    CHECK(post(&b, TOLL_LEDGER_EVENT_OPEN, 2, 100, 2000) == 0);
+    CHECK(post(&b, TOLL_LEDGER_EVENT_RESERVE, 2, 1) == 0);
+    CHECK(post(&b, TOLL_LEDGER_EVENT_PAYMENT, 1, 1, 1) == 0); /* takes the only row */
+    for (int i = 0; i < 2; i++) {
+        CHECK(post(&b, TOLL_LEDGER_EVENT_TOPUP_RESULT, 2, 0, 0) == TOLL_LEDGER_POSTED);
+        ticks(&b, 1);
+    }
+    CHECK(post(&b, TOLL_LEDGER_EVENT_TOPUP_RESULT, 2, 0, 1) == TOLL_LEDGER_FULL);
+    CHECK(post(&b, TOLL_LEDGER_EVENT_RESERVE, 2, 1) == TOLL_LEDGER_RESERVE);
+    CHECK(post(&b, TOLL_LEDGER_EVENT_TOPUP_RESULT, 2, 0, 0) == TOLL_LEDGER_POSTED);
+    CHECK(b.answer[TOLL_LEDGER_ANSWER_REMOVED] == 1);
+    CHECK(account_of(&b, 2)[TOLL_LEDGER_ACCOUNT_RESERVE] == 0);
+    free_book(&b);
+}
+
+/* Reserves as no ledger writes them, each alone in a sound book. */
+static void damaged_reserves(void)
+{
+    struct book b = varied_book(); /* account 1 alone has a top-up, and a reserve */
+    for (int64_t n = 1; n <= 5; n++)
+        for (int64_t value = -1; value <= 2; value++) {
+            int64_t *reserve = account_of(&b, n) + TOLL_LEDGER_ACCOUNT_RESERVE;
+            const int64_t old = *reserve;
+            CHECK(old == (n == 1));
+            *reserve = value;
+            if (value == 0 || (value == 1 && n == 1))
+                CHECK(sound(&b) == TOLL_LEDGER_POSTED);
+            else
+                all_refuse_as_unsound(&b);
+            *reserve = old;
+        }
+    int64_t *x = account_of(&b, 1); /* without its top-up, and still with a reserve */
+    for (int word = TOLL_LEDGER_ACCOUNT_THRESHOLD; word <= TOLL_LEDGER_ACCOUNT_LAST_DECLINE; word++)
+        x[word] = 0;
+    all_refuse_as_unsound(&b);
+    x[TOLL_LEDGER_ACCOUNT_RESERVE] = 0;
+    CHECK(sound(&b) == TOLL_LEDGER_POSTED);
+    free_book(&b);
+}
+
 /* Batches of no event, of 4,096 and of one more, with answer tables that just fit, or just not. */
 static void sizes_of_batches(void)
 {
@@ -516,6 +695,7 @@ int main(void)
 {
     lengths_of_tables();
     lengths_of_a_sound_book();
+    older_accounts();
     lengths_of_schedules();
     ranges_of_schedules();
     lengths_of_events_and_answers();
@@ -527,6 +707,11 @@ int main(void)
     rates_by_passage_day();
     damaged_lists();
     fewer_lists();
+    changing_reserves();
+    reserves_after_closing();
+    results_with_reserves();
+    reserve_on_a_full_journal();
+    damaged_reserves();
     sizes_of_batches();
     full_book();
     return 0;

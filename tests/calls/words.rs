@@ -1,7 +1,7 @@
 //! The names of include/toll_ledger.h, without their prefix: `tests/run` compares them, name by name and number by number.
 
 pub const HEADER_WORDS: usize = 62;
-pub const ACCOUNT_WORDS: usize = 7;
+pub const ACCOUNT_WORDS: usize = 8;
 pub const ROW_WORDS: usize = 10;
 pub const MOST_ACCOUNTS: usize = 256;
 pub const MOST_ROWS: usize = 8_192;
@@ -27,6 +27,7 @@ pub const DUPLICATE: i64 = 8;
 pub const BARRED: i64 = 9;
 pub const NO_ROW: i64 = 10;
 pub const UNTIMELY: i64 = 11;
+pub const RESERVE: i64 = 16;
 pub const LAST_DAY: i64 = 12;
 pub const FULL: i64 = 13;
 pub const CEILING: i64 = 14;
@@ -59,6 +60,7 @@ pub const ACCOUNT_THRESHOLD: usize = 3;
 pub const ACCOUNT_TOPUP: usize = 4;
 pub const ACCOUNT_DECLINES: usize = 5;
 pub const ACCOUNT_LAST_DECLINE: usize = 6;
+pub const ACCOUNT_RESERVE: usize = 7;
 
 // toll_ledger_state
 pub const STATE_UNUSED: i64 = 0;
@@ -110,6 +112,7 @@ pub const EVENT_TOPUP_RESULT: i64 = 7;
 pub const EVENT_CLOSE_REQUEST: i64 = 8;
 pub const EVENT_TICK: i64 = 9;
 pub const EVENT_RATE_LIST: i64 = 10;
+pub const EVENT_RESERVE: i64 = 11;
 
 // toll_ledger_mode
 pub const MODE_TAG: i64 = 1;

@@ -10,7 +10,10 @@ use calls::{Book, Table, MODEL};
 #[derive(Default)]
 pub struct Met {
     pub books: u64,
-    pub sound: u64, // damaged, and sound all the same
+    pub sound: u64,          // damaged, and sound all the same
+    pub reserves_out: u64,   // unsound by a reserve alone that is neither 0 nor 1
+    pub reserves_alone: u64, // and by one alone beside no top-up
+    pub reserves_sound: u64, // sound, with another reserve
     pub lengths: u64,
     pub answer_tables: u64,
 }
@@ -116,7 +119,7 @@ fn damage(random: &mut Random, t: &mut Book) {
     let i = row(random, t);
     let k = mate(random, t, i);
     let (x, y) = (random.index(t.count()), random.index(t.count()));
-    match random.below(22) {
+    match random.below(27) {
         0..=6 => {
             for _ in 0..random.pick(&[1, 1, 1, 2]) {
                 let word = place(random, &whole, t);
@@ -140,6 +143,7 @@ fn damage(random: &mut Random, t: &mut Book) {
         16..=17 if t.rows_used() < t.room() => add_row(random, t, i),
         18 => change_state(random, t, x),
         19..=21 => change_lists(random, t),
+        22..=24 => change_reserve(random, t, x),
         _ => change_topup(random, t, x),
     }
 }
@@ -288,6 +292,28 @@ fn change_topup(random: &mut Random, t: &mut Book, x: usize) {
     a[ACCOUNT_TOPUP] = random.pick(&[0, 1, MOST_AMOUNT, MOST_AMOUNT + 1]);
     a[ACCOUNT_DECLINES] = random.range(0, 3);
     a[ACCOUNT_LAST_DECLINE] = random.pick(&[0, 1, day, day + 1]);
+    a[ACCOUNT_RESERVE] = random.range(0, 2);
+}
+
+/// The reserve of an account, now and then without the top-up beside it.
+fn change_reserve(random: &mut Random, t: &mut Book, x: usize) {
+    let a = account_of(t, x);
+    a[ACCOUNT_RESERVE] = random.pick(&[-1, 0, 1, 1, 1, 2]);
+    if random.once_in(4) {
+        a[ACCOUNT_THRESHOLD..=ACCOUNT_LAST_DECLINE].fill(0);
+    }
+}
+
+/// Whether reserves of a kind are all that makes a book unsound.
+fn unsound_by_reserve(t: &Book, fault: fn(&[i64]) -> bool) -> bool {
+    let mut mended = t.clone();
+    mended.accounts.chunks_exact_mut(ACCOUNT_WORDS).filter(|a| fault(a)).for_each(|a| a[ACCOUNT_RESERVE] = 0);
+    mended != *t && MODEL.is_sound(&mended) && !MODEL.is_sound(t)
+}
+
+/// Whether an account that both books have has another reserve.
+fn other_reserve(x: &Book, y: &Book) -> bool {
+    x.all_accounts().zip(y.all_accounts()).any(|(a, b)| a[ACCOUNT_RESERVE] != b[ACCOUNT_RESERVE])
 }
 
 /// Tables longer or shorter than a book's.
@@ -362,7 +388,11 @@ pub fn run(random: &mut Random, host: &mut Host, whole: &Book, met: &mut Met) ->
         damage(random, &mut damaged);
     }
     met.books += 1;
-    met.sound += MODEL.is_sound(&damaged) as u64;
+    let sound = MODEL.is_sound(&damaged);
+    met.sound += sound as u64;
+    met.reserves_out += unsound_by_reserve(&damaged, |a| !(0..=1).contains(&a[ACCOUNT_RESERVE])) as u64;
+    met.reserves_alone += unsound_by_reserve(&damaged, |a| a[ACCOUNT_TOPUP] == 0 && a[ACCOUNT_RESERVE] == 1) as u64;
+    met.reserves_sound += (sound && other_reserve(&damaged, whole)) as u64;
     let call = call(random, host, whole, met);
     match Pair::new(damaged.clone()).call(&call) {
         Ok(_) => Ok(()),

@@ -120,6 +120,9 @@ impl Host {
         if let Some(event) = beside_held(random, book) {
             return event;
         }
+        if let Some(event) = beside_reserve(random, book) {
+            return event;
+        }
         let die = if book.rows_used() < self.fill { random.range(7, 42) } else { random.below(100) };
         let fit = match die {
             0..=6 => account(random, book, |n| book.state(n) == STATE_UNUSED).map(|n| open(random, n)),
@@ -134,11 +137,7 @@ impl Host {
                 let verdict = random.below(2);
                 of_row(random, book, is_held_toll, EVENT_DECISION, verdict)
             }
-            70..=79 => {
-                let paid = random.pick(&[1, 0, 0, 0]);
-                account(random, book, |n| MODEL.topup_due(book, n).1 == 1)
-                    .map(|n| event(EVENT_TOPUP_RESULT, n, &[0, paid]))
-            }
+            70..=79 => account(random, book, |n| MODEL.topup_due(book, n).1 == 1).map(|n| result(random, book, n)),
             80..=83 => {
                 account(random, book, |n| book.state(n) == STATE_OPEN).map(|n| event(EVENT_CLOSE_REQUEST, n, &[]))
             }
@@ -271,7 +270,7 @@ fn up_to_threshold(random: &mut Random, book: &Book, n: i64) -> i64 {
     (threshold + random.pick(&[0, 1, 1]) - balance(book, n) - held_debts(book, n)).clamp(1, MOST_AMOUNT)
 }
 
-fn account_words(book: &Book, n: i64) -> Option<&[i64]> {
+pub fn account_words(book: &Book, n: i64) -> Option<&[i64]> {
     book.all_accounts().nth(usize::try_from(n - 1).ok()?)
 }
 
@@ -293,6 +292,67 @@ pub fn is_low_through_held(book: &Book, n: i64) -> bool {
             && balance(book, n) + held_debts(book, n) > x[ACCOUNT_THRESHOLD]
     };
     account_words(book, n).is_some_and(fits)
+}
+
+/// Now and then a reserve added or removed, or a result where one is: rather one that concerns it.
+fn beside_reserve(random: &mut Random, book: &Book) -> Option<Event> {
+    match random.below(30) {
+        0..=4 => return reserve(random, book),
+        5..=9 => {}
+        _ => return None,
+    }
+    let has_reserve = |n: i64| account_words(book, n).is_some_and(|x| x[ACCOUNT_RESERVE] == 1);
+    let is_due = |n: &i64| has_reserve(*n) && MODEL.topup_due(book, *n).1 == 1;
+    let due: Vec<i64> = (1..=book.count() as i64).filter(is_due).collect();
+    let asked: Vec<i64> = due.iter().copied().filter(|n| declines(book, *n) == 2).collect();
+    let from = if asked.is_empty() { due } else { asked };
+    if from.is_empty() {
+        return None;
+    }
+    let n = random.pick(&from);
+    Some(result(random, book, n))
+}
+
+/// A reserve added or removed: mostly where it can be, and rather where a result was declined or the account is not open any
+/// more; now and then where it is there already or isn't, without a top-up, or by a word that is neither 0 nor 1.
+fn reserve(random: &mut Random, book: &Book) -> Option<Event> {
+    let adds = random.below(2);
+    let before = if random.once_in(8) { adds } else { 1 - adds };
+    let die = random.below(14);
+    let wanted = |n: i64| {
+        let Some(x) = account_words(book, n) else { return false };
+        let fits = x[ACCOUNT_TOPUP] > 0 && x[ACCOUNT_RESERVE] == before;
+        match die {
+            0 => x[ACCOUNT_STATE] == STATE_CLOSED,
+            1 => is_live(book, n) && x[ACCOUNT_TOPUP] == 0,
+            2 => fits && x[ACCOUNT_STATE] == STATE_PENDING,
+            3..=6 => fits && is_reopened(book, n),
+            7 | 8 => fits && x[ACCOUNT_DECLINES] == 1,
+            9 | 10 => fits && x[ACCOUNT_DECLINES] == 2,
+            _ => fits && x[ACCOUNT_STATE] == STATE_OPEN,
+        }
+    };
+    let some = (1..=book.count() as i64).any(wanted);
+    let found = if some { account(random, book, wanted) } else { None };
+    let word = if random.once_in(20) { random.pick(&[-1, 2]) } else { adds };
+    found.map(|n| event(EVENT_RESERVE, n, &[word]))
+}
+
+fn declines(book: &Book, n: i64) -> i64 {
+    account_words(book, n).map_or(0, |x| x[ACCOUNT_DECLINES])
+}
+
+/// Mostly declined, but a third one as often as not.
+fn result(random: &mut Random, book: &Book, n: i64) -> Event {
+    let third = declines(book, n) == 2;
+    let paid = if third { random.below(2) } else { random.pick(&[1, 0, 0]) };
+    event(EVENT_TOPUP_RESULT, n, &[0, paid])
+}
+
+/// Closed once, and pending again by a returned check: no other pending account has a refund.
+pub fn is_reopened(book: &Book, n: i64) -> bool {
+    let refund = |r: &[i64]| r[ROW_KIND] == KIND_REFUND && r[ROW_ACCOUNT] == n;
+    book.state(n) == STATE_PENDING && book.used_rows().any(refund)
 }
 
 /// An event on a row that passes a test, with its account; none where none does, but now and then any row.

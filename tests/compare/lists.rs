@@ -1,13 +1,13 @@
 //! Lists of calls from an opening, made while they run; what they met; and the shortest failing part of one.
-use crate::generate::{is_low_through_held, Host, Opening, LAST_STAGE};
+use crate::generate::{account_words, is_low_through_held, is_reopened, Host, Opening, LAST_STAGE};
 use crate::pair::{Call, Pair};
 use calls::random::Random;
 use calls::words::*;
 use calls::{Book, Event, Table, EVENT_A, EVENT_ACCOUNT, EVENT_B, EVENT_KIND, MODEL};
 use std::time::{Duration, Instant};
 
-pub const KINDS: usize = EVENT_RATE_LIST as usize + 1; // of events, with 0
-pub const NUMBERS: usize = LIST as usize + 1; // that an event may be answered by
+pub const KINDS: usize = EVENT_RESERVE as usize + 1; // of events, with 0
+pub const NUMBERS: usize = RESERVE as usize + 1; // that an event may be answered by
 
 /// What the lists met: a comparison that met too little shows little.
 #[derive(Default)]
@@ -28,6 +28,7 @@ pub struct Met {
     pub lists_early: u64, // and for their first day
     pub tolls: Tolls,
     pub held_results: [u64; 2], // top-ups declined, paid: results on accounts low only through held debts
+    pub reserves: Reserves,
 }
 
 /// Tolls accepted, by the rate list of their passage day.
@@ -55,6 +56,44 @@ impl Tolls {
     }
 }
 
+pub const DECLINES: usize = 3; // how many an account may have, 0 among them
+
+/// Events 11, to remove and to add, and results, declined and paid, by the account before them.
+#[derive(Default)]
+pub struct Reserves {
+    pub changed: [[u64; DECLINES]; 2], // removed, added: by the declines
+    pub pending: [u64; 2],             // of them on pending accounts but those closed once
+    pub reopened: [u64; 2],            // and on these
+    pub closed: [u64; 2],              // refused on a closed account with a top-up
+    pub untimely: [u64; 2],            // without a top-up
+    pub refused: [u64; 2],             // as none is there, as one is
+    pub results: [[u64; DECLINES]; 2], // declined, paid, with a reserve: by the declines
+    pub alone: [[u64; DECLINES]; 2],   // without one
+}
+
+impl Reserves {
+    fn note(&mut self, before: &Book, event: &Event, number: i64) {
+        let (n, adds) = (event[EVENT_ACCOUNT], event[EVENT_A] as usize);
+        let x = account_words(before, n).expect("a used account");
+        match number {
+            POSTED => {
+                self.changed[adds][x[ACCOUNT_DECLINES] as usize] += 1;
+                self.reopened[adds] += is_reopened(before, n) as u64;
+                self.pending[adds] += (x[ACCOUNT_STATE] == STATE_PENDING && !is_reopened(before, n)) as u64;
+            }
+            CLOSED => self.closed[adds] += (x[ACCOUNT_TOPUP] > 0) as u64,
+            UNTIMELY => self.untimely[adds] += 1,
+            _ => self.refused[adds] += 1,
+        }
+    }
+
+    fn note_result(&mut self, before: &Book, event: &Event) {
+        let x = account_words(before, event[EVENT_ACCOUNT]).expect("a used account");
+        let of = if x[ACCOUNT_RESERVE] == 1 { &mut self.results } else { &mut self.alone };
+        of[event[EVENT_B] as usize][x[ACCOUNT_DECLINES] as usize] += 1;
+    }
+}
+
 impl Met {
     pub fn accepted(&self, kind: usize) -> u64 {
         self.answers[kind][POSTED as usize]
@@ -66,7 +105,7 @@ impl Met {
 
     /// Counts an event by what it does to the model's book.
     fn note(&mut self, before: &Book, event: &Event, answer: &[i64], after: &Book) {
-        let kind = if (EVENT_OPEN..=EVENT_RATE_LIST).contains(&event[EVENT_KIND]) { event[EVENT_KIND] } else { 0 };
+        let kind = if (EVENT_OPEN..=EVENT_RESERVE).contains(&event[EVENT_KIND]) { event[EVENT_KIND] } else { 0 };
         let number = answer[ANSWER_NUMBER];
         self.events += 1;
         self.answers[kind as usize][number as usize] += 1;
@@ -77,6 +116,8 @@ impl Met {
             (EVENT_TICK, POSTED) => self.note_tick(before, after),
             (EVENT_RETURNED_CHECK, POSTED) => self.reopened += became(before, after, STATE_CLOSED, STATE_PENDING),
             (EVENT_TOLL, POSTED) => self.tolls.note(before, event[EVENT_B]),
+            (EVENT_TOPUP_RESULT, POSTED) => self.reserves.note_result(before, event),
+            (EVENT_RESERVE, POSTED | CLOSED | UNTIMELY | RESERVE) => self.reserves.note(before, event, number),
             (EVENT_TOPUP_RESULT, UNTIMELY) if is_low_through_held(before, event[EVENT_ACCOUNT]) => {
                 self.held_results[event[EVENT_B] as usize] += 1;
             }

@@ -10,7 +10,7 @@ mod pair;
 use calls::random::Random;
 use calls::words::{CEILING, MOST_ACCOUNTS, MOST_EVENTS, MOST_ROWS, UNSOUND};
 use generate::{Host, Opening};
-use lists::{Plan, KINDS, NUMBERS};
+use lists::{Plan, DECLINES, KINDS, NUMBERS};
 use pair::Pair;
 
 const LISTS: u64 = 400;
@@ -73,6 +73,9 @@ fn large_books(seed: u64, met: &mut lists::Met, damaged: &mut damage::Met) {
 /// Fails where the events or the damaged books met too little to show anything.
 fn enough(met: &lists::Met, damaged: &damage::Met) -> Result<(), String> {
     let accepted: u64 = (0..KINDS).map(|k| met.accepted(k)).sum();
+    let r = &met.reserves;
+    let both = |of: [u64; 2]| of[0].min(of[1]);
+    let after = |of: &[[u64; DECLINES]; 2], declines: usize| both([of[0][declines], of[1][declines]]);
     let wants = [
         ("events", met.events, 20_000),
         ("accepted events in a hundred", 100 * accepted / met.events, 40),
@@ -94,8 +97,23 @@ fn enough(met: &lists::Met, damaged: &damage::Met) -> Result<(), String> {
         ("tolls before all rate lists", met.tolls.before_all, 300),
         ("declined results on accounts low only through held debts", met.held_results[0], 60),
         ("paid results on accounts low only through held debts", met.held_results[1], 60),
+        ("reserves removed or added before a decline", after(&r.changed, 0), 50),
+        ("reserves removed or added after one decline", after(&r.changed, 1), 100),
+        ("reserves removed or added after two declines", after(&r.changed, 2), 50),
+        ("reserves removed or added on pending accounts", both(r.pending), 50),
+        ("reserves removed or added on accounts closed once", both(r.reopened), 10),
+        ("reserves refused on closed accounts", both(r.closed), 20),
+        ("reserves refused without a top-up", both(r.untimely), 50),
+        ("reserves refused that are there, or to be removed and not there", both(r.refused), 25),
+        ("results beside a reserve before a decline", after(&r.results, 0), 20),
+        ("results beside a reserve after one decline", after(&r.results, 1), 20),
+        ("results of a reserve, declined or paid", after(&r.results, 2), 20),
+        ("results after two declines without a reserve", after(&r.alone, 2), 10),
         ("damaged books", damaged.books, 20_000),
         ("damaged books in a hundred that are sound", 100 * damaged.sound / damaged.books, 5),
+        ("books unsound by a reserve out of its range alone", damaged.reserves_out, 300),
+        ("books unsound by a reserve without a top-up alone", damaged.reserves_alone, 300),
+        ("books sound with another reserve", damaged.reserves_sound, 100),
         ("damaged lengths", damaged.lengths, 2_000),
         ("odd answer tables", damaged.answer_tables, 2_000),
     ];
@@ -124,7 +142,7 @@ fn main() {
     small_books(seed, &mut met, &mut damaged);
     large_books(seed, &mut met, &mut damaged);
     let accepted: Vec<String> = (1..KINDS).map(|k| format!("{}/{}", met.accepted(k), met.tried(k))).collect();
-    println!("{} events from {} openings; events 1 to 10 accepted: {}", met.events, met.lists, accepted.join(" "));
+    println!("{} events from {} openings; events 1 to 11 accepted: {}", met.events, met.lists, accepted.join(" "));
     println!(
         "{} tolls raised, {} holds ended, {} accounts closed; {} damaged books, {} of them sound",
         met.raised, met.holds_ended, met.closed, damaged.books, damaged.sound
@@ -136,6 +154,17 @@ fn main() {
     println!(
         "results on accounts low only through held debts: {} declined, {} paid",
         met.held_results[0], met.held_results[1]
+    );
+    let r = &met.reserves;
+    println!(
+        "reserves removed, added, by declines {:?}; pending {:?}, closed once {:?}",
+        r.changed, r.pending, r.reopened
+    );
+    println!("refused: closed {:?}, without a top-up {:?}, reserve {:?}", r.closed, r.untimely, r.refused);
+    println!("results declined, paid, by declines: with a reserve {:?}, without {:?}", r.results, r.alone);
+    println!(
+        "damaged books unsound by a reserve alone: {} out of its range, {} without a top-up; sound with another {}",
+        damaged.reserves_out, damaged.reserves_alone, damaged.reserves_sound
     );
     if let Err(why) = enough(&met, &damaged) {
         println!("{why}");

@@ -47,7 +47,7 @@ pub fn opening(values: &[i64]) -> Vec<u8> {
 pub fn event(random: &mut Random) -> Event {
     let account = random.pick(&[1, 2, 3, 4, 7, 63, 64]);
     let row = random.range(1, 60);
-    match random.below(15) {
+    match random.below(16) {
         0 | 1 => calls::event(EVENT_OPEN, account, &[random.pick(&[0, 500]), random.pick(&[0, 1000])]),
         2..=5 => {
             let back = random.pick(&[0, 0, 3, 60, 61]);
@@ -72,6 +72,7 @@ pub fn event(random: &mut Random) -> Event {
             }
             calls::event(EVENT_RATE_LIST, 0, &words)
         }
+        14 => calls::event(EVENT_RESERVE, account, &[random.pick(&[0, 1, 1, 0, 1, 1, 0, 2])]),
         _ => calls::event(EVENT_TICK, 0, &[]),
     }
 }

@@ -28,6 +28,7 @@
 #define VERDICT_UPHELD 1
 #define TOPUP_DECLINED 0
 #define TOPUP_PAID 1
+#define RESERVE_ADDED 1
 
 /* Classes of vehicles, by axles and by height in inches. */
 enum { NO_CLASS, CLASS_1, CLASS_2, CLASS_3 };
@@ -54,7 +55,7 @@ struct header {
 };
 
 struct account {
-    int64_t state, request_day, returned, threshold, topup, declines, last_decline;
+    int64_t state, request_day, returned, threshold, topup, declines, last_decline, reserve;
 };
 
 struct row {

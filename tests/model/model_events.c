@@ -1,4 +1,4 @@
-/* Events 1 to 8 and 10, and settlement. */
+/* Events 1 to 8, 10 and 11, and settlement. */
 #include "model_book.h"
 
 int64_t balance_of(const struct book *b, int64_t account)
@@ -112,6 +112,8 @@ static bool is_well_formed(const event *e)
         return e->account == 0 && e->a == 0 && e->b == 0 && short_form;
     case TOLL_LEDGER_EVENT_RATE_LIST:
         return e->account == 0 && within(1, e->a, TOLL_LEDGER_DAYS) && rates_fit(list_in(e).rates);
+    case TOLL_LEDGER_EVENT_RESERVE:
+        return within(0, e->a, RESERVE_ADDED) && e->b == 0 && short_form;
     default:
         return false;
     }
@@ -297,14 +299,15 @@ static struct answer decide(const struct book *b, const event *e)
     return posted(b, before);
 }
 
-/* "Declined: count up, last decline today; the third clears all four words." */
+/* "Declined: count up, last decline today; the third clears all four words"; "a reserve that is
+ * declined removes both methods". */
 static struct answer decline(const struct book *b, struct account *x)
 {
     struct answer answer = posted(b, b->header->used);
     x->declines++;
     x->last_decline = b->header->day;
     if (x->declines == LAST_DECLINE) {
-        x->threshold = x->topup = x->declines = x->last_decline = 0;
+        x->threshold = x->topup = x->declines = x->last_decline = x->reserve = 0;
         answer.removed = 1;
     }
     return answer;
@@ -318,8 +321,21 @@ static struct answer topup_result(const struct book *b, struct account *x, const
         return decline(b, x);
     if (!has_room(b, 1))
         return refused(TOLL_LEDGER_FULL);
+    if (x->declines == LAST_DECLINE - 1) /* "the next result concerns the reserve" */
+        x->reserve = 0;                  /* it takes the primary's place */
     x->declines = x->last_decline = 0;
     return add_payment(b, e->account, x->topup, TOLL_LEDGER_METHOD_CARD);
+}
+
+/* Without a primary 11; "16 for adding one that exists or removing one that doesn't". */
+static struct answer change_reserve(const struct book *b, struct account *x, const event *e)
+{
+    if (x->topup == 0)
+        return refused(TOLL_LEDGER_UNTIMELY);
+    if (x->reserve == e->a)
+        return refused(TOLL_LEDGER_RESERVE);
+    x->reserve = e->a;
+    return posted(b, b->header->used);
 }
 
 static struct answer request_close(const struct book *b, struct account *x)
@@ -345,11 +361,12 @@ static struct answer add_list(const struct book *b, const event *e)
     return posted(b, h->used);
 }
 
-/* "Closed: events 2, 3, 7, 8 on state 3." */
+/* "Closed: events 2, 3, 7, 8 on state 3", and event 11. */
 static bool needs_open(int64_t kind)
 {
     return kind == TOLL_LEDGER_EVENT_TOLL || kind == TOLL_LEDGER_EVENT_PAYMENT ||
-           kind == TOLL_LEDGER_EVENT_TOPUP_RESULT || kind == TOLL_LEDGER_EVENT_CLOSE_REQUEST;
+           kind == TOLL_LEDGER_EVENT_TOPUP_RESULT || kind == TOLL_LEDGER_EVENT_CLOSE_REQUEST ||
+           kind == TOLL_LEDGER_EVENT_RESERVE;
 }
 
 struct answer post(const struct book *b, const event *e)
@@ -380,6 +397,8 @@ struct answer post(const struct book *b, const event *e)
         return decide(b, e);
     case TOLL_LEDGER_EVENT_TOPUP_RESULT:
         return topup_result(b, x, e);
+    case TOLL_LEDGER_EVENT_RESERVE:
+        return change_reserve(b, x, e);
     default:
         return request_close(b, x);
     }

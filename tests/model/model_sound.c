@@ -179,7 +179,7 @@ static bool state_fits(const struct account *x, int64_t today)
     switch (x->state) {
     case TOLL_LEDGER_STATE_UNUSED:
         return (x->request_day | x->returned | x->threshold | x->topup | x->declines |
-                x->last_decline) == 0;
+                x->last_decline | x->reserve) == 0;
     case TOLL_LEDGER_STATE_OPEN:
         return x->request_day == 0;
     case TOLL_LEDGER_STATE_PENDING:
@@ -194,8 +194,8 @@ static bool topup_fits(const struct account *x, int64_t today)
 {
     return within(0, x->threshold, MOST_AMOUNT) && within(0, x->topup, MOST_AMOUNT) &&
            within(0, x->declines, LAST_DECLINE - 1) && within(0, x->last_decline, today) &&
-           (x->declines == 0) == (x->last_decline == 0) &&
-           (x->topup != 0 || (x->threshold == 0 && x->declines == 0));
+           (x->declines == 0) == (x->last_decline == 0) && within(0, x->reserve, RESERVE_ADDED) &&
+           (x->topup != 0 || (x->threshold == 0 && x->declines == 0 && x->reserve == 0));
 }
 
 /* "Used sources = settled debits, no unused source beside an unsettled unheld debit, and in state 3

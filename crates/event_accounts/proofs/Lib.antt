@@ -1,2 +1,3 @@
 pub mod OpenLaws
 pub mod RequestLaws
+pub mod ReserveLaws

@@ -1,12 +1,15 @@
-// Events 1 and 8, which change an account alone.
+// Events 1, 8 and 11, which change an account alone.
 #![tactic(auto)]
 
 ghost use Rattle.std.specs.Prelude.{◌≡◌, true, Ok};
-ghost use Rattle.records.specs.Outcomes.{answer_of};
+ghost use Rattle.records.specs.Outcomes.{answer_of, number_by};
+ghost use Rattle.lists.specs.Tests.{first};
+ghost use Rattle.rules.specs.Book.{Book, account};
 ghost use Rattle.rules.specs.Tables.{sound_tables};
 ghost use Rattle.posting.specs.Posts.{Posts};
 ghost use Rattle.event_refusals.specs.Admissions.{Admitted, Names};
-ghost use Rattle.records.specs.Codes.{event_open, event_close_request};
+ghost use Rattle.records.specs.Codes.{event_open, event_close_request, event_reserve};
+ghost use Rattle.event_accounts.specs.AccountEvents.{reserve_refusals};
 ghost use Rattle.lent.specs.Lent.{lent_mut, SameTables};
 
 use lent::TablesMut;
@@ -46,5 +49,33 @@ pub fn request_close(t: &mut TablesMut, e: Instruction, x: Account) -> Result<Po
     }
     let pending = x.request_close(t.day());
     write_account(t.accounts, (e.account - 1) as usize, pending);
+    Ok(posted(t.used(), 0, 0, false))
+}
+
+// 11: the account has no primary; 16: the reserve to add is there already, or there is none to remove.
+fn check_reserve(e: Instruction, x: Account) -> Result<(), Refusal>
+    ensures { (b : Book) → x ≡ account b e.account → number_by result ≡ first (reserve_refusals b e) }
+{
+    if x.topup == 0 {
+        return Err(Refusal::Untimely);
+    }
+    if x.reserve == e.a {
+        return Err(Refusal::Reserve);
+    }
+    Ok(())
+}
+
+// Event 11: the reserve is added or removed.
+pub fn set_reserve(t: &mut TablesMut, e: Instruction, x: Account) -> Result<Posting, Refusal>
+    requires { (sound_tables (lent_mut t.old) ≡ true)
+        × (e.kind ≡ event_reserve)
+        × Admitted (lent_mut t.old) e
+        × Names (lent_mut t.old) e x }
+    ensures same { SameTables t.old t.new }
+    ensures posts { Posts (lent_mut t.old) (lent_mut t.new) e (answer_of result) }
+{
+    check_reserve(e, x)?;
+    let reserved = x.set_reserve(e.a);
+    write_account(t.accounts, (e.account - 1) as usize, reserved);
     Ok(posted(t.used(), 0, 0, false))
 }

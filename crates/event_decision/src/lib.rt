@@ -22,15 +22,12 @@ use event_lookups::Lookup;
 use lent::TablesMut;
 use posting::answers::posted;
 use posting::rows::{add_row, released, row_naming};
-use records::codes::{DISPUTE_UPHELD, KIND_CREDIT, KIND_TOLL};
+use records::codes::{CODE_YES, DISPUTE_UPHELD, KIND_CREDIT, KIND_TOLL};
 use records::refusals::Refusal;
 use records::{Instruction, Posting, Row};
 use row_tests::{held_toll, is_of, remaining_of};
 use settlement::settle_from;
 use table_rows::write_row;
-
-// The verdict that upholds the dispute.
-const YES: u64 = 1;
 
 // Why an admitted event 6 is refused, if it is.
 fn check_decision(t: &TablesMut, e: Instruction) -> Result<(), Refusal>
@@ -46,7 +43,7 @@ fn check_decision(t: &TablesMut, e: Instruction) -> Result<(), Refusal>
     if !held_toll(r) {
         return Err(Refusal::Untimely);
     }
-    if (e.b == YES) & !t.has_room(1) {
+    if (e.b == CODE_YES) & !t.has_room(1) {
         return Err(Refusal::Full);
     }
     Ok(())
@@ -109,7 +106,7 @@ pub fn decide(t: &mut TablesMut, e: Instruction, k: Lookup) -> Result<Posting, R
     ensures posts { Posts (lent_mut t.old) (lent_mut t.new) e (answer_of result) }
 {
     check_decision(t, e)?;
-    if e.b == YES {
+    if e.b == CODE_YES {
         let used = t.used();
         uphold(t, e);
         settle_from(t.journal, used as usize + 1, e.account, k.source, k.debit);

@@ -6,20 +6,22 @@ use Prim.Native.Nat.{ℕ, zero, suc}
 use Rattle.rules.specs.Book.{Instruction}
 use Rattle.rules.specs.Refusals.{form_of, well_formed}
 
-pub no-form : (k : ℕ) (e : Instruction) → k ≢ 1 → k ≢ 2 → k ≢ 3 → k ≢ 4 → k ≢ 5 → k ≢ 6 → k ≢ 7 → k ≢ 8 → k ≢ 9 → k ≢ 10 → form_of k e ≡ false
+pub no-form : (k : ℕ) (e : Instruction) → k ≢ 1 → k ≢ 2 → k ≢ 3 → k ≢ 4 → k ≢ 5 → k ≢ 6 → k ≢ 7 → k ≢ 8 → k ≢ 9 → k ≢ 10 → k ≢ 11
+    → form_of k e ≡ false
 unfolding form_of
-no-form zero e a b c d f g h i j l = refl
-no-form (suc zero) e a b c d f g h i j l = absurd (a refl)
-no-form (suc (suc zero)) e a b c d f g h i j l = absurd (b refl)
-no-form (suc (suc (suc zero))) e a b c d f g h i j l = absurd (c refl)
-no-form (suc (suc (suc (suc zero)))) e a b c d f g h i j l = absurd (d refl)
-no-form (suc (suc (suc (suc (suc zero))))) e a b c d f g h i j l = absurd (f refl)
-no-form (suc (suc (suc (suc (suc (suc zero)))))) e a b c d f g h i j l = absurd (g refl)
-no-form (suc (suc (suc (suc (suc (suc (suc zero))))))) e a b c d f g h i j l = absurd (h refl)
-no-form (suc (suc (suc (suc (suc (suc (suc (suc zero)))))))) e a b c d f g h i j l = absurd (i refl)
-no-form (suc (suc (suc (suc (suc (suc (suc (suc (suc zero))))))))) e a b c d f g h i j l = absurd (j refl)
-no-form (suc (suc (suc (suc (suc (suc (suc (suc (suc (suc zero)))))))))) e a b c d f g h i j l = absurd (l refl)
-no-form (suc (suc (suc (suc (suc (suc (suc (suc (suc (suc (suc k))))))))))) e a b c d f g h i j l = refl
+no-form zero e a b c d f g h i j l m = refl
+no-form (suc zero) e a b c d f g h i j l m = absurd (a refl)
+no-form (suc (suc zero)) e a b c d f g h i j l m = absurd (b refl)
+no-form (suc (suc (suc zero))) e a b c d f g h i j l m = absurd (c refl)
+no-form (suc (suc (suc (suc zero)))) e a b c d f g h i j l m = absurd (d refl)
+no-form (suc (suc (suc (suc (suc zero))))) e a b c d f g h i j l m = absurd (f refl)
+no-form (suc (suc (suc (suc (suc (suc zero)))))) e a b c d f g h i j l m = absurd (g refl)
+no-form (suc (suc (suc (suc (suc (suc (suc zero))))))) e a b c d f g h i j l m = absurd (h refl)
+no-form (suc (suc (suc (suc (suc (suc (suc (suc zero)))))))) e a b c d f g h i j l m = absurd (i refl)
+no-form (suc (suc (suc (suc (suc (suc (suc (suc (suc zero))))))))) e a b c d f g h i j l m = absurd (j refl)
+no-form (suc (suc (suc (suc (suc (suc (suc (suc (suc (suc zero)))))))))) e a b c d f g h i j l m = absurd (l refl)
+no-form (suc (suc (suc (suc (suc (suc (suc (suc (suc (suc (suc zero))))))))))) e a b c d f g h i j l m = absurd (m refl)
+no-form (suc (suc (suc (suc (suc (suc (suc (suc (suc (suc (suc (suc k)))))))))))) e a b c d f g h i j l m = refl
 
 -- of a kind that is known, its form
 pub well_formed-of : (e : Instruction) (k : ℕ) → e.kind ≡ k → form_of k e ≡ well_formed e

@@ -3,15 +3,15 @@
 
 ghost use Rattle.std.specs.Prelude.{◌≡◌};
 ghost use Rattle.rules.specs.Refusals.{zero_from-f, zero_from-c, open_form, toll_form, payment_form, return_form, dispute_form};
-ghost use Rattle.rules.specs.Refusals.{decision_form, result_form, request_form, tick_form, list_form, well_formed};
+ghost use Rattle.rules.specs.Refusals.{decision_form, result_form, request_form, tick_form, list_form, reserve_form, well_formed};
 ghost use Rattle.rules.specs.Schedule.{rates_fit};
 ghost use Rattle.rules.specs.RateLists.{list_of};
 
 use records::Instruction;
 use records::codes::{
-    EVENT_CLOSE_REQUEST, EVENT_DECISION, EVENT_DISPUTE, EVENT_OPEN, EVENT_PAYMENT, EVENT_RATE_LIST,
-    EVENT_RETURNED_CHECK, EVENT_TICK, EVENT_TOLL, EVENT_TOPUP_RESULT, METHOD_CARD, METHOD_CHECK,
-    MODE_PLATE, MODE_TAG,
+    CODE_YES, EVENT_CLOSE_REQUEST, EVENT_DECISION, EVENT_DISPUTE, EVENT_OPEN, EVENT_PAYMENT,
+    EVENT_RATE_LIST, EVENT_RESERVE, EVENT_RETURNED_CHECK, EVENT_TICK, EVENT_TOLL,
+    EVENT_TOPUP_RESULT, METHOD_CARD, METHOD_CHECK, MODE_PLATE, MODE_TAG,
 };
 use records::limits::{
     FINAL_DAY, HIGHEST_CHARGE, HIGHEST_HEIGHT, HIGHEST_PASSAGE, HIGHEST_PAYMENT, HIGHEST_RATE,
@@ -71,13 +71,13 @@ fn dispute_form(e: Instruction) -> bool
 fn decision_form(e: Instruction) -> bool
     ensures { result ≡ decision_form e }
 {
-    (e.b <= 1) & zero_from_c(e)
+    (e.b <= CODE_YES) & zero_from_c(e)
 }
 
 fn result_form(e: Instruction) -> bool
     ensures { result ≡ result_form e }
 {
-    (e.a == 0) & (e.b <= 1) & zero_from_c(e)
+    (e.a == 0) & (e.b <= CODE_YES) & zero_from_c(e)
 }
 
 fn request_form(e: Instruction) -> bool
@@ -110,6 +110,12 @@ fn list_form(e: Instruction) -> bool
     (e.account == 0) & (((1 <= e.a) & (e.a <= FINAL_DAY)) & rates_form(e))
 }
 
+fn reserve_form(e: Instruction) -> bool
+    ensures { result ≡ reserve_form e }
+{
+    (e.a <= CODE_YES) & ((e.b == 0) & zero_from_c(e))
+}
+
 // The event has the words of its kind; a kind that is none of these has no form.
 pub fn well_formed(e: Instruction) -> bool
     ensures { result ≡ well_formed e }
@@ -127,6 +133,7 @@ pub fn well_formed(e: Instruction) -> bool
         EVENT_CLOSE_REQUEST => request_form(e),
         EVENT_TICK => tick_form(e),
         EVENT_RATE_LIST => list_form(e),
+        EVENT_RESERVE => reserve_form(e),
         _ => false,
     }
 }

@@ -13,8 +13,8 @@ ghost use Rattle.lent.specs.Lent.{lent_mut};
 use event_forms::well_formed;
 use lent::TablesMut;
 use records::codes::{
-    EVENT_CLOSE_REQUEST, EVENT_OPEN, EVENT_PAYMENT, EVENT_RATE_LIST, EVENT_TICK, EVENT_TOLL,
-    EVENT_TOPUP_RESULT, STATE_CLOSED, STATE_UNUSED,
+    EVENT_CLOSE_REQUEST, EVENT_OPEN, EVENT_PAYMENT, EVENT_RATE_LIST, EVENT_RESERVE, EVENT_TICK,
+    EVENT_TOLL, EVENT_TOPUP_RESULT, STATE_CLOSED, STATE_UNUSED,
 };
 use records::limits::MOST_LISTS;
 use records::refusals::Refusal;
@@ -56,7 +56,8 @@ fn account_closed(e: Instruction, x: Account) -> bool
     ((e.kind == EVENT_TOLL)
         | (e.kind == EVENT_PAYMENT)
         | (e.kind == EVENT_TOPUP_RESULT)
-        | (e.kind == EVENT_CLOSE_REQUEST))
+        | (e.kind == EVENT_CLOSE_REQUEST)
+        | (e.kind == EVENT_RESERVE))
         & (x.state == STATE_CLOSED)
 }
 

@@ -1,5 +1,5 @@
 -- Event 7, declined: the book that it makes, and whether the top-up is removed.
-use mathlib.Core.Path.{◌≡◌, refl, sym}
+use mathlib.Core.Path.{◌≡◌, sym}
 use mathlib.Core.Logic.{◌≢◌}
 use mathlib.Core.Bool.{Bool, true, false, not, cond, ◌&&◌}
 use Prim.Native.Nat.{◌+◌, ◌-◌}
@@ -9,11 +9,11 @@ use lib.IntN.{ℤ}
 use lib.Dec.{leb}
 use borrow.Author.Tests.{leb-true, leb-false, ne_eqb, not-false}
 use Rattle.records.specs.Codes.{code_yes, event_topup_result}
-use Rattle.records.specs.Layout.{threshold_place, topup_place, declines_place, declined_place}
+use Rattle.records.specs.Layout.{threshold_place, topup_place, declines_place, declined_place, reserve_place}
 use Rattle.records.specs.Encoding.{StorableAccount}
 use Rattle.records.proofs.FieldLaws.{storable-set}
+use Rattle.records.proofs.AccountLaws.{declined-cases}
 use Rattle.records.specs.AccountOperations.{last_decline, declined_on}
-use Rattle.records.specs.Updates.{with_topup, with_declines}
 use Rattle.lists.specs.Tests.{◌is◌}
 use Rattle.lists.proofs.TestLaws.{and_left, and_right}
 use Rattle.rules.specs.Book.{Account, Instruction, Book, account, put_account}
@@ -41,17 +41,15 @@ module _ (t : Tables) (s : sound_tables t ≡ true) (e : Instruction) where
   declined_account = declined_on b.day named
 
   pub declined-storable : StorableAccount declined_account
-  unfolding declined_on
-  declined-storable = go (last_decline named) refl
-    where
-      go : (z : Bool) → leb 2 named.declines ≡ z → StorableAccount (cond z (with_declines 0 0 (with_topup 0 0 named)) (with_declines (named.declines + 1) b.day named))
-      go true q =
-          storable-set _ declined_place 0 (omega arith)
-          (storable-set _ declines_place 0 (omega arith)
-          (storable-set _ topup_place 0 (omega arith) (storable-set _ threshold_place 0 (omega arith) (account-holds t s e.account))))
-      go false q =
-          storable-set _ declined_place b.day (omega (arith, day-le b.day b (sound-book t s).near))
-          (storable-set _ declines_place (named.declines + 1) (omega (arith, leb-false 2 named.declines q)) (account-holds t s e.account))
+  declined-storable =
+      declined-cases StorableAccount b.day named
+      (storable-set _ reserve_place 0 (omega arith)
+      (storable-set _ declined_place 0 (omega arith)
+      (storable-set _ declines_place 0 (omega arith)
+      (storable-set _ topup_place 0 (omega arith) (storable-set _ threshold_place 0 (omega arith) (account-holds t s e.account))))))
+      (λ q.
+      storable-set _ declined_place b.day (omega (arith, day-le b.day b (sound-book t s).near))
+      (storable-set _ declines_place (named.declines + 1) (omega (arith, leb-false 2 named.declines q)) (account-holds t s e.account)))
 
   module _ (k : e.kind ≡ event_topup_result) (q : 0 ≡ answer_number b e) (n : e.b ≢ code_yes) where
     changed : change_of e.kind b e ≡ put_account e.account declined_account b

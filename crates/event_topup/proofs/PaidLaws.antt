@@ -1,16 +1,16 @@
 -- Event 7, paid: the book that it makes.
 use mathlib.Core.Path.{◌≡◌, refl, sym, ap, ◌∙◌}
-use mathlib.Core.Bool.{false}
-use Prim.Native.Nat.{ℕ, ◌+◌, ◌-◌, ◌≤◌, ◌<◌}
+use mathlib.Core.Bool.{Bool, true, false, cond}
+use Prim.Native.Nat.{ℕ, ◌+◌, ◌-◌, ◌^◌, ◌≤◌, ◌<◌}
 use native.Mathlib.Omega.{arith}
 use mathlib.Core.List.{List, [], ◌∷◌, ◌++◌}
 use lib.ListN.{length, set, length-set}
 use lib.IntN.{ℤ}
 use borrow.Author.Tests.{ltb-false}
-use Rattle.records.specs.Layout.{topup_place, declines_place, declined_place}
+use Rattle.records.specs.Layout.{topup_place, declines_place, declined_place, reserve_place}
 use Rattle.records.specs.Encoding.{accounts_of, StorableRow, StorableAccount}
 use Rattle.records.proofs.FieldLaws.{storable-set}
-use Rattle.records.specs.AccountOperations.{topup_paid}
+use Rattle.records.specs.AccountOperations.{last_decline, topup_paid}
 use Rattle.rules.specs.Settlement.{settle}
 use Rattle.rules.specs.Book.{Account, Instruction, Book, account, put_account, add_row, with_rows}
 use Rattle.rules.specs.Events.{pay_topup, topup_result}
@@ -82,9 +82,14 @@ module _ (t : Tables) (e : Instruction) (p : PaidResult t e) where
         reference = omega arith;
       }
 
+  reserve-small : (z : Bool) → cond z 0 (account b n).reserve < 2 ^ 63
+  reserve-small true = omega arith
+  reserve-small false = (account-holds t p.sound n).each reserve_place
+
   pub paid-account-storable : StorableAccount paid_account
   paid-account-storable =
-      storable-set _ declined_place 0 (omega arith) (storable-set _ declines_place 0 (omega arith) (account-holds t p.sound n))
+      storable-set _ reserve_place _ (reserve-small (last_decline (account b n)))
+      (storable-set _ declined_place 0 (omega arith) (storable-set _ declines_place 0 (omega arith) (account-holds t p.sound n)))
 
   after-paid : after b e ≡ with_rows (settle n (b.rows ++ (topup_row b e ∷ []))) (put_account n paid_account b)
   after-paid =

@@ -2,7 +2,6 @@
 #![tactic(auto)]
 
 ghost use Rattle.std.specs.Prelude.{◌≡◌, true, Ok};
-ghost use Rattle.records.specs.AccountOperations.{last_decline};
 ghost use Rattle.rules.specs.Refusals.{answer_number};
 ghost use Rattle.records.specs.Outcomes.{number_by, answer_of};
 ghost use Rattle.rules.specs.Tables.{book_of, sound_tables};
@@ -17,14 +16,10 @@ use event_ends::pay_and_settle;
 use event_lookups::Lookup;
 use lent::TablesMut;
 use posting::answers::posted;
-use records::codes::METHOD_CARD;
-use records::limits::MOST_DECLINES;
+use records::codes::{CODE_YES, METHOD_CARD};
 use records::refusals::Refusal;
 use records::{Account, Instruction, Posting};
 use table_accounts::write_account;
-
-// The result that says that the top-up was paid.
-const PAID: u64 = 1;
 
 // Why an admitted event 7 is refused, if it is.
 fn check_result(t: &TablesMut, e: Instruction, k: Lookup) -> Result<(), Refusal>
@@ -37,13 +32,14 @@ fn check_result(t: &TablesMut, e: Instruction, k: Lookup) -> Result<(), Refusal>
     if !k.due {
         return Err(Refusal::Untimely);
     }
-    if (e.b == PAID) & !t.has_room(1) {
+    if (e.b == CODE_YES) & !t.has_room(1) {
         return Err(Refusal::Full);
     }
     Ok(())
 }
 
-// Paid: the declines are forgotten, and a card payment of the top-up amount is added; then settlement.
+// Paid: the declines are forgotten, a reserve that paid takes the primary's place, and a card payment of the top-up amount is added; then
+// settlement.
 fn pay_topup(t: &mut TablesMut, e: Instruction, x: Account, k: Lookup) -> Posting
     requires { PaidResult (lent_mut t.old) e
         × LooksUp (lent_mut t.old) e k
@@ -56,14 +52,7 @@ fn pay_topup(t: &mut TablesMut, e: Instruction, x: Account, k: Lookup) -> Postin
     pay_and_settle(t, e.account, x.topup, METHOD_CARD, k)
 }
 
-// Whether one decline more removes the top-up.
-fn removed_by_decline(x: Account) -> bool
-    ensures { result ≡ last_decline x }
-{
-    MOST_DECLINES <= x.declines
-}
-
-// Event 7: a paid or a declined top-up.
+// Event 7: a paid or a declined top-up. Declines and reserve alone tell whom the result concerns, the primary or its reserve.
 pub fn topup_result(
     t: &mut TablesMut,
     e: Instruction,
@@ -79,10 +68,10 @@ pub fn topup_result(
     ensures posts { Posts (lent_mut t.old) (lent_mut t.new) e (answer_of result) }
 {
     check_result(t, e, k)?;
-    if e.b == PAID {
+    if e.b == CODE_YES {
         return Ok(pay_topup(t, e, x, k));
     }
     let declined = x.decline(t.day());
     write_account(t.accounts, (e.account - 1) as usize, declined);
-    Ok(posted(t.used(), 0, 0, removed_by_decline(x)))
+    Ok(posted(t.used(), 0, 0, x.last_decline()))
 }

@@ -10,7 +10,7 @@ ghost use Rattle.posting.specs.Posts.{Posts};
 ghost use Rattle.event_refusals.specs.Admissions.{Admitted, Names};
 ghost use Rattle.lent.specs.Lent.{lent_mut, SameTables};
 
-use event_accounts::{open_account, request_close};
+use event_accounts::{open_account, request_close, set_reserve};
 use event_decision::decide;
 use event_dispute::hold_toll;
 use event_list::add_list;
@@ -24,14 +24,14 @@ use event_topup::topup_result;
 use lent::TablesMut;
 use records::codes::{
     EVENT_CLOSE_REQUEST, EVENT_DECISION, EVENT_DISPUTE, EVENT_OPEN, EVENT_PAYMENT, EVENT_RATE_LIST,
-    EVENT_RETURNED_CHECK, EVENT_TICK, EVENT_TOLL, EVENT_TOPUP_RESULT,
+    EVENT_RESERVE, EVENT_RETURNED_CHECK, EVENT_TICK, EVENT_TOLL, EVENT_TOPUP_RESULT,
 };
 use records::refusals::Refusal;
 use records::{Account, Instruction, Posting};
 
 // An admitted event, of the account x and with what has been looked up for it. No other kind is admitted.
-// Kept: the three go on one by one, since three of the ten functions take them all, and each asks for no more than it uses; so do the facts
-// of them (Admitted, Names, LooksUp), which are about the tables too.
+// Kept: the three go on one by one, since three of the eleven functions take them all, and each asks for no more than it uses; so do the
+// facts of them (Admitted, Names, LooksUp), which are about the tables too.
 pub fn post_admitted(
     t: &mut TablesMut,
     e: Instruction,
@@ -58,6 +58,7 @@ pub fn post_admitted(
         EVENT_CLOSE_REQUEST => request_close(t, e, x),
         EVENT_TICK => tick(t, e),
         EVENT_RATE_LIST => Ok(add_list(t, e)),
+        EVENT_RESERVE => set_reserve(t, e, x),
         _ => Err(Refusal::Malformed),
     }
 }

@@ -3,9 +3,9 @@ use mathlib.Core.Path.{◌≡◌, refl}
 use mathlib.Core.Bool.{false, not}
 use Prim.Native.Nat.{ℕ}
 use Rattle.lists.proofs.TestLaws.{positive, case_of, first-zero}
-use Rattle.records.specs.Numbers.{answer_malformed, answer_unknown, answer_taken, answer_closed, answer_unclassed, answer_misdated, answer_duplicate, answer_barred, answer_no_row, answer_untimely, answer_last_day, answer_full, answer_ceiling, answer_list_refused}
+use Rattle.records.specs.Numbers.{answer_malformed, answer_unknown, answer_taken, answer_closed, answer_unclassed, answer_misdated, answer_duplicate, answer_barred, answer_no_row, answer_untimely, answer_last_day, answer_full, answer_ceiling, answer_list_refused, answer_reserve}
 use Rattle.rules.specs.Book.{Instruction, Book}
-use Rattle.rules.specs.Refusals.{well_formed, list_refused, unknown, taken, on_closed, unclassed, misdated, duplicate, barred, no_row, untimely, last_day, full, ceiling, refusals, answer_number}
+use Rattle.rules.specs.Refusals.{well_formed, list_refused, unknown, taken, on_closed, unclassed, misdated, duplicate, barred, no_row, untimely, reserve_refused, last_day, full, ceiling, refusals, answer_number}
 
 pub record Accepted (b : Book) (e : Instruction) : Type 0 where
   pub formed : not (well_formed e) ≡ false
@@ -19,6 +19,7 @@ pub record Accepted (b : Book) (e : Instruction) : Type 0 where
   pub allowed : barred b e ≡ false
   pub named : no_row b e ≡ false
   pub timely : untimely b e ≡ false
+  pub changes : reserve_refused b e ≡ false
   pub later : last_day b e ≡ false
   pub fits : full b e ≡ false
   pub low : ceiling b e ≡ false
@@ -39,6 +40,7 @@ accepted b e q =
       allowed = fails answer_barred;
       named = fails answer_no_row;
       timely = fails answer_untimely;
+      changes = fails answer_reserve;
       later = fails answer_last_day;
       fits = fails answer_full;
       low = fails answer_ceiling;

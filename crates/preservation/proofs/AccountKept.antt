@@ -1,4 +1,4 @@
--- Sound stays sound: an account opened (event 1) and a close request (event 8).
+-- Sound stays sound: an account opened (event 1), a close request (event 8), a reserve added or removed (event 11).
 use mathlib.Core.Path.{◌≡◌, refl}
 use mathlib.Core.Bool.{Bool, true, false, ◌&&◌}
 use native.Mathlib.Omega.{arith}
@@ -7,19 +7,19 @@ use lib.Dec.{eqb, leb}
 use borrow.Author.Tests.{le-leb, eqb-true, not-false}
 use Rattle.records.specs.Layout.{returned_place}
 use Rattle.records.specs.Updates.{of_kind}
-use Rattle.records.specs.Codes.{event_open, event_close_request}
-use Rattle.records.specs.AccountOperations.{opened, close_requested_on}
+use Rattle.records.specs.Codes.{event_open, event_close_request, event_reserve, code_yes}
+use Rattle.records.specs.AccountOperations.{opened, close_requested_on, reserve_set}
 use Rattle.lists.specs.Tests.{◌is◌, ◌from◌to◌, ◌implies◌}
 use Rattle.lists.proofs.TestLaws.{and_left, and_right}
 use Rattle.records.specs.Limits.{highest_topup}
 use Rattle.rules.specs.Book.{Instruction, Book, account}
-use Rattle.rules.specs.Events.{open_account, request_close}
+use Rattle.rules.specs.Events.{open_account, request_close, set_reserve}
 use Rattle.rules.specs.Soundness.{state_fits, unused_zero, request_fits, topup_fits, decline_fits, returned_fits, used_is_paid, closed_clear}
-use Rattle.rules.specs.Refusals.{change_of, well_formed, form_of, open_form, unknown, taken}
+use Rattle.rules.specs.Refusals.{change_of, well_formed, form_of, open_form, reserve_form, zero_from-b, unknown, taken, untimely}
 use Rattle.rules.specs.SoundFacts.{Standing, SumsFit, Near}
-use Rattle.rules.proofs.StorableLaws.{unused-zero}
+use Rattle.rules.proofs.StorableLaws.{unused-zero, topup-parts}
 use Rattle.preservation.proofs.Accepted.{Accepted}
-use Rattle.preservation.proofs.LookupLaws.{today-fits, standing-of, counted_of, near-put_account, inside}
+use Rattle.preservation.proofs.LookupLaws.{today-fits, standing-of, counted_of, near-put_account, inside, used-state}
 
 -- ---- event 1
 
@@ -55,7 +55,7 @@ module _ (b : Book) (i : Instruction) where
           decline = le-leb 0 b.day (omega arith);
         }
       where
-        together : (t : Bool) → t implies i.a is 0 ≡ true → t implies i.a is 0 && true ≡ true
+        together : (t : Bool) → t implies i.a is 0 ≡ true → t implies i.a is 0 && true && true ≡ true
         together true e = rw e
         together false e = refl
 
@@ -82,3 +82,28 @@ module _ (b : Book) (i : Instruction) where
       near-put_account b.day b s i.account (close_requested_on b.day (account b i.account)) in_table refl
       (record { state = refl; zero = refl; request = today-fits b.day b s; topup = v.topup; decline = v.decline })
       (record { returned = w.returned; used-is-paid = w.used-is-paid; clear = refl })
+
+-- ---- event 11
+
+module _ (b : Book) (i : Instruction) where
+  abbrev event11 : Instruction
+  event11 = of_kind event_reserve i
+
+  pub set_reserve-near : Near b.day b → Accepted b event11 → Near b.day (change_of event_reserve b event11)
+  unfolding change_of set_reserve unknown untimely well_formed form_of reserve_form state_fits unused_zero request_fits topup_fits decline_fits returned_fits used_is_paid closed_clear
+  set_reserve-near s q =
+      let in_table : i.account from 1 to length b.accounts ≡ true = inside i.account (length b.accounts) _ q.known in
+      let used = used-state i.account (length b.accounts) _ q.known in
+      let v = standing-of b.day b s i.account in_table in
+      let w = counted_of b.day b s i.account in_table in
+      let parts = topup-parts (account b i.account) v.topup in
+      let valid = and_left (leb i.a code_yes) (zero_from-b i) (not-false _ q.formed) in
+      near-put_account b.day b s i.account (reserve_set i.a (account b i.account)) in_table used
+      (record {
+        state = v.state;
+        zero = rw used;
+        request = v.request;
+        topup = rw (parts.threshold, parts.topup, parts.declines, parts.uncounted, parts.undated, valid, q.timely);
+        decline = v.decline;
+      })
+      (record { returned = w.returned; used-is-paid = w.used-is-paid; clear = w.clear })

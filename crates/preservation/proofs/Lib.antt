@@ -26,3 +26,4 @@ pub mod PostFrame
 pub mod NamedLaws
 pub mod OpenTolls
 pub mod RowsKept
+pub mod ReserveLaws

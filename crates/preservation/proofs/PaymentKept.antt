@@ -7,12 +7,14 @@ use mathlib.Core.List.{[], ◌∷◌}
 use lib.ListN.{length, length-append}
 use lib.Dec.{eqb, leb, ltb}
 use borrow.Author.Tests.{leb-true, leb-false, le-leb, ltb-true, eqb-true, ne_eqb, not-false}
-use Rattle.records.specs.Codes.{event_payment, event_topup_result}
-use Rattle.records.specs.AccountOperations.{topup_paid, declined_on}
-use Rattle.records.specs.Updates.{with_topup, with_declines, of_kind}
-use Rattle.lists.specs.Tests.{◌from◌to◌, ◌implies◌}
+use Rattle.records.specs.Codes.{event_payment, event_topup_result, code_yes}
+use Rattle.records.specs.AccountOperations.{last_decline, topup_removed, topup_paid, declined_on}
+use Rattle.records.specs.Updates.{with_declines, of_kind}
+use Rattle.lists.specs.Tests.{◌from◌to◌}
 use Rattle.lists.proofs.TestLaws.{and_left, and_right, and_both}
-use Rattle.records.specs.Limits.{highest_payment, highest_topup, most_declines}
+use Rattle.records.specs.Limits.{highest_payment, most_declines}
+use Rattle.records.proofs.AccountLaws.{declined-cases}
+use Rattle.rules.proofs.StorableLaws.{TopupParts, topup-parts}
 use Rattle.rules.specs.Rows.{Row, kind_payment, new_row, with_mark, fee_naming}
 use Rattle.rules.specs.Book.{Account, Instruction, Book, account, add_row, put_account, topup_due, low_balance}
 use Rattle.rules.specs.Events.{post_payment, pay_topup, decline_topup, topup_result}
@@ -76,23 +78,6 @@ module _ (b : Book) (i : Instruction) where
 
 -- ---- event 7
 
-record TopupParts (x : Account) : Type 0 where
-  threshold : leb x.threshold highest_topup ≡ true
-  topup : leb x.topup highest_topup ≡ true
-  declines : leb x.declines most_declines ≡ true
-
-topup-parts : (x : Account) → topup_fits x ≡ true → TopupParts x
-unfolding topup_fits
-topup-parts x e =
-    let p : Bool = leb x.threshold highest_topup in
-    let q : Bool = leb x.topup highest_topup in
-    let d : Bool = leb x.declines most_declines in
-    let f : Bool = eqb x.declines 0 implies eqb x.declined 0 in
-    let g : Bool = eqb x.declined 0 implies eqb x.declines 0 in
-    let h : Bool = eqb x.topup 0 implies eqb x.threshold 0 && eqb x.declines 0 in
-    let c = and_left (p && q && d) f (and_left (p && q && d && f) g (and_left (p && q && d && f && g) h e)) in
-    record { threshold = and_left p q (and_left (p && q) d c); topup = and_right p q (and_left (p && q) d c); declines = and_right (p && q) d c }
-
 module _ (b : Book) (i : Instruction) where
   abbrev event7 : Instruction
   event7 = of_kind event_topup_result i
@@ -128,13 +113,20 @@ module _ (b : Book) (i : Instruction) where
     parts : TopupParts it
     parts = topup-parts it (standing-of b.day b s i.account in_table).topup
 
+    paid-reserve : leb (topup_paid it).reserve code_yes ≡ true
+    paid-reserve = go (last_decline it)
+      where
+        go : (t : Bool) → leb (cond t 0 it.reserve) code_yes ≡ true
+        go true = refl
+        go false = parts.reserve
+
     paid-standing : Standing b.day (topup_paid it)
     unfolding state_fits unused_zero request_fits topup_fits decline_fits
     paid-standing = let v = standing-of b.day b s i.account in_table in record {
       state = v.state;
       zero = rw is_open;
       request = v.request;
-      topup = rw (parts.threshold, parts.topup, some-amount);
+      topup = rw (parts.threshold, parts.topup, paid-reserve, some-amount);
       decline = le-leb 0 b.day (omega arith);
     }
 
@@ -152,16 +144,17 @@ module _ (b : Book) (i : Instruction) where
         (and_both (leb 1 it.topup) _ (le-leb 1 it.topup has-amount) parts.topup) refl (rw (e, is_open)) (rw (e, is_open))
 
     declined-standing : Standing b.day (declined_on b.day it)
-    unfolding declined_on state_fits unused_zero request_fits topup_fits decline_fits
-    declined-standing = go (leb 2 it.declines) refl
+    unfolding state_fits unused_zero request_fits topup_fits decline_fits
+    declined-standing = declined-cases (Standing b.day) b.day it removed counted
       where
-        v : Standing b.day (account b i.account)
+        v : Standing b.day it
         v = standing-of b.day b s i.account in_table
 
-        go : (t : Bool) → leb 2 (account b i.account).declines ≡ t
-            → Standing b.day (cond t (with_declines 0 0 (with_topup 0 0 (account b i.account))) (with_declines ((account b i.account).declines + 1) b.day (account b i.account)))
-        go true e = record { state = v.state; zero = rw is_open; request = v.request; topup = refl; decline = le-leb 0 b.day (omega arith) }
-        go false e = record {
+        removed : Standing b.day (topup_removed it)
+        removed = record { state = v.state; zero = rw is_open; request = v.request; topup = refl; decline = le-leb 0 b.day (omega arith) }
+
+        counted : last_decline it ≡ false → Standing b.day (with_declines (it.declines + 1) b.day it)
+        counted e = record {
           state = v.state;
           zero = rw is_open;
           request = v.request;
@@ -169,32 +162,25 @@ module _ (b : Book) (i : Instruction) where
               rw (
                 parts.threshold,
                 parts.topup,
-                le-leb (it.declines + 1) 2 (omega (arith, leb-false 2 it.declines e)),
+                le-leb (it.declines + 1) most_declines (omega (arith, leb-false most_declines it.declines e)),
                 ne_eqb (it.declines + 1) 0 (λ w. omega arith),
                 ne_eqb b.day 0 (λ w. omega (arith, day-positive b.day b s)),
+                parts.reserve,
                 some-amount,
               );
           decline = le-leb b.day b.day (omega arith);
         }
 
     declined-counted : SumsFit b.rows i.account (declined_on b.day it)
-    unfolding declined_on returned_fits used_is_paid closed_clear
-    declined-counted = go (leb 2 it.declines)
-      where
-        v : SumsFit b.rows i.account (account b i.account)
-        v = counted_of b.day b s i.account in_table
-
-        go : (t : Bool) → SumsFit b.rows i.account (cond t (with_declines 0 0 (with_topup 0 0 (account b i.account))) (with_declines ((account b i.account).declines + 1) b.day (account b i.account)))
-        go true = record { returned = v.returned; used-is-paid = v.used-is-paid; clear = v.clear }
-        go false = record { returned = v.returned; used-is-paid = v.used-is-paid; clear = v.clear }
+    unfolding returned_fits used_is_paid closed_clear
+    declined-counted =
+        let v = counted_of b.day b s i.account in_table in
+        declined-cases (SumsFit b.rows i.account) b.day it
+        (record { returned = v.returned; used-is-paid = v.used-is-paid; clear = v.clear })
+        (λ e. record { returned = v.returned; used-is-paid = v.used-is-paid; clear = v.clear })
 
     declined-used : eqb (declined_on b.day it).state 0 ≡ false
-    unfolding declined_on
-    declined-used = go (leb 2 it.declines)
-      where
-        go : (t : Bool) → eqb (cond t (with_declines 0 0 (with_topup 0 0 (account b i.account))) (with_declines ((account b i.account).declines + 1) b.day (account b i.account))).state 0 ≡ false
-        go true = rw is_open
-        go false = rw is_open
+    declined-used = declined-cases (λ x. eqb x.state 0 ≡ false) b.day it (rw is_open) (λ e. rw is_open)
 
     decline_topup-near : Near b.day (decline_topup b event7)
     unfolding decline_topup

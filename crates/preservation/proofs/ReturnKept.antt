@@ -289,5 +289,5 @@ return_check-near b i s q = go i.account i.a q
     go (suc k) (suc j) q =
         let z : suc k - 1 ≡ k = omega arith in
         let w : suc j - 1 ≡ j = omega arith in
-        let f : length (grown (rows₂ b k j i s q) (fee b k j i)) ≤ b.room = simp (z, w) at (after-fits b (event4 b k j i) q.fits) in
+        let f : length (grown (rows₂ b k j i s q) (fee b k j i)) ≤ b.room = simp (w) at (after-fits b (event4 b k j i) q.fits) in
         rw (z, w) (fee-near b k j i s q (omega (arith, length-append (rows₂ b k j i s q) (fee b k j i ∷ []))))

@@ -8,7 +8,7 @@ use borrow.Author.Tests.{eqb-true}
 use Rattle.records.specs.Codes.{event_decision, event_topup_result}
 use Rattle.records.specs.Updates.{of_kind}
 use Rattle.rules.specs.Book.{Instruction, Book}
-use Rattle.rules.specs.Events.{open_account, post_toll, post_payment, return_check, hold_toll, decide, uphold, reject, topup_result, pay_topup, decline_topup, request_close, add_list}
+use Rattle.rules.specs.Events.{open_account, post_toll, post_payment, return_check, hold_toll, decide, uphold, reject, topup_result, pay_topup, decline_topup, request_close, add_list, set_reserve}
 use Rattle.rules.specs.Soundness.{sound}
 use Rattle.rules.specs.Refusals.{change_of, after, well_formed, form_of, answer_number}
 use Rattle.rules.specs.Posting.{post, book_after}
@@ -18,7 +18,7 @@ use Rattle.rules.proofs.SoundnessLaws.{sound-facts, facts-sound}
 use Rattle.rules.proofs.KindLaws.{by_kind}
 use Rattle.preservation.proofs.Accepted.{Accepted, accepted}
 use Rattle.preservation.proofs.SettledLaws.{settled-sound}
-use Rattle.preservation.proofs.AccountKept.{open_account-near, request_close-near}
+use Rattle.preservation.proofs.AccountKept.{open_account-near, request_close-near, set_reserve-near}
 use Rattle.preservation.proofs.TollKept.{post_toll-near}
 use Rattle.preservation.proofs.PaymentKept.{post_payment-near, topup_result-near}
 use Rattle.preservation.proofs.ReturnKept.{return_check-near}
@@ -49,7 +49,7 @@ module _ (b : Book) (e : Instruction) where
 
 change-near : (b : Book) (e : Instruction) (k : ℕ) → Near b.day b → Accepted b (of_kind k e)
     → Near (change_of k b (of_kind k e)).day (change_of k b (of_kind k e))
-unfolding change_of open_account post_toll post_payment return_check hold_toll decide topup_result request_close add_list well_formed form_of
+unfolding change_of open_account post_toll post_payment return_check hold_toll decide topup_result request_close add_list set_reserve well_formed form_of
 change-near b e k s q =
     by_kind (λ k. Accepted b (of_kind k e) → Near (change_of k b (of_kind k e)).day (change_of k b (of_kind k e)))
     (record {
@@ -63,6 +63,7 @@ change-near b e k s q =
       close-request = request_close-near b e s;
       tick = tick-near b e s;
       rate-list = add_list-near b e s;
+      reserve = set_reserve-near b e s;
       none = λ q. absurd (true≢false q.formed);
       past = λ k q. absurd (true≢false q.formed);
     }) k q

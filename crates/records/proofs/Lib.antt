@@ -2,3 +2,4 @@ pub mod EncodingLaws
 pub mod FieldLaws
 pub mod WordLaws
 pub mod OutcomeLaws
+pub mod AccountLaws

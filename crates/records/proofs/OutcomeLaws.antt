@@ -5,7 +5,7 @@ use Rattle.lists.specs.Tests.{◌is◌}
 use Rattle.records.specs.Outcomes.{number_of}
 use Rattle.records.specs.declared.refusals.Refusal.{Refusal}
 use Rattle.records.specs.declared.refusals.Refusal.TheVariants as refusal
-use Rattle.records.specs.declared.refusals.Refusal.TheVariants.{Unsound, Malformed, Unknown, Taken, Closed, Unclassed, Misdated, Duplicate, Barred, NoRow, Untimely, LastDay, Full, Ceiling}
+use Rattle.records.specs.declared.refusals.Refusal.TheVariants.{Unsound, Malformed, Unknown, Taken, Closed, Unclassed, Misdated, Duplicate, Barred, NoRow, Untimely, Reserve, LastDay, Full, Ceiling}
 
 pub number_of-not_0 : (r : Refusal) → number_of r is 0 ≡ false
 number_of-not_0 Unsound = refl
@@ -19,6 +19,7 @@ number_of-not_0 Duplicate = refl
 number_of-not_0 Barred = refl
 number_of-not_0 NoRow = refl
 number_of-not_0 Untimely = refl
+number_of-not_0 Reserve = refl
 number_of-not_0 LastDay = refl
 number_of-not_0 Full = refl
 number_of-not_0 Ceiling = refl

@@ -64,7 +64,7 @@ dispute_ended = 2
 abbrev pub dispute_upheld : ℕ
 dispute_upheld = 3
 
--- the verdict of a decision and the result of a top-up: 1 for the motorist's dispute, 1 for paid
+-- the verdict of a decision, the result of a top-up, the reserve of an account: 1 for the motorist, for paid, for one that is there
 abbrev pub code_yes : ℕ
 code_yes = 1
 
@@ -75,7 +75,8 @@ mode_tag = 1
 abbrev pub mode_plate : ℕ
 mode_plate = 2
 
--- the kinds of events: "1. Open" to "9. Day tick" (document 01); "A new event 10 .. adds one list" (document 02, No. 1)
+-- the kinds of events: "1. Open" to "9. Day tick" (document 01); "A new event 10 .. adds one list", "Event 11 adds or removes a reserve"
+-- (document 02, Nos. 1 and 4)
 abbrev pub event_open : ℕ
 event_open = 1
 
@@ -105,3 +106,6 @@ event_tick = 9
 
 abbrev pub event_rate_list : ℕ
 event_rate_list = 10
+
+abbrev pub event_reserve : ℕ
+event_reserve = 11

@@ -97,10 +97,10 @@ list_day_place = 0
 abbrev pub list_rates_place : ℕ
 list_rates_place = 1
 
--- ---- "Accounts, 7 words each"
+-- ---- "Accounts, 7 words each"; "The account gains a word" for the reserve (document 02, No. 4)
 
 abbrev pub account_width : ℕ
-account_width = 7
+account_width = 8
 
 abbrev pub state_place : ℕ
 state_place = 0
@@ -122,6 +122,9 @@ declines_place = 5
 
 abbrev pub declined_place : ℕ
 declined_place = 6
+
+abbrev pub reserve_place : ℕ
+reserve_place = 7
 
 -- ---- "Journal, 10 words a row"
 

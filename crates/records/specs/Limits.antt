@@ -5,7 +5,7 @@ use Rattle.std.specs.Prelude.{ℕ}
 abbrev pub final_day : ℕ
 final_day = 36_525
 
--- "Accounts, 7 words each, 1 to 256 of them"
+-- "Accounts, .., 1 to 256 of them"
 abbrev pub most_accounts : ℕ
 most_accounts = 256
 

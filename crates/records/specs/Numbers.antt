@@ -17,7 +17,7 @@ answer_unknown = 3
 abbrev pub answer_taken : ℕ
 answer_taken = 4
 
--- "events 2, 3, 7, 8 on state 3"
+-- "events 2, 3, 7, 8 on state 3"; event 11 "on a closed account" (document 02, No. 4)
 abbrev pub answer_closed : ℕ
 answer_closed = 5
 
@@ -41,7 +41,8 @@ answer_barred = 9
 abbrev pub answer_no_row : ℕ
 answer_no_row = 10
 
--- "event 4: mark not 3; 5: settled whole or dispute not 0; 6: not held; 7: not due; 8: pending"
+-- "event 4: mark not 3; 5: settled whole or dispute not 0; 6: not held; 7: not due; 8: pending"; event 11 "without a primary" (document 02,
+-- No. 4)
 abbrev pub answer_untimely : ℕ
 answer_untimely = 11
 
@@ -60,3 +61,7 @@ answer_ceiling = 14
 -- document 02, No. 1: "15 "list" for a first day not after the last list's, or for a ninth list" (List is the library's type)
 abbrev pub answer_list_refused : ℕ
 answer_list_refused = 15
+
+-- document 02, No. 4: "16 "reserve" for adding one that exists or removing one that doesn't"
+abbrev pub answer_reserve : ℕ
+answer_reserve = 16

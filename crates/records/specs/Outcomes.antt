@@ -5,7 +5,7 @@ use Rattle.records.specs.declared.Answer.{Answer}
 use Rattle.records.specs.declared.Posting.{Posting}
 use Rattle.records.specs.declared.refusals.Refusal.{Refusal}
 use Rattle.records.specs.declared.refusals.Refusal.TheVariants as refusal
-use Rattle.records.specs.declared.refusals.Refusal.TheVariants.{Unsound, Malformed, Unknown, Taken, Closed, Unclassed, Misdated, Duplicate, Barred, NoRow, Untimely, LastDay, Full, Ceiling}
+use Rattle.records.specs.declared.refusals.Refusal.TheVariants.{Unsound, Malformed, Unknown, Taken, Closed, Unclassed, Misdated, Duplicate, Barred, NoRow, Untimely, Reserve, LastDay, Full, Ceiling}
 
 -- the number that the table of answers gives to a refusal
 abbrev pub number_of : Refusal → ℕ
@@ -20,6 +20,7 @@ number_of Duplicate = Numbers.answer_duplicate
 number_of Barred = Numbers.answer_barred
 number_of NoRow = Numbers.answer_no_row
 number_of Untimely = Numbers.answer_untimely
+number_of Reserve = Numbers.answer_reserve
 number_of LastDay = Numbers.answer_last_day
 number_of Full = Numbers.answer_full
 number_of Ceiling = Numbers.answer_ceiling

@@ -103,7 +103,7 @@ with_reference v r = record {
 
 -- "unused accounts are all 0"
 abbrev pub unused : Account
-unused = record { state = 0; request = 0; returned = 0; threshold = 0; topup = 0; declines = 0; declined = 0 }
+unused = record { state = 0; request = 0; returned = 0; threshold = 0; topup = 0; declines = 0; declined = 0; reserve = 0 }
 
 abbrev pub with_state : ℕ → Account → Account
 with_state v x = record {
@@ -114,6 +114,7 @@ with_state v x = record {
   topup = x.topup;
   declines = x.declines;
   declined = x.declined;
+  reserve = x.reserve;
 }
 
 abbrev pub with_request : ℕ → Account → Account
@@ -125,6 +126,7 @@ with_request v x = record {
   topup = x.topup;
   declines = x.declines;
   declined = x.declined;
+  reserve = x.reserve;
 }
 
 abbrev pub with_returned : ℕ → Account → Account
@@ -136,6 +138,7 @@ with_returned v x = record {
   topup = x.topup;
   declines = x.declines;
   declined = x.declined;
+  reserve = x.reserve;
 }
 
 abbrev pub with_topup : ℕ → ℕ → Account → Account
@@ -147,6 +150,7 @@ with_topup t n x = record {
   topup = n;
   declines = x.declines;
   declined = x.declined;
+  reserve = x.reserve;
 }
 
 abbrev pub with_declines : ℕ → ℕ → Account → Account
@@ -158,6 +162,19 @@ with_declines n d x = record {
   topup = x.topup;
   declines = n;
   declined = d;
+  reserve = x.reserve;
+}
+
+abbrev pub with_reserve : ℕ → Account → Account
+with_reserve v x = record {
+  state = x.state;
+  request = x.request;
+  returned = x.returned;
+  threshold = x.threshold;
+  topup = x.topup;
+  declines = x.declines;
+  declined = x.declined;
+  reserve = v;
 }
 
 -- ---- instructions

@@ -48,6 +48,10 @@ pub const DISPUTE_ENDED: u64 = 2;
 
 pub const DISPUTE_UPHELD: u64 = 3;
 
+// ---- a verdict, a top-up's result, a reserve: yes
+
+pub const CODE_YES: u64 = 1;
+
 // ---- modes of a passage
 
 pub const MODE_TAG: u64 = 1;
@@ -75,3 +79,5 @@ pub const EVENT_CLOSE_REQUEST: u64 = 8;
 pub const EVENT_TICK: u64 = 9;
 
 pub const EVENT_RATE_LIST: u64 = 10;
+
+pub const EVENT_RESERVE: u64 = 11;

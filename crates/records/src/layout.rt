@@ -62,7 +62,7 @@ pub const LIST_RATES_PLACE: usize = 1;
 
 // ---- an account
 
-pub const ACCOUNT_WIDTH: usize = 7;
+pub const ACCOUNT_WIDTH: usize = 8;
 
 pub const STATE_PLACE: usize = 0;
 
@@ -77,6 +77,8 @@ pub const TOPUP_PLACE: usize = 4;
 pub const DECLINES_PLACE: usize = 5;
 
 pub const DECLINED_PLACE: usize = 6;
+
+pub const RESERVE_PLACE: usize = 7;
 
 // ---- a row of the journal
 

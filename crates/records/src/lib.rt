@@ -10,7 +10,7 @@ pub mod words; // words.rt: a signed word as a number
 
 ghost use Rattle.std.specs.Prelude.{◌≡◌, ◌^◌, ◌<◌};
 ghost use Rattle.records.specs.Encoding.{instruction_of};
-ghost use Rattle.records.specs.AccountOperations.{opened, check_returned, declined_on, topup_paid, close_requested_on, closed};
+ghost use Rattle.records.specs.AccountOperations.{opened, check_returned, last_decline, declined_on, topup_paid, close_requested_on, closed, reserve_set};
 
 use crate::codes::{STATE_CLOSED, STATE_OPEN, STATE_PENDING};
 use crate::limits::MOST_DECLINES;
@@ -31,8 +31,8 @@ pub struct Row {
     pub reference: u64,
 }
 
-// One account: state, close request day, returned checks, top-up threshold, top-up amount, declines, day of last decline; by default
-// unused, all words 0.
+// One account: state, close request day, returned checks, top-up threshold, top-up amount, declines, day of last decline, reserve; by
+// default unused, all words 0.
 #[derive(Clone, Copy, Default, PartialEq, Eq)]
 pub struct Account {
     pub state: u64,
@@ -42,6 +42,7 @@ pub struct Account {
     pub topup: u64,
     pub declines: u64,
     pub declined: u64,
+    pub reserve: u64,
 }
 
 // An event as a host hands it over: nine signed words of any value.
@@ -135,15 +136,23 @@ impl Account {
         self
     }
 
-    // Event 7, declined: the third decline removes the top-up.
+    // Whether the next decline is the third: the next result concerns the reserve, where there is one.
+    pub fn last_decline(self) -> bool
+        ensures { result ≡ last_decline self }
+    {
+        MOST_DECLINES <= self.declines
+    }
+
+    // Event 7, declined: the third decline removes the top-up, and the reserve with it.
     pub fn decline(mut self, today: u64) -> Self
         ensures { result ≡ declined_on today self }
     {
-        if MOST_DECLINES <= self.declines {
+        if self.last_decline() {
             self.threshold = 0;
             self.topup = 0;
             self.declines = 0;
             self.declined = 0;
+            self.reserve = 0;
             return self;
         }
         self.declines = self.declines + 1;
@@ -151,10 +160,13 @@ impl Account {
         self
     }
 
-    // Event 7, paid: the declines are forgotten.
+    // Event 7, paid: the declines are forgotten; after two of them it is the reserve that paid, and it takes the primary's place.
     pub fn pay_topup(mut self) -> Self
         ensures { result ≡ topup_paid self }
     {
+        if self.last_decline() {
+            self.reserve = 0;
+        }
         self.declines = 0;
         self.declined = 0;
         self
@@ -174,6 +186,14 @@ impl Account {
         ensures { result ≡ closed self }
     {
         self.state = STATE_CLOSED;
+        self
+    }
+
+    // Event 11: a reserve is added or removed.
+    pub fn set_reserve(mut self, reserve: u64) -> Self
+        ensures { result ≡ reserve_set reserve self }
+    {
+        self.reserve = reserve;
         self
     }
 }

@@ -22,6 +22,7 @@ pub enum Refusal {
     Full = 13,
     Ceiling = 14,
     List = 15,
+    Reserve = 16,
 }
 
 // The number of its answer, as the answer's words are numbers.

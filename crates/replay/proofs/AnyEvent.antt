@@ -17,7 +17,7 @@ use Rattle.preservation.proofs.Accepted.{Accepted, accepted}
 use Rattle.replay.specs.Replay.{Replay, settled_replay, step_of}
 use Rattle.replay.proofs.Relation.{Agrees}
 use Rattle.replay.proofs.Growing.{row-place, settled-agrees}
-use Rattle.replay.proofs.PlainEvents.{open_account-agrees, request_close-agrees, add_list-agrees, post_toll-agrees, post_payment-agrees, topup_result-agrees}
+use Rattle.replay.proofs.PlainEvents.{open_account-agrees, request_close-agrees, add_list-agrees, set_reserve-agrees, post_toll-agrees, post_payment-agrees, topup_result-agrees}
 use Rattle.replay.proofs.RowEvents.{return_check-agrees, hold_toll-agrees, decide-agrees}
 use Rattle.replay.proofs.Ticking.{tick-agrees}
 use Rattle.replay.proofs.ReplaySteps.{Proper}
@@ -88,6 +88,7 @@ module _ (b : Book) (e : Instruction) (z : answer_number b e ≡ 0) where
         close-request = λ q. request_close-agrees b p e a;
         tick = λ q. tick-agrees b p s a e;
         rate-list = λ q. add_list-agrees b p e a;
+        reserve = λ q. set_reserve-agrees b p e a (known (rw q));
         none = λ q. a;
         past = λ k q. a;
       })

@@ -1,4 +1,5 @@
--- Events 1, 2, 3, 7 and 8 keep the relation: they change a note, or add a row and its entry.
+-- Events 1, 2, 3, 7, 8, 10 and 11 keep the relation: they change a note or a list, add a row and its entry, or change what the replay
+-- does not keep.
 use mathlib.Core.Path.{◌≡◌, refl, sym, ◌∙◌}
 use mathlib.Core.Bool.{Bool, true, false, cond, false≢true}
 use Prim.Native.Nat.{ℕ, zero, suc, ◌+◌, ◌*◌, ◌-◌, ◌≤◌, ◌<◌}
@@ -8,13 +9,13 @@ use mathlib.Core.List.{[], ◌∷◌, ◌++◌}
 use lib.ListN.{length, get_or, get_or-eq_default}
 use Rattle.records.specs.Codes.{code_yes}
 use Rattle.records.specs.Layout.{request_place}
-use Rattle.records.specs.Updates.{with_topup, with_declines}
-use Rattle.records.specs.AccountOperations.{opened, declined_on, topup_paid, close_requested_on, last_decline}
+use Rattle.records.specs.AccountOperations.{opened, declined_on, topup_paid, close_requested_on, reserve_set}
+use Rattle.records.proofs.AccountLaws.{declined-cases}
 use Rattle.lists.specs.Tests.{◌is◌}
 use Rattle.lists.proofs.PairLaws.{none, more, pairs-at, pairs_set, pairs-set-left, pairs-self, pairs-to}
 use Rattle.rules.specs.Rows.{Row}
 use Rattle.rules.specs.Book.{Account, unused, state_unused, Instruction, Book, account, put_account, add_row}
-use Rattle.rules.specs.Events.{open_account, toll_rate, post_toll, post_payment, pay_topup, decline_topup, topup_result, request_close, add_list}
+use Rattle.rules.specs.Events.{open_account, toll_rate, post_toll, post_payment, pay_topup, decline_topup, topup_result, request_close, add_list, set_reserve}
 use Rattle.rules.specs.SoundFacts.{Near}
 use Rattle.rules.proofs.StorableLaws.{unused-zero}
 use Rattle.replay.specs.Entries.{Entry, kind_payment, new_entry}
@@ -47,6 +48,13 @@ account-agrees b p a (suc n) h x q =
 pub add_list-agrees : (b : Book) (p : Replay) (e : Instruction) → Agrees b p → Agrees (add_list b e) (note_list p e)
 unfolding add_list note_list
 add_list-agrees b p e a = record { day = a.day; schedule = a.schedule; lists = rw a.lists; rows = a.rows; notes = a.notes }
+
+-- a reserve added or removed: the replay keeps none
+pub set_reserve-agrees : (b : Book) (p : Replay) (e : Instruction) → Agrees b p → 1 ≤ e.account → Agrees (set_reserve b e) p
+unfolding set_reserve
+set_reserve-agrees b p e a n =
+    let q = noted-no b p a e.account in
+    account-agrees b p a e.account n (reserve_set e.a (account b e.account)) (record { request = q.request; topup = q.topup })
 
 -- an unused account has no request day
 unused-request : (b : Book) → Near b.day b → (n : ℕ) → (account b n).state ≡ state_unused → (account b n).request ≡ 0
@@ -116,7 +124,7 @@ post_payment-agrees b p e near a =
 
 pub topup_result-agrees : (b : Book) (p : Replay) (e : Instruction) → Near b.day b → Agrees b p → 1 ≤ e.account → 0 < (account b e.account).topup
     → Agrees (topup_result b e) (add_topup p e)
-unfolding topup_result add_topup pay_topup decline_topup declined_on
+unfolding topup_result add_topup pay_topup decline_topup
 topup_result-agrees b p e near a n t = go (e.b is code_yes)
   where
     x : Account
@@ -125,12 +133,13 @@ topup_result-agrees b p e near a n t = go (e.b is code_yes)
     q : Noted x (note_no p.notes e.account)
     q = noted-no b p a e.account
 
-    declined : (v : Bool) → Noted (cond v (with_declines 0 0 (with_topup 0 0 x)) (with_declines (x.declines + 1) b.day x)) (note_no p.notes e.account)
-    declined true = record { request = q.request; topup = λ h. absurd (omega arith) }
-    declined false = record { request = q.request; topup = q.topup }
+    declined : Noted (declined_on b.day x) (note_no p.notes e.account)
+    declined =
+        declined-cases (λ y. Noted y (note_no p.notes e.account)) b.day x
+        (record { request = q.request; topup = λ h. absurd (omega arith) }) (λ l. record { request = q.request; topup = q.topup })
 
     go : (v : Bool) → Agrees (cond v (pay_topup b e) (decline_topup b e))
         (cond v (add_entry (new_entry kind_payment e.account p.day (note_no p.notes e.account).topup) p) p)
     go true = payment-agrees (put_account e.account (topup_paid x) b) p (referring b near) (account-agrees b p a e.account n (topup_paid x) (record { request = q.request; topup = q.topup })) _ _
         (record { kind = refl; account = refl; day = a.day; amount = q.topup t; settled = refl; hold = refl }) refl refl refl
-    go false = account-agrees b p a e.account n _ (declined (last_decline x))
+    go false = account-agrees b p a e.account n _ declined

@@ -155,6 +155,7 @@ step-steady k p e =
       close-request = λ n f g. record { schedule = refl; steady = steady_self p.entries };
       tick = λ n f g. absurd (n refl);
       rate-list = λ n f g. record { schedule = refl; steady = steady_self p.entries };
+      reserve = λ n f g. record { schedule = refl; steady = steady_self p.entries };
       none = λ n f g. record { schedule = refl; steady = steady_self p.entries };
       past = λ k n f g. record { schedule = refl; steady = steady_self p.entries };
     }) k

@@ -182,11 +182,11 @@ note_list p e = record { day = p.day; schedule = p.schedule; lists = p.lists ++ 
 abbrev pub no_step : Step
 no_step p e = p
 
--- the events by their kind
+-- the events by their kind; nothing of event 11 is kept (document 02, No. 4), for the amount that a paid top-up adds is noted, whoever pays
 unfoldable pub step_of : ℕ → Step
 step_of k =
     get_or (no_step ∷ note_topup ∷ add_toll ∷ add_payment ∷ add_return ∷ set_hold true ∷ free_toll ∷ add_topup ∷ note_request ∷ tick_replay
-    ∷ note_list ∷ []) k no_step
+    ∷ note_list ∷ no_step ∷ []) k no_step
 
 -- what a replay is fed: an event, and whether it is accepted
 pub record Report : Type 0 where

@@ -7,7 +7,7 @@ use lib.ListN.{length, take, replicate, set}
 use lib.IntN.{ℤ, pos}
 use Rattle.lists.specs.Tests.{first}
 use Rattle.lists.specs.Lists.{count}
-use Rattle.records.specs.Updates.{unused, with_state, with_request, with_returned, with_topup, with_declines}
+use Rattle.records.specs.Updates.{unused, with_state, with_request, with_returned, with_topup, with_declines, with_reserve}
 use Rattle.rules.specs.Schedule.{Rates, Schedule, class, rates_fit, schedule_fits}
 use Rattle.rules.specs.ClassCases.{class_cases}
 use Rattle.rules.specs.Rows.{Row, with_settled, with_mark, with_due, with_dispute, with_hold_start, with_reference, new_row}
@@ -63,7 +63,7 @@ held_at day r = with_hold_start day (with_dispute 1 r)
 abbrev fee_of : ℕ → Row
 fee_of n = with_reference n (a_row 2 100)
 
--- an account's seven words
+-- an account's words but its reserve, which is 0
 abbrev an_account : ℕ → ℕ → ℕ → ℕ → ℕ → ℕ → ℕ → Account
 an_account s q r t a n d = with_declines n d (with_topup t a (with_returned r (with_request q (with_state s unused))))
 
@@ -150,7 +150,7 @@ cases =
     ∷ (sound_tables filled ∷ [] are 1 ∷ [])
     -- the tables' lengths, and the words of opening, of an event and of its answer
     ∷ (map (λ t. (open_call t schedule_words).number)
-    (lengths_of 62 14 30 ∷ lengths_of 61 14 30 ∷ lengths_of 63 14 30 ∷ lengths_of 62 15 30 ∷ lengths_of 62 14 29 ∷ lengths_of 62 14 31 ∷ lengths_of 62 14 0 ∷ [])
+    (lengths_of 62 16 30 ∷ lengths_of 61 16 30 ∷ lengths_of 63 16 30 ∷ lengths_of 62 14 30 ∷ lengths_of 62 16 29 ∷ lengths_of 62 16 31 ∷ lengths_of 62 16 0 ∷ [])
     gives 0 ∷ 1 ∷ 1 ∷ 1 ∷ 1 ∷ 1 ∷ 1 ∷ [])
     ∷ (map opened_by
     (take 10 schedule_words ∷ (schedule_words ++ pos 1 ∷ []) ∷ set schedule_words 0 (pos 36_525) ∷ set schedule_words 0 (pos 36_526) ∷ set schedule_words 10 (pos 0) ∷ [])
@@ -215,8 +215,8 @@ cases =
     ∷ (map (λ s. state_fits (an_account s 0 0 0 0 0 0)) (0 ∷ 3 ∷ 4 ∷ []) are 1 ∷ 1 ∷ 0 ∷ [])
     ∷ (map unused_zero
     (an_account 0 0 0 0 0 0 0 ∷ an_account 0 1 0 0 0 0 0 ∷ an_account 0 0 1 0 0 0 0 ∷ an_account 0 0 0 1 0 0 0
-    ∷ an_account 0 0 0 0 1 0 0 ∷ an_account 0 0 0 0 0 1 0 ∷ an_account 0 0 0 0 0 0 1 ∷ [])
-    are 1 ∷ replicate 6 0)
+    ∷ an_account 0 0 0 0 1 0 0 ∷ an_account 0 0 0 0 0 1 0 ∷ an_account 0 0 0 0 0 0 1 ∷ with_reserve 1 unused ∷ [])
+    are 1 ∷ replicate 7 0)
     ∷ (map (λ q. request_fits 40 (an_account 1 q 0 0 0 0 0)) (0 ∷ 1 ∷ []) are 1 ∷ 0 ∷ [])
     ∷ (map (λ q. request_fits 40 (an_account 2 q 0 0 0 0 0)) (0 ∷ 1 ∷ 40 ∷ 41 ∷ []) are 0 ∷ 1 ∷ 1 ∷ 0 ∷ [])
     ∷ (map (λ q. request_fits 40 (an_account 3 q 0 0 0 0 0)) (0 ∷ 1 ∷ 40 ∷ 41 ∷ []) are 0 ∷ 1 ∷ 1 ∷ 0 ∷ [])
@@ -224,6 +224,8 @@ cases =
     (topped_up 1_000_000 1_000_000 2 1 ∷ topped_up 1_000_001 1 0 0 ∷ topped_up 0 1_000_001 0 0 ∷ topped_up 0 1 3 1
     ∷ topped_up 0 1 0 1 ∷ topped_up 0 1 1 0 ∷ topped_up 1 0 0 0 ∷ topped_up 0 0 1 1 ∷ topped_up 0 0 0 0 ∷ [])
     are 1 ∷ 0 ∷ 0 ∷ 0 ∷ 0 ∷ 0 ∷ 0 ∷ 0 ∷ 1 ∷ [])
+    ∷ (map (λ r. topup_fits (with_reserve r (topped_up 0 1 0 0))) (0 ∷ 1 ∷ 2 ∷ []) are 1 ∷ 1 ∷ 0 ∷ [])
+    ∷ (map (λ r. topup_fits (with_reserve r (topped_up 0 0 0 0))) (0 ∷ 1 ∷ []) are 1 ∷ 0 ∷ [])
     ∷ (map (λ d. decline_fits 40 (topped_up 0 1 1 d)) (40 ∷ 41 ∷ []) are 1 ∷ 0 ∷ [])
     -- an account and its rows
     ∷ (map (λ m. returned_fits (with_mark m (a_row 4 1) ∷ []) 1 (an_account 1 0 1 0 0 0 0)) (3 ∷ 4 ∷ []) are 0 ∷ 1 ∷ [])
@@ -234,7 +236,7 @@ cases =
     ∷ (map (λ s. closed_clear (with_settled s (a_row 4 9) ∷ []) 1 (an_account 3 1 0 0 0 0 0)) (8 ∷ 9 ∷ []) are 0 ∷ 1 ∷ [])
     ∷ (map (λ s. closed_clear (held_at 1 (with_settled s (a_row 1 9)) ∷ []) 1 (an_account 3 1 0 0 0 0 0)) (8 ∷ 9 ∷ []) are 0 ∷ 1 ∷ [])
     -- the forms, each word at its borders; then every word that is not named
-    ∷ (map (λ k. well_formed (event k 0 0 0 0 0 0)) (0 ∷ 1 ∷ 9 ∷ 10 ∷ []) are 0 ∷ 1 ∷ 1 ∷ 0 ∷ [])
+    ∷ (map (λ k. well_formed (event k 0 0 0 0 0 0)) (0 ∷ 1 ∷ 9 ∷ 10 ∷ 11 ∷ 12 ∷ []) are 0 ∷ 1 ∷ 1 ∷ 0 ∷ 1 ∷ 0 ∷ [])
     ∷ (map (λ n. well_formed (event 1 1 n 1 0 0 0)) (0 ∷ 1_000_000 ∷ 1_000_001 ∷ []) are 1 ∷ 1 ∷ 0 ∷ [])
     ∷ (map (λ n. well_formed (event 1 1 1 n 0 0 0)) (0 ∷ 1 ∷ 1_000_000 ∷ 1_000_001 ∷ []) are 0 ∷ 1 ∷ 1 ∷ 0 ∷ [])
     ∷ (map (λ n. well_formed (event 2 1 n 1 1 0 1)) (0 ∷ 1 ∷ 1_000_000_000 ∷ 1_000_000_001 ∷ []) are 0 ∷ 1 ∷ 1 ∷ 0 ∷ [])
@@ -247,11 +249,12 @@ cases =
     ∷ (map (λ n. well_formed (event 4 1 1 n 0 0 0)) (0 ∷ 99_500 ∷ 99_501 ∷ []) are 1 ∷ 1 ∷ 0 ∷ [])
     ∷ (map (λ n. well_formed (event 6 1 1 n 0 0 0)) (0 ∷ 1 ∷ 2 ∷ []) are 1 ∷ 1 ∷ 0 ∷ [])
     ∷ (map (λ n. well_formed (event 7 1 0 n 0 0 0)) (0 ∷ 1 ∷ 2 ∷ []) are 1 ∷ 1 ∷ 0 ∷ [])
+    ∷ (map (λ n. well_formed (event 11 1 n 0 0 0 0)) (0 ∷ 1 ∷ 2 ∷ []) are 1 ∷ 1 ∷ 0 ∷ [])
     ∷ (map well_formed (event 7 1 1 0 0 0 0 ∷ event 8 1 1 0 0 0 0 ∷ event 9 0 1 0 0 0 0 ∷ event 9 1 0 0 0 0 0 ∷ []) are replicate 4 0)
-    ∷ (map well_formed (event 5 1 1 1 0 0 0 ∷ event 8 1 0 1 0 0 0 ∷ event 9 0 0 1 0 0 0 ∷ []) are replicate 3 0)
-    ∷ (map (λ k. well_formed (event k 0 1 1 1 0 0)) (1 ∷ 3 ∷ 4 ∷ 5 ∷ 6 ∷ 7 ∷ 8 ∷ 9 ∷ []) are replicate 8 0)
-    ∷ (map (λ k. well_formed (event k 0 1 1 0 1 0)) (1 ∷ 3 ∷ 4 ∷ 5 ∷ 6 ∷ 7 ∷ 8 ∷ 9 ∷ []) are replicate 8 0)
-    ∷ (map (λ k. well_formed (event k 0 1 1 0 0 1)) (1 ∷ 3 ∷ 4 ∷ 5 ∷ 6 ∷ 7 ∷ 8 ∷ 9 ∷ []) are replicate 8 0)
+    ∷ (map well_formed (event 5 1 1 1 0 0 0 ∷ event 8 1 0 1 0 0 0 ∷ event 9 0 0 1 0 0 0 ∷ event 11 1 1 1 0 0 0 ∷ []) are replicate 4 0)
+    ∷ (map (λ k. well_formed (event k 0 1 1 1 0 0)) (1 ∷ 3 ∷ 4 ∷ 5 ∷ 6 ∷ 7 ∷ 8 ∷ 9 ∷ 11 ∷ []) are replicate 9 0)
+    ∷ (map (λ k. well_formed (event k 0 1 1 0 1 0)) (1 ∷ 3 ∷ 4 ∷ 5 ∷ 6 ∷ 7 ∷ 8 ∷ 9 ∷ 11 ∷ []) are replicate 9 0)
+    ∷ (map (λ k. well_formed (event k 0 1 1 0 0 1)) (1 ∷ 3 ∷ 4 ∷ 5 ∷ 6 ∷ 7 ∷ 8 ∷ 9 ∷ 11 ∷ []) are replicate 9 0)
     -- 3 and 4: unused, outside the table, used
     ∷ (answers_on5 (event 1 1 0 0 0 0 0 ∷ event 3 2 1 1 0 0 0 ∷ event 3 0 1 1 0 0 0 ∷ event 1 3 0 0 0 0 0 ∷ event 1 0 0 0 0 0 0 ∷ event 1 2 0 0 0 0 0 ∷ [])
     gives 0 ∷ 4 ∷ 3 ∷ 3 ∷ 3 ∷ 3 ∷ 0 ∷ [])

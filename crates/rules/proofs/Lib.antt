@@ -20,3 +20,4 @@ pub mod KindLaws
 pub mod Borders
 pub mod RateListExamples
 pub mod TopupExamples
+pub mod ReserveExamples

@@ -15,6 +15,7 @@ use Rattle.lists.specs.Tests.{◌is◌, ◌from◌to◌, ◌implies◌}
 use Rattle.lists.specs.Lists.{count}
 use Rattle.lists.proofs.TestLaws.{and_left, and_right, all_of-zero}
 use Rattle.lists.proofs.SumLaws.{count-le}
+use Rattle.records.specs.Codes.{code_yes}
 use Rattle.records.specs.Limits.{final_day, most_accounts, most_rows, longest_stage, highest_fee, highest_rate, highest_refund, highest_passage, highest_topup, most_declines}
 use Rattle.rules.specs.Schedule.{Rates, Schedule, schedule_fits, rates_fit}
 use Rattle.rules.specs.RateLists.{RateList, no_list, list_in_range}
@@ -181,26 +182,37 @@ request-le today x s z f = go (eqb x.state 0) (eqb x.state 1) (leb 2 x.state) re
     go false false true a c d = between_le 1 today x.request (rw d at (and_right one-part two-part f))
     go false false false a c d = absurd (omega (arith, eqb-false x.state 0 a, eqb-false x.state 1 c, leb-false 2 x.state d))
 
-record TopupSmall (x : Account) : Type 0 where
-  pub threshold : x.threshold ≤ highest_topup
-  pub topup : x.topup ≤ highest_topup
-  pub declines : x.declines ≤ most_declines
+-- what the clause on the top-up's words says of each of them
+pub record TopupParts (x : Account) : Type 0 where
+  pub threshold : leb x.threshold highest_topup ≡ true
+  pub topup : leb x.topup highest_topup ≡ true
+  pub declines : leb x.declines most_declines ≡ true
+  pub reserve : leb x.reserve code_yes ≡ true
+  pub uncounted : x.declines is 0 implies x.declined is 0 ≡ true
+  pub undated : x.declined is 0 implies x.declines is 0 ≡ true
 
-topup-le : (x : Account) → topup_fits x ≡ true → TopupSmall x
+pub topup-parts : (x : Account) → topup_fits x ≡ true → TopupParts x
 unfolding topup_fits
-topup-le x e =
+topup-parts x e =
     let p : Bool = leb x.threshold highest_topup in
     let q : Bool = leb x.topup highest_topup in
     let d : Bool = leb x.declines most_declines in
     let f : Bool = x.declines is 0 implies x.declined is 0 in
     let g : Bool = x.declined is 0 implies x.declines is 0 in
-    let h : Bool = x.topup is 0 implies x.threshold is 0 && x.declines is 0 in
-    let c = and_left (p && q && d) f (and_left (p && q && d && f) g (and_left (p && q && d && f && g) h e)) in
-    let c2 = and_left (p && q) d c in
+    let v : Bool = leb x.reserve code_yes in
+    let h : Bool = x.topup is 0 implies x.threshold is 0 && x.declines is 0 && x.reserve is 0 in
+    let all = and_left (p && q && d && f && g && v) h e in
+    let days = and_left (p && q && d && f && g) v all in
+    let counts = and_left (p && q && d && f) g days in
+    let bounds = and_left (p && q && d) f counts in
+    let amounts = and_left (p && q) d bounds in
     record {
-      threshold = leb-true x.threshold highest_topup (and_left p q c2);
-      topup = leb-true x.topup highest_topup (and_right p q c2);
-      declines = leb-true x.declines most_declines (and_right (p && q) d c);
+      threshold = and_left p q amounts;
+      topup = and_right p q amounts;
+      declines = and_right (p && q) d bounds;
+      reserve = and_right (p && q && d && f && g) v all;
+      uncounted = and_right (p && q && d) f counts;
+      undated = and_right (p && q && d && f) g days;
     }
 
 -- ---- a schedule's words
@@ -329,15 +341,16 @@ module _ (past : ℕ) (b : Book) (n : Near past b) where
   account-storable k h =
       let x : Account = get_or b.accounts k unused in
       let s = n.standing k h in
-      let t = topup-le x s.topup in
+      let t = topup-parts x s.topup in
       let d = day-le in
       let q = room-le in
       let w = rows-le in
       storable-more (omega (arith, leb-true x.state 3 s.state))
       (storable-more (omega (arith, request-le b.day x s.state s.zero s.request))
       (storable-more (omega (arith, eqb-true x.returned (count (returned_of (suc k)) b.rows) (n.counted k h).returned, count-le (returned_of (suc k)) b.rows))
-      (storable-more (omega (arith, t.threshold))
-      (storable-more (omega (arith, t.topup))
-      (storable-more (omega (arith, t.declines))
+      (storable-more (omega (arith, leb-true x.threshold highest_topup t.threshold))
+      (storable-more (omega (arith, leb-true x.topup highest_topup t.topup))
+      (storable-more (omega (arith, leb-true x.declines most_declines t.declines))
       (storable-more (omega (arith, leb-true x.declined b.day s.decline))
-      storable-none))))))
+      (storable-more (omega (arith, leb-true x.reserve code_yes t.reserve))
+      storable-none)))))))

@@ -1,7 +1,8 @@
--- Events 1 to 8 (document 01, "Events") and 10 (document 02, No. 1): what each does to the book when it is accepted, before settlement.
+-- Events 1 to 8 (document 01, "Events"), 10 and 11 (document 02, Nos. 1 and 4): what each does to the book when it is accepted, before
+-- settlement.
 use Rattle.std.specs.Prelude.{cond, ℕ, ◌+◌, ◌-◌, List, [], ◌∷◌, ◌++◌, map, set}
 use Rattle.records.specs.Codes.{method_card, method_check_returned, dispute_ended, dispute_upheld, code_yes}
-use Rattle.records.specs.AccountOperations.{opened, check_returned, declined_on, topup_paid, close_requested_on}
+use Rattle.records.specs.AccountOperations.{opened, check_returned, declined_on, topup_paid, close_requested_on, reserve_set}
 use Rattle.lists.specs.Tests.{◌is◌}
 use Rattle.lists.specs.Lists.{sum_by, only}
 use Rattle.records.specs.Limits.{return_fee}
@@ -86,7 +87,7 @@ decide b e = cond (e.b is code_yes) (uphold b e) (reject b e)
 
 -- ---- 7. "Top-up result: b 1 paid, 0 declined"
 
--- "Paid: a card payment, declines and last decline 0"
+-- "Paid: a card payment, declines and last decline 0", whichever method pays
 unfoldable pub pay_topup : Change
 pay_topup b e =
     add_row (with_mark method_card (new_row kind_payment e.account b.day (account b e.account).topup))
@@ -111,3 +112,9 @@ request_close b e = put_account e.account (close_requested_on b.day (account b e
 -- after the lists there are
 unfoldable pub add_list : Change
 add_list b e = with_lists (b.lists ++ (list_of e ∷ [])) b
+
+-- ---- 11. "Event 11 adds or removes a reserve, with word a 1 or 0" (document 02, No. 4)
+
+-- the account is put back with its reserve
+unfoldable pub set_reserve : Change
+set_reserve b e = put_account e.account (reserve_set e.a (account b e.account)) b

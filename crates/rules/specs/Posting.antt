@@ -9,7 +9,7 @@ use Rattle.rules.specs.Refusals.{Refusal, answer_number, after}
 
 -- ---- "Answer, five words: number, first new row (0 if none), new rows, tolls raised, 1 if the top-up was removed"
 
--- event 7: "the third clears all four words"
+-- event 7: "the third clears all four words"; "with a reserve, only then is the answer's last word 1" (document 02, No. 4)
 unfoldable pub removes_topup : Refusal
 removes_topup b e = e.kind is event_topup_result && e.b is 0 && last_decline (account b e.account)
 

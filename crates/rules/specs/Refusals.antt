@@ -1,7 +1,7 @@
--- The refusals 2 to 15 (document 01, "Events" and its table of answers; document 02), each a test, as one table in checking order.
+-- The refusals 2 to 16 (document 01, "Events" and its table of answers; document 02), each a test, as one table in checking order.
 use Rattle.std.specs.Prelude.{Bool, false, not, cond, ◌&&◌, ◌||◌, ℕ, ◌+◌, [], ◌∷◌, length, get_or, take, drop, leb, ltb}
-use Rattle.records.specs.Numbers.{answer_malformed, answer_unknown, answer_taken, answer_closed, answer_unclassed, answer_misdated, answer_duplicate, answer_barred, answer_no_row, answer_untimely, answer_last_day, answer_full, answer_ceiling, answer_list_refused}
-use Rattle.records.specs.Codes.{method_check, event_open, event_toll, event_payment, event_returned_check, event_dispute, event_decision, event_topup_result, event_close_request, event_tick, event_rate_list, method_card, code_yes, mode_tag, mode_plate}
+use Rattle.records.specs.Numbers.{answer_malformed, answer_unknown, answer_taken, answer_closed, answer_unclassed, answer_misdated, answer_duplicate, answer_barred, answer_no_row, answer_untimely, answer_last_day, answer_full, answer_ceiling, answer_list_refused, answer_reserve}
+use Rattle.records.specs.Codes.{method_check, event_open, event_toll, event_payment, event_returned_check, event_dispute, event_decision, event_topup_result, event_close_request, event_tick, event_rate_list, event_reserve, method_card, code_yes, mode_tag, mode_plate}
 use Rattle.lists.specs.Tests.{◌is◌, ◌from◌to◌, ◌implies◌, Cases, first}
 use Rattle.lists.specs.Lists.{exists}
 use Rattle.records.specs.Limits
@@ -9,7 +9,7 @@ use Rattle.rules.specs.Schedule.{class}
 use Rattle.rules.specs.RateLists.{list_of, last_first_day, list_in_range}
 use Rattle.rules.specs.Rows.{kind_toll, kind_payment, kind_refund, toll, held_toll, unsettled}
 use Rattle.rules.specs.Book.{state_unused, state_pending, state_closed, Instruction, Book, account, row, settled, topup_due}
-use Rattle.rules.specs.Events.{Change, open_account, post_toll, post_payment, return_check, hold_toll, decide, topup_result, request_close, add_list}
+use Rattle.rules.specs.Events.{Change, open_account, post_toll, post_payment, return_check, hold_toll, decide, topup_result, request_close, add_list, set_reserve}
 use Rattle.rules.specs.Tick.{tick}
 
 -- ---- the events by their kind, each ended by settlement
@@ -18,11 +18,11 @@ use Rattle.rules.specs.Tick.{tick}
 abbrev pub no_change : Change
 no_change b e = b
 
--- events 1 to 10; no other kind changes anything
+-- events 1 to 11; no other kind changes anything
 unfoldable pub change_of : ℕ → Change
 change_of k =
     get_or (no_change ∷ open_account ∷ post_toll ∷ post_payment ∷ return_check ∷ hold_toll ∷ decide ∷ topup_result ∷ request_close ∷ tick
-    ∷ add_list ∷ []) k no_change
+    ∷ add_list ∷ set_reserve ∷ []) k no_change
 
 -- the book after the event, were it accepted
 unfoldable pub after : Change
@@ -97,17 +97,21 @@ tick_form e = e.account is 0 && zero_from-a e
 unfoldable pub list_form : Form
 list_form e = e.account is 0 && list_in_range (list_of e)
 
+-- "Event 11 adds or removes a reserve, with word a 1 or 0" (document 02, No. 4)
+unfoldable pub reserve_form : Form
+reserve_form e = leb e.a code_yes && zero_from-b e
+
 -- the form of each kind
 unfoldable pub form_of : ℕ → Form
 form_of k =
-    get_or (no_form ∷ open_form ∷ toll_form ∷ payment_form ∷ return_form ∷ dispute_form ∷ decision_form ∷ result_form ∷ request_form ∷ tick_form
-    ∷ list_form ∷ []) k no_form
+    get_or (no_form ∷ open_form ∷ toll_form ∷ payment_form ∷ return_form ∷ dispute_form ∷ decision_form ∷ result_form ∷ request_form
+    ∷ tick_form ∷ list_form ∷ reserve_form ∷ []) k no_form
 
 -- the words are those of the event's kind
 unfoldable pub well_formed : Form
 well_formed e = form_of e.kind e
 
--- ---- 15, and 3 to 14
+-- ---- 15, 3 to 14, and 16
 
 -- a test of an event on a book
 abbrev pub Refusal : Type 0
@@ -141,10 +145,11 @@ unknown b e = cond (whole_book e) false (not (in_table b e) || not (e.kind is ev
 unfoldable pub taken : Refusal
 taken b e = e.kind is event_open && not (state_of b e is state_unused)
 
--- 5 "events 2, 3, 7, 8 on state 3"
+-- 5 "events 2, 3, 7, 8 on state 3"; event 11 "on a closed account" (document 02, No. 4)
 unfoldable pub on_closed : Refusal
 on_closed b e =
-    (e.kind is event_toll || e.kind is event_payment || e.kind is event_topup_result || e.kind is event_close_request)
+    (e.kind is event_toll || e.kind is event_payment || e.kind is event_topup_result || e.kind is event_close_request
+    || e.kind is event_reserve)
     && state_of b e is state_closed
 
 -- 6 "one axle above 90 inches": no class applies
@@ -195,9 +200,19 @@ not_due b e = not (topup_due b e.account)
 abbrev pub pending : Refusal
 pending b e = state_of b e is state_pending
 
+-- 11, event 11 "without a primary (a top-up amount above 0)" (document 02, No. 4)
+abbrev pub no_primary : Refusal
+no_primary b e = (account b e.account).topup is 0
+
 -- 11 by the event's kind
 unfoldable pub untimely : Refusal
-untimely b e = get_or (never ∷ never ∷ never ∷ never ∷ not_check ∷ not_disputable ∷ not_held ∷ not_due ∷ pending ∷ []) e.kind never b e
+untimely b e =
+    get_or (never ∷ never ∷ never ∷ never ∷ not_check ∷ not_disputable ∷ not_held ∷ not_due ∷ pending ∷ never ∷ never
+    ∷ no_primary ∷ []) e.kind never b e
+
+-- 16 "for adding one that exists or removing one that doesn't" (document 02, No. 4)
+unfoldable pub reserve_refused : Refusal
+reserve_refused b e = e.kind is event_reserve && (account b e.account).reserve is e.a
 
 -- 12 "tick on day 36,525"
 unfoldable pub last_day : Refusal
@@ -211,7 +226,8 @@ full b e = ltb b.room (length (after b e).rows)
 unfoldable pub ceiling : Refusal
 ceiling b e = exists (λ r. r.kind is kind_refund && ltb Limits.highest_refund r.amount) (drop (length b.rows) (after b e).rows)
 
--- "The lowest number that applies wins" (1 is the tables': see Calls), 15 "checked after 2" (document 02, No. 1)
+-- "The lowest number that applies wins" (1 is the tables': see Calls); 15 "checked after 2" (document 02, No. 1), 16 "checked after 11"
+-- (No. 4)
 unfoldable pub refusals : Book → Instruction → Cases
 refusals b e =
     (answer_malformed, not (well_formed e))
@@ -225,6 +241,7 @@ refusals b e =
     ∷ (answer_barred, barred b e)
     ∷ (answer_no_row, no_row b e)
     ∷ (answer_untimely, untimely b e)
+    ∷ (answer_reserve, reserve_refused b e)
     ∷ (answer_last_day, last_day b e)
     ∷ (answer_full, full b e)
     ∷ (answer_ceiling, ceiling b e)

@@ -1,7 +1,7 @@
 -- A sound book (document 01, "A book is sound when"): each clause a named test, and their conjunction. What concerns the
 -- tables alone, their lengths and the rows past the used ones, is in Tables.
 use Rattle.std.specs.Prelude.{Bool, not, cond, ◌&&◌, ◌||◌, ℕ, ◌+◌, ◌-◌, List, [], ◌∷◌, map, length, get_or, leb, ltb}
-use Rattle.records.specs.Codes.{method_check_returned, dispute_upheld}
+use Rattle.records.specs.Codes.{method_check_returned, dispute_upheld, code_yes}
 use Rattle.lists.specs.Tests.{◌is◌, ◌from◌to◌, ◌implies◌, all_of}
 use Rattle.lists.specs.Lists.{count, every}
 use Rattle.records.specs.Limits
@@ -127,12 +127,13 @@ unfoldable pub request_fits : ℕ → AccountTest
 request_fits today x = (x.state is state_open implies x.request is 0) && (leb state_pending x.state implies x.request from 1 to today)
 
 -- "threshold and top-up amount lie in 0 to 1,000,000, declines in 0 to 2, .. declines and last decline 0 together, all four 0 where
--- the amount is 0"
+-- the amount is 0"; the reserve "0 or 1, 0 without a primary" (document 02, No. 4)
 unfoldable pub topup_fits : AccountTest
 topup_fits x =
     leb x.threshold Limits.highest_topup && leb x.topup Limits.highest_topup && leb x.declines Limits.most_declines
     && (x.declines is 0 implies x.declined is 0) && (x.declined is 0 implies x.declines is 0)
-    && (x.topup is 0 implies x.threshold is 0 && x.declines is 0)
+    && leb x.reserve code_yes
+    && (x.topup is 0 implies x.threshold is 0 && x.declines is 0 && x.reserve is 0)
 
 -- "last decline in 0 to today"
 unfoldable pub decline_fits : ℕ → AccountTest

@@ -6,7 +6,7 @@ ghost use Rattle.rules.specs.Soundness.{state_fits, unused_zero, request_fits, t
 ghost use Rattle.sound_accounts.specs.Alone.{account_alone};
 
 use records::Account;
-use records::codes::{STATE_CLOSED, STATE_OPEN, STATE_PENDING, STATE_UNUSED};
+use records::codes::{CODE_YES, STATE_CLOSED, STATE_OPEN, STATE_PENDING, STATE_UNUSED};
 use records::limits::{HIGHEST_TOPUP, MOST_DECLINES};
 use sound_header::tests::{between, implies};
 
@@ -45,8 +45,10 @@ fn topup_fits(x: Account) -> bool
         & (x.declines <= MOST_DECLINES);
     let together = within
         & implies(x.declines == 0, x.declined == 0)
-        & implies(x.declined == 0, x.declines == 0);
-    together & implies(x.topup == 0, (x.threshold == 0) & (x.declines == 0))
+        & implies(x.declined == 0, x.declines == 0)
+        & (x.reserve <= CODE_YES);
+    let all_zero = (x.threshold == 0) & (x.declines == 0) & (x.reserve == 0);
+    together & implies(x.topup == 0, all_zero)
 }
 
 fn decline_fits(today: u64, x: Account) -> bool

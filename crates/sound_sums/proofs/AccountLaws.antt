@@ -11,7 +11,8 @@ use Rattle.std.specs.List.{range_with_len, AllWithin, HoldsAt}
 use Rattle.std.proofs.lemmas.List.FromFn.{length-range_with_len, get_or-range_with_len}
 use Rattle.lists.specs.Lists.{count}
 use Rattle.lists.proofs.ListLaws.{every-ext-tabulate, every-tabulate, every-fails}
-use Rattle.records.specs.Layout.{state_place, request_place, returned_place, threshold_place, topup_place, declines_place, declined_place}
+use Rattle.records.specs.Layout.{state_place, request_place, returned_place, threshold_place, topup_place, declines_place, declined_place, reserve_place}
+use Rattle.records.specs.Codes.{code_yes}
 use Rattle.records.specs.Encoding.{account_fields, rows_of, account_at, accounts_of}
 use Rattle.records.specs.Limits.{final_day, most_rows, highest_topup, most_declines, slot_count}
 use Rattle.rules.specs.Settlement
@@ -49,6 +50,8 @@ passes-alike today s x y d r w =
       alike-most _ _ (w.each declines_place) most_declines (omega arith),
       alike_is _ _ (w.each declined_place) 0 (omega arith),
       alike-most _ _ (w.each declined_place) today t,
+      alike_is _ _ (w.each reserve_place) 0 (omega arith),
+      alike-most _ _ (w.each reserve_place) code_yes (omega arith),
     )
 
 -- a count of returned checks is small

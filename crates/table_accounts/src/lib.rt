@@ -10,8 +10,8 @@ ghost use Rattle.table_accounts.specs.Reads.{AccountBy};
 
 use records::Account;
 use records::layout::{
-    ACCOUNT_WIDTH, DECLINED_PLACE, DECLINES_PLACE, REQUEST_PLACE, RETURNED_PLACE, STATE_PLACE,
-    THRESHOLD_PLACE, TOPUP_PLACE,
+    ACCOUNT_WIDTH, DECLINED_PLACE, DECLINES_PLACE, REQUEST_PLACE, RESERVE_PLACE, RETURNED_PLACE,
+    STATE_PLACE, THRESHOLD_PLACE, TOPUP_PLACE,
 };
 use records::words::natural;
 use tables::words::put_words;
@@ -31,6 +31,7 @@ pub fn account_by<F: Fn(i64) -> u64>(accounts: &[i64], i: usize, read: F) -> Acc
         topup: read(accounts[p + TOPUP_PLACE]),
         declines: read(accounts[p + DECLINES_PLACE]),
         declined: read(accounts[p + DECLINED_PLACE]),
+        reserve: read(accounts[p + RESERVE_PLACE]),
     }
 }
 
@@ -72,6 +73,7 @@ pub fn write_account(accounts: &mut [i64], i: usize, x: Account)
         x.topup,
         x.declines,
         x.declined,
+        x.reserve,
     ];
     put_words(accounts, i * ACCOUNT_WIDTH, words);
 }

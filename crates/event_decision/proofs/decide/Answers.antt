@@ -20,7 +20,7 @@ used-used-requires c = omega (arith, header-length _ c.requires.0)
 pub uphold-requires : goal.uphold-requires
 uphold-requires c =
     let p = c.requires in
-    upholdable _ p.0 _ p.1 c.in_ok-check_decision.ensures (eq-eqb _ _ c.if-e-eq-YES.true)
+    upholdable _ p.0 _ p.1 c.in_ok-check_decision.ensures (eq-eqb _ _ c.if-e-eq-CODE_YES.true)
 
 pub overflow_add-used : goal.overflow_add-used
 overflow_add-used c =
@@ -30,19 +30,19 @@ overflow_add-used c =
 pub settle_from-requires : goal.settle_from-requires
 settle_from-requires c =
     let p = c.requires in
-    rw c.used-used.ensures (upheld-settles _ p.0 _ p.1 c.in_ok-check_decision.ensures (eq-eqb _ _ c.if-e-eq-YES.true) _ _ c.uphold.ensures.upheld, upheld-begins _ p.0 _ p.1 c.in_ok-check_decision.ensures (eq-eqb _ _ c.if-e-eq-YES.true) _ _ c.uphold.ensures.upheld _ p.2)
+    rw c.used-used.ensures (upheld-settles _ p.0 _ p.1 c.in_ok-check_decision.ensures (eq-eqb _ _ c.if-e-eq-CODE_YES.true) _ _ c.uphold.ensures.upheld, upheld-begins _ p.0 _ p.1 c.in_ok-check_decision.ensures (eq-eqb _ _ c.if-e-eq-CODE_YES.true) _ _ c.uphold.ensures.upheld _ p.2)
 
 pub posted-requires : goal.posted-requires
 posted-requires c =
     let u = c.used-used.ensures in
     omega (arith, used-small _ c.requires.0)
 
-pub returns-then-e-eq-YES-clause-posts : goal.returns-then-e-eq-YES-clause-posts
-returns-then-e-eq-YES-clause-posts c =
+pub returns-then-e-eq-CODE_YES-clause-posts : goal.returns-then-e-eq-CODE_YES-clause-posts
+returns-then-e-eq-CODE_YES-clause-posts c =
     let p = c.requires in
     let d = rw c.used-used.ensures at c.settle_from.ensures in
     rw (c.posted.ensures, c.used-used.ensures, c.uphold.ensures.accounts)
-    (upheld-posts _ p.0 _ p.1 c.in_ok-check_decision.ensures (eq-eqb _ _ c.if-e-eq-YES.true) _ _ c.uphold.ensures.upheld _ d)
+    (upheld-posts _ p.0 _ p.1 c.in_ok-check_decision.ensures (eq-eqb _ _ c.if-e-eq-CODE_YES.true) _ _ c.uphold.ensures.upheld _ d)
 
 pub freed_row-free-requires : goal.freed_row-free-requires
 freed_row-free-requires c =
@@ -52,4 +52,4 @@ freed_row-free-requires c =
 pub put_and_settle-requires : goal.put_and_settle-requires
 put_and_settle-requires c =
     let p = c.requires in
-    (p.0, p.2, rw c.freed_row-free.ensures (rejected-puts _ p.0 _ p.1 c.in_ok-check_decision.ensures (ne_eqb _ _ c.if-e-eq-YES.false)))
+    (p.0, p.2, rw c.freed_row-free.ensures (rejected-puts _ p.0 _ p.1 c.in_ok-check_decision.ensures (ne_eqb _ _ c.if-e-eq-CODE_YES.false)))

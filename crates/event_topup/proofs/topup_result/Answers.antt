@@ -16,7 +16,7 @@ returns-in_err-check_result-clause-posts c =
 
 pub pay_topup-requires : goal.pay_topup-requires
 pay_topup-requires c =
-    (record { sound = c.requires.0; kind = c.requires.1; accepted = c.in_ok-check_result.ensures; paid = c.if-e-eq-PAID.true }, c.requires.2, c.requires.4)
+    (record { sound = c.requires.0; kind = c.requires.1; accepted = c.in_ok-check_result.ensures; paid = c.if-e-eq-CODE_YES.true }, c.requires.2, c.requires.4)
 
 pub day-requires : goal.day-requires
 day-requires c = omega (arith, header-length _ c.requires.0)
@@ -44,5 +44,5 @@ pub returns-clause-posts : goal.returns-clause-posts
 returns-clause-posts c =
     let s = c.requires.0 in
     let changed = rw (c.decline-declined.ensures, c.day.ensures, c.requires.4, day-read _ s) at c.write_account.ensures in
-    rw (c.posted.ensures, c.removed_by_decline.ensures, c.requires.4)
-    (declined-posts _ s _ c.requires.1 (c.in_ok-check_result.ensures) c.if-e-eq-PAID.false _ changed)
+    rw (c.posted.ensures, c.last_decline.ensures, c.requires.4)
+    (declined-posts _ s _ c.requires.1 (c.in_ok-check_result.ensures) c.if-e-eq-CODE_YES.false _ changed)

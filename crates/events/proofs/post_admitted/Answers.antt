@@ -9,5 +9,6 @@ pub returns-in_default : goal.returns-in_default
 returns-in_default c =
     let r = c.in_default.in_default-own.rest in
     let formed = shared-formed _ _ c.requires.2 in
-    let none = no-form _ _ r.0.0.0.0.0.0.0.0.0.1 r.0.0.0.0.0.0.0.0.1 r.0.0.0.0.0.0.0.1 r.0.0.0.0.0.0.1 r.0.0.0.0.0.1 r.0.0.0.0.1 r.0.0.0.1 r.0.0.1 r.0.1 r.1 in
+    let none = no-form _ _ r.0.0.0.0.0.0.0.0.0.0.1 r.0.0.0.0.0.0.0.0.0.1 r.0.0.0.0.0.0.0.0.1 r.0.0.0.0.0.0.0.1
+    r.0.0.0.0.0.0.1 r.0.0.0.0.0.1 r.0.0.0.0.1 r.0.0.0.1 r.0.0.1 r.0.1 r.1 in
     absurd (true≢false (sym formed ∙ sym (well_formed-of _ _ refl) ∙ none))

@@ -1,4 +1,4 @@
--- `account_by` meets its contract: seven words, read in the layout's order.
+-- `account_by` meets its contract: eight words, read in the layout's order.
 use borrow.Author.Rules.{rules}
 use Rattle.table_accounts.proofs.account_by.Goals as goal
 
@@ -12,4 +12,5 @@ returns g c =
       topup = search rules;
       declines = search rules;
       declined = search rules;
+      reserve = search rules;
     }

@@ -1,0 +1,91 @@
+-- Event 11: which refusals concern it, and the book that it makes.
+use mathlib.Core.Path.{◌≡◌, refl, sym}
+use mathlib.Core.Bool.{Bool, true, false, not}
+use Prim.Native.Nat.{◌-◌, ◌≤◌}
+use native.Mathlib.Omega.{arith}
+use mathlib.Core.List.{List, [], ◌∷◌}
+use lib.ListN.{length}
+use lib.IntN.{ℤ}
+use lib.Dec.{leb}
+use borrow.Author.Tests.{leb-true, not-false}
+use Rattle.records.specs.Numbers.{answer_untimely, answer_reserve}
+use Rattle.records.specs.Codes.{event_reserve, code_yes}
+use Rattle.records.specs.Layout.{reserve_place}
+use Rattle.records.specs.Encoding.{StorableAccount}
+use Rattle.records.proofs.FieldLaws.{storable-set}
+use Rattle.records.specs.AccountOperations.{reserve_set}
+use Rattle.lists.specs.Tests.{◌is◌, first}
+use Rattle.lists.proofs.TestLaws.{and_left}
+use Rattle.rules.specs.Book.{Account, Instruction, Book, account, put_account}
+use Rattle.rules.specs.Events.{set_reserve}
+use Rattle.rules.specs.Refusals.{change_of, zero_from-b, reserve_form, form_of, well_formed, answer_number, own_refusals}
+use Rattle.rules.specs.Posting.{removes_topup}
+use Rattle.rules.specs.Tables.{Tables, rows_used, book_of, sound_tables}
+use Rattle.rules.proofs.RefusalLaws.{own_tests, answer_number-own}
+use Rattle.preservation.proofs.Accepted.{accepted}
+use Rattle.tables.specs.Changes.{AccountChanged}
+use Rattle.posting.specs.Posts.{tables_at, acceptance_of, Posts}
+use Rattle.posting.proofs.BookLaws.{account-holds}
+use Rattle.records.specs.Updates.{of_kind}
+use Rattle.posting_laws.proofs.RefusalLaws.{at-kind}
+use Rattle.posting_laws.proofs.AccountEventLaws.{rows_fit, never-full, never-above, account-posts}
+use Rattle.event_refusals.specs.Admissions.{Admitted}
+use Rattle.event_accounts.specs.AccountEvents.{reserve_refusals}
+
+module _ (b : Book) (e : Instruction) (fit : length b.rows ≤ b.room) where
+  abbrev event11 : Instruction
+  event11 = of_kind event_reserve e
+
+  change-reserve : (change_of event_reserve b event11).rows ≡ b.rows
+  unfolding change_of set_reserve
+  change-reserve = refl
+
+  own-11 : first (own_refusals b event11) ≡ first (reserve_refusals b event11)
+  unfolding own_tests reserve_refusals
+  own-11 = rw (never-full b event11 change-reserve fit, never-above b event11 change-reserve)
+
+-- the number that event 11 gets on sound tables where no shared refusal applies
+pub answer-reserve : (t : Tables) → sound_tables t ≡ true → (e : Instruction) → e.kind ≡ event_reserve → Admitted t e
+    → first (reserve_refusals (book_of t) e) ≡ answer_number (book_of t) e
+answer-reserve t s e k a =
+    let own = own-11 (book_of t) e (rows_fit t s) in
+    let q = at-kind (λ x. first (own_refusals (book_of t) x) ≡ first (reserve_refusals (book_of t) x)) e 11 k own in
+    rw (answer_number-own (book_of t) e a, q)
+
+-- its own part, with what each test came to
+pub reserve-by : (b : Book) (e : Instruction) (u r : Bool) → (account b e.account).topup is 0 ≡ u → (account b e.account).reserve is e.a ≡ r
+    → first ((answer_untimely, u) ∷ (answer_reserve, r) ∷ []) ≡ first (reserve_refusals b e)
+unfolding reserve_refusals
+reserve-by b e u r v w = rw (v, w)
+
+-- ---- what an accepted event 11 leaves
+
+module _ (t : Tables) (s : sound_tables t ≡ true) (e : Instruction) (k : e.kind ≡ event_reserve) (q : 0 ≡ answer_number (book_of t) e) where
+  abbrev reserved_account : Account
+  reserved_account = reserve_set e.a (account (book_of t) e.account)
+
+  changed : change_of e.kind (book_of t) e ≡ put_account e.account reserved_account (book_of t)
+  unfolding change_of set_reserve
+  changed =
+      at-kind (λ x. change_of x.kind (book_of t) x ≡ put_account x.account (reserve_set x.a (account (book_of t) x.account)) (book_of t))
+      e 11 k refl
+
+  formed : reserve_form e ≡ true
+  unfolding well_formed form_of
+  formed =
+      at-kind (λ x. not (well_formed x) ≡ false → reserve_form x ≡ true) e 11 k (λ w. not-false _ w) (accepted (book_of t) e (sym q)).formed
+
+  pub reserve-storable : StorableAccount reserved_account
+  unfolding reserve_form
+  reserve-storable =
+      let least : leb e.a code_yes ≡ true = and_left (leb e.a code_yes) (zero_from-b e) formed in
+      storable-set _ reserve_place e.a (omega (arith, leb-true e.a code_yes least)) (account-holds t s e.account)
+
+  pub reserve-posts : (acc : List ℤ) → AccountChanged t.accounts acc (e.account - 1) reserved_account
+      → Posts t (tables_at t.header acc t.journal) e (acceptance_of (rows_used t) 0 0 0)
+  reserve-posts acc w =
+      let p = account-posts t s e (rw k) q reserved_account changed acc w in
+      rw keeps-topup at p
+    where
+      keeps-topup : removes_topup (book_of t) e ≡ false
+      keeps-topup = unfold removes_topup in (rw k)
