@@ -163,6 +163,6 @@ static event fitting_event(struct host *host, const struct book *b)
 event next_event(struct host *host, const struct book *b)
 {
     const event e = fitting_event(host, b);
-    random_word(host); /* unused: so the books stay those of all times in docs/SPEED.md */
+    random_word(host); /* unused: so as many are drawn as for all books in docs/SPEED.md */
     return e;
 }

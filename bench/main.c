@@ -120,8 +120,8 @@ static int64_t post_to_book(const event *e)
     return post(&b, e).number;
 }
 
-/* As many rate lists as a book holds, each with the opening's rates: tolls look theirs up, and the
- * books stay those of all times in docs/SPEED.md. */
+/* As many rate lists as a book holds, each with the opening's rates: tolls look theirs up, and their
+ * amounts are those of all books in docs/SPEED.md. */
 static void add_rate_lists(void)
 {
     const int64_t *r = schedule + TOLL_LEDGER_SCHEDULE_WORDS - RATES;

@@ -28,7 +28,7 @@
 /* The version of this interface: the first number rises where a host must change or its stored
  * books no longer fit, the second where something is added, the third where neither is. */
 #define TOLL_LEDGER_VERSION_MAJOR 3
-#define TOLL_LEDGER_VERSION_MINOR 0
+#define TOLL_LEDGER_VERSION_MINOR 1
 #define TOLL_LEDGER_VERSION_PATCH 0
 
 /* For compilers that can warn: a call's number must not be ignored, and no pointer may be null. */
@@ -174,9 +174,10 @@ enum toll_ledger_dispute {
 
 /*
  * Events: nine words each, kind, account, a, b, c, d, e, f, g. Words that a kind doesn't name are
- * 0. Every accepted event ends with settlement: unused sources of an account pay its unsettled
- * debits that aren't held, each in row order. An event but the tick changes its own account alone,
- * a rate list none.
+ * 0. Every accepted event ends with settlement: unused sources of an account, in row order, pay its
+ * unsettled tolls that aren't held, in row order, then its unsettled fees and reversals that aren't
+ * held, together in row order. What is settled stays so. An event but the tick changes its own
+ * account alone, a rate list none.
  */
 enum toll_ledger_event_kind {
     /* a threshold, b top-up amount: 0 to 1,000,000 each, a 0 if b is. Opens an unused account. */

@@ -1,6 +1,6 @@
-/* Every answer number with events that give it, rate lists, reserves, and document 01's marked
- * examples M1 to M8. The parts between marks below stand word for word in docs/HOSTS.md; tests/run
- * compares. */
+/* Every answer number with events that give it, rate lists, the order of payment, reserves, and
+ * document 01's marked examples M1 to M8. The parts between marks below stand word for word in
+ * docs/HOSTS.md; tests/run compares. */
 #include "book.h"
 
 #include <string.h>
@@ -199,6 +199,32 @@ static void rates_ahead(struct book *b)
 }
 /* examples: end */
 
+/* examples: begin, of payments */
+/* Row 1 is a toll that has risen twice, row 2 its fee, row 3 a later toll. A payment clears both
+ * tolls, then 200 of the fee. The toll in row 5 comes before the rest of the fee, which keeps its
+ * 200. */
+static void tolls_first(struct book *b)
+{
+    CHECK(post(b, TOLL_LEDGER_EVENT_OPEN, 7, 0, 0) == TOLL_LEDGER_POSTED);
+    CHECK(post(b, TOLL_LEDGER_EVENT_TOLL, 7, 41, 1, 2, 60, 2) == TOLL_LEDGER_POSTED);
+    ticks(b, 60);
+    CHECK(post(b, TOLL_LEDGER_EVENT_TOLL, 7, 42, 61, 2, 60, 2) == TOLL_LEDGER_POSTED);
+    CHECK(balance(b, 7) == -1500);
+    CHECK(post(b, TOLL_LEDGER_EVENT_PAYMENT, 7, 1200, 1) == TOLL_LEDGER_POSTED); /* row 4 */
+    CHECK(row_of(b, 1)[TOLL_LEDGER_ROW_SETTLED] == 500);
+    CHECK(row_of(b, 3)[TOLL_LEDGER_ROW_SETTLED] == 500);
+    CHECK(row_of(b, 2)[TOLL_LEDGER_ROW_SETTLED] == 200);
+    CHECK(post(b, TOLL_LEDGER_EVENT_TOLL, 7, 43, 61, 2, 60, 2) == TOLL_LEDGER_POSTED); /* row 5 */
+    CHECK(post(b, TOLL_LEDGER_EVENT_PAYMENT, 7, 400, 1) == TOLL_LEDGER_POSTED);
+    CHECK(row_of(b, 5)[TOLL_LEDGER_ROW_SETTLED] == 400);
+    CHECK(row_of(b, 2)[TOLL_LEDGER_ROW_SETTLED] == 200);
+    CHECK(post(b, TOLL_LEDGER_EVENT_PAYMENT, 7, 400, 1) == TOLL_LEDGER_POSTED);
+    CHECK(row_of(b, 5)[TOLL_LEDGER_ROW_SETTLED] == 500);
+    CHECK(row_of(b, 2)[TOLL_LEDGER_ROW_SETTLED] == 500);
+    CHECK(balance(b, 7) == 0);
+}
+/* examples: end */
+
 /* examples: begin, of top-ups */
 /* A toll in dispute makes no top-up due: the balance includes it, but with the 500 that are held added
  * it is 101, above the threshold. Once the toll is to be paid after all, the top-up is due. */
@@ -390,7 +416,7 @@ int main(void)
         {last_day, 64, 512, 36525}, {full, 64, 1, 1},     {largest_refund, 7, 8192, 1}, {listing, 64, 512, 1},
         {classes, 64, 512, 1},   {stages_and_holds, 64, 512, 1}, {closing, 64, 512, 1}, {declines, 64, 512, 1},
         {rates_ahead, 64, 512, 1}, {held_topup, 64, 512, 1}, {reserve, 64, 512, 1},
-        {reserve_life, 64, 512, 1},
+        {reserve_life, 64, 512, 1}, {tolls_first, 64, 512, 1},
     };
     for (size_t i = 0; i < sizeof examples / sizeof examples[0]; i++) {
         struct book b = open_book(examples[i].accounts, examples[i].rows, examples[i].first_day);

@@ -1,5 +1,6 @@
-/* The borders of the calls: lengths of every kind, words of every size, rate lists, reserves,
- * answer tables, batches, and full books. Every table stands in a place of exactly its size. */
+/* The borders of the calls: lengths of every kind, words of every size, rate lists, reserves, the
+ * order of payment, answer tables, batches, and full books. Every table stands in a place of
+ * exactly its size. */
 #include "book.h"
 
 #include <string.h>
@@ -610,6 +611,184 @@ static void damaged_reserves(void)
     free_book(&b);
 }
 
+static int64_t settled(struct book *b, int64_t row)
+{
+    return row_of(b, row)[TOLL_LEDGER_ROW_SETTLED];
+}
+
+/* What a debt of `owed` gets of so much money that comes after `before` other debts are paid. */
+static int64_t share(int64_t money, int64_t before, int64_t owed)
+{
+    const int64_t left = money - before;
+    return left < 0 ? 0 : left < owed ? left : owed;
+}
+
+/* The debts of indebted_book in the order of payment. */
+static const struct {
+    int64_t row, paid, owed;
+} debts[] = {{1, 300, 200}, {6, 0, 500}, {3, 0, 300}, {4, 0, 600}, {5, 0, 500}};
+#define DEBTS (sizeof debts / sizeof debts[0])
+
+/* Account 1 on day 61: row 1 is a toll paid in part by the check in row 2, rows 3 and 4 are the
+ * reversal and the fee of its return, row 5 the fee of the toll's stage 2, row 6 a later toll. */
+static struct book indebted_book(int64_t topup)
+{
+    struct book b = open_book(2, 12, 1);
+    CHECK(post(&b, TOLL_LEDGER_EVENT_OPEN, 1, 0, topup) == 0);
+    CHECK(post(&b, TOLL_LEDGER_EVENT_TOLL, 1, 41, 1, 2, 60, 2) == 0);
+    CHECK(post(&b, TOLL_LEDGER_EVENT_PAYMENT, 1, 300, 3) == 0);
+    CHECK(post(&b, TOLL_LEDGER_EVENT_RETURNED_CHECK, 1, 2, 100) == 0);
+    ticks(&b, 60);
+    CHECK(post(&b, TOLL_LEDGER_EVENT_TOLL, 1, 42, 61, 2, 60, 2) == 0);
+    for (size_t i = 0; i < DEBTS; i++) {
+        const int64_t *row = row_of(&b, debts[i].row);
+        CHECK(row[TOLL_LEDGER_ROW_SETTLED] == debts[i].paid);
+        CHECK(row[TOLL_LEDGER_ROW_AMOUNT] == debts[i].paid + debts[i].owed);
+    }
+    return b;
+}
+
+/* So much money reaches an indebted book: as a payment, as two, as two in a batch, as a top-up. */
+static void pay_debts(int64_t money, int way)
+{
+    struct book b = indebted_book(way == 3 ? money : 0);
+    const int64_t part = money / 2;
+    const struct toll_ledger_event_record two[] = {
+        record(TOLL_LEDGER_EVENT_PAYMENT, 1, part, 1),
+        record(TOLL_LEDGER_EVENT_PAYMENT, 1, money - part, 2),
+    };
+    if (way == 0)
+        CHECK(post(&b, TOLL_LEDGER_EVENT_PAYMENT, 1, money, 1) == 0);
+    else if (way == 1)
+        for (int i = 0; i < 2; i++)
+            CHECK(post(&b, TOLL_LEDGER_EVENT_PAYMENT, 1, two[i].a, two[i].b) == 0);
+    else if (way == 2)
+        CHECK(batch(&b, two, 2, NULL, 10) == 0);
+    else
+        CHECK(post(&b, TOLL_LEDGER_EVENT_TOPUP_RESULT, 1, 0, 1) == 0);
+    int64_t before = 0;
+    for (size_t i = 0; i < DEBTS; i++) {
+        CHECK(settled(&b, debts[i].row) == debts[i].paid + share(money, before, debts[i].owed));
+        before += debts[i].owed;
+    }
+    const int64_t first = way == 1 || way == 2 ? part : money; /* in row 7 */
+    CHECK(settled(&b, 7) == share(first, 0, before));
+    CHECK(first == money || settled(&b, 8) == share(money, first, before - first));
+    CHECK(sound(&b) == TOLL_LEDGER_POSTED);
+    free_book(&b);
+}
+
+/* Tolls are paid in row order, then fees and reversals together in row order: amounts that end
+ * where a debt is paid whole, and a cent beside it. */
+static void tolls_before_fees(void)
+{
+    int64_t end = 0;
+    for (size_t i = 0; i < DEBTS; i++) {
+        end += debts[i].owed;
+        for (int64_t money = end - 1; money <= end + 1; money++)
+            for (int way = 0; way < 4; way++)
+                pay_debts(money, way);
+    }
+    for (int way = 0; way < 4; way++)
+        pay_debts(2, way);
+}
+
+/* A held toll and its fees are passed over, among tolls as among fees; once the hold has ended, by
+ * a verdict or within a tick, the unused money pays them. */
+static void held_debts_wait(void)
+{
+    for (int by_tick = 0; by_tick < 2; by_tick++) {
+        struct book b = indebted_book(0);
+        CHECK(post(&b, TOLL_LEDGER_EVENT_DISPUTE, 1, 1) == 0);
+        CHECK(post(&b, TOLL_LEDGER_EVENT_PAYMENT, 1, 1399, 1) == 0); /* row 7 */
+        CHECK(settled(&b, 6) == 500 && settled(&b, 3) == 300 && settled(&b, 4) == 599);
+        CHECK(settled(&b, 1) == 300 && settled(&b, 5) == 0);
+        CHECK(post(&b, TOLL_LEDGER_EVENT_PAYMENT, 1, 601, 1) == 0); /* row 8 */
+        CHECK(settled(&b, 4) == 600 && settled(&b, 8) == 1);
+        CHECK(settled(&b, 1) == 300 && settled(&b, 5) == 0);
+        if (by_tick)
+            ticks(&b, 30);
+        else
+            CHECK(post(&b, TOLL_LEDGER_EVENT_DECISION, 1, 1, 0) == 0);
+        CHECK(settled(&b, 1) == 500 && settled(&b, 5) == 400 && settled(&b, 8) == 601);
+        CHECK(sound(&b) == TOLL_LEDGER_POSTED);
+        free_book(&b);
+    }
+}
+
+/* A tick that ends the holds of two tolls, in rows 1 and 3, pays both before the fee in row 2. */
+static void tolls_before_fees_in_a_tick(void)
+{
+    for (int64_t end = 0; end <= 1500; end += 500)
+        for (int64_t money = end < 1 ? 1 : end - 1; money <= end + 1; money++) {
+            struct book b = open_book(2, 12, 1);
+            CHECK(post(&b, TOLL_LEDGER_EVENT_OPEN, 1, 0, 0) == 0);
+            CHECK(post(&b, TOLL_LEDGER_EVENT_TOLL, 1, 41, 1, 2, 60, 2) == 0);
+            ticks(&b, 60);
+            CHECK(post(&b, TOLL_LEDGER_EVENT_TOLL, 1, 42, 61, 2, 60, 2) == 0);
+            CHECK(post(&b, TOLL_LEDGER_EVENT_DISPUTE, 1, 1) == 0);
+            CHECK(post(&b, TOLL_LEDGER_EVENT_DISPUTE, 1, 3) == 0);
+            CHECK(post(&b, TOLL_LEDGER_EVENT_PAYMENT, 1, money, 1) == 0); /* row 4 */
+            ticks(&b, 29);
+            CHECK(settled(&b, 4) == 0);
+            ticks(&b, 1);
+            CHECK(settled(&b, 1) == share(money, 0, 500));
+            CHECK(settled(&b, 3) == share(money, 500, 500));
+            CHECK(settled(&b, 2) == share(money, 1000, 500));
+            CHECK(settled(&b, 4) == share(money, 0, 1500));
+            CHECK(sound(&b) == TOLL_LEDGER_POSTED);
+            free_book(&b);
+        }
+}
+
+/* An upheld credit covers its own toll and that toll's fee, whatever else is owed before them; the
+ * rest of it pays a toll before an older fee. */
+static void credits_cover_their_own(void)
+{
+    struct book b = open_book(2, 12, 1);
+    CHECK(post(&b, TOLL_LEDGER_EVENT_OPEN, 1, 0, 0) == 0);
+    CHECK(post(&b, TOLL_LEDGER_EVENT_TOLL, 1, 41, 1, 2, 60, 2) == 0);
+    CHECK(post(&b, TOLL_LEDGER_EVENT_TOLL, 1, 42, 1, 2, 60, 2) == 0);
+    ticks(&b, 60); /* rows 3 and 4: their fees */
+    CHECK(post(&b, TOLL_LEDGER_EVENT_PAYMENT, 1, 700, 1) == 0); /* row 5 */
+    CHECK(settled(&b, 1) == 500 && settled(&b, 2) == 200);
+    CHECK(post(&b, TOLL_LEDGER_EVENT_TOLL, 1, 43, 61, 2, 60, 2) == 0); /* row 6 */
+    CHECK(post(&b, TOLL_LEDGER_EVENT_DISPUTE, 1, 2) == 0);
+    CHECK(post(&b, TOLL_LEDGER_EVENT_DECISION, 1, 2, 1) == 0); /* row 7: 800 for these, 200 left */
+    CHECK(settled(&b, 2) == 500 && settled(&b, 4) == 500);
+    CHECK(settled(&b, 6) == 200 && settled(&b, 3) == 0);
+    CHECK(row_of(&b, 7)[TOLL_LEDGER_ROW_AMOUNT] == 1000 && settled(&b, 7) == 1000);
+    CHECK(sound(&b) == TOLL_LEDGER_POSTED);
+    free_book(&b);
+}
+
+/* A fee paid in part beside unpaid tolls, later and earlier ones: sound, and left as it is until
+ * the tolls are paid. The earlier ones are as another order of payment may have left them. */
+static void fees_paid_beside_tolls(void)
+{
+    for (int moved = 0; moved < 2; moved++) {
+        struct book b = indebted_book(0);
+        CHECK(post(&b, TOLL_LEDGER_EVENT_PAYMENT, 1, 1100, 1) == 0);
+        CHECK(settled(&b, 4) == 100 && settled(&b, 5) == 0);
+        CHECK(post(&b, TOLL_LEDGER_EVENT_TOLL, 1, 43, 61, 2, 60, 2) == 0); /* row 8 */
+        CHECK(sound(&b) == TOLL_LEDGER_POSTED);
+        if (moved) { /* from the toll in row 6 to both fees */
+            row_of(&b, 6)[TOLL_LEDGER_ROW_SETTLED] -= 400;
+            row_of(&b, 4)[TOLL_LEDGER_ROW_SETTLED] += 300;
+            row_of(&b, 5)[TOLL_LEDGER_ROW_SETTLED] += 100;
+            CHECK(sound(&b) == TOLL_LEDGER_POSTED);
+        }
+        const int64_t tolls = moved ? 900 : 500, fee = moved ? 400 : 100;
+        CHECK(post(&b, TOLL_LEDGER_EVENT_PAYMENT, 1, tolls - 1, 1) == 0);
+        CHECK(settled(&b, 6) == 500 && settled(&b, 8) == 499);
+        CHECK(settled(&b, 4) == fee && settled(&b, 5) == (moved ? 100 : 0));
+        CHECK(post(&b, TOLL_LEDGER_EVENT_PAYMENT, 1, 2, 1) == 0);
+        CHECK(settled(&b, 8) == 500 && settled(&b, 4) == fee + 1);
+        CHECK(sound(&b) == TOLL_LEDGER_POSTED);
+        free_book(&b);
+    }
+}
+
 /* Batches of no event, of 4,096 and of one more, with answer tables that just fit, or just not. */
 static void sizes_of_batches(void)
 {
@@ -712,6 +891,11 @@ int main(void)
     results_with_reserves();
     reserve_on_a_full_journal();
     damaged_reserves();
+    tolls_before_fees();
+    held_debts_wait();
+    tolls_before_fees_in_a_tick();
+    credits_cover_their_own();
+    fees_paid_beside_tolls();
     sizes_of_batches();
     full_book();
     return 0;

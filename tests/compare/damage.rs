@@ -14,6 +14,7 @@ pub struct Met {
     pub reserves_out: u64,   // unsound by a reserve alone that is neither 0 nor 1
     pub reserves_alone: u64, // and by one alone beside no top-up
     pub reserves_sound: u64, // sound, with another reserve
+    pub moved_sound: u64,    // sound, with money moved from a toll to a fee or reversal, or back
     pub lengths: u64,
     pub answer_tables: u64,
 }
@@ -119,7 +120,7 @@ fn damage(random: &mut Random, t: &mut Book) {
     let i = row(random, t);
     let k = mate(random, t, i);
     let (x, y) = (random.index(t.count()), random.index(t.count()));
-    match random.below(27) {
+    match random.below(29) {
         0..=6 => {
             for _ in 0..random.pick(&[1, 1, 1, 2]) {
                 let word = place(random, &whole, t);
@@ -144,6 +145,7 @@ fn damage(random: &mut Random, t: &mut Book) {
         18 => change_state(random, t, x),
         19..=21 => change_lists(random, t),
         22..=24 => change_reserve(random, t, x),
+        25..=26 => move_between(random, t),
         _ => change_topup(random, t, x),
     }
 }
@@ -154,6 +156,26 @@ fn move_settled(random: &mut Random, t: &mut Book, i: usize, k: usize) {
     let part = random.pick(&[1, 1, 5, 100, settled, amount - settled]);
     t.journal[at(i, ROW_SETTLED)] += part;
     t.journal[at(k, ROW_SETTLED)] += random.pick(&[part, -part]);
+}
+
+/// Money moved from a toll of an account to a fee or reversal, or back, mostly as much as fits: a book may be sound whichever
+/// of them was paid first.
+fn move_between(random: &mut Random, t: &mut Book) {
+    let tolls: Vec<usize> = (0..t.rows_used()).filter(|r| t.journal[at(*r, ROW_KIND)] == KIND_TOLL).collect();
+    let is_other = |r: &usize| matches!(t.journal[at(*r, ROW_KIND)], KIND_FEE | KIND_REVERSAL);
+    let others: Vec<usize> = (0..t.rows_used()).filter(is_other).collect();
+    if tolls.is_empty() || others.is_empty() {
+        return;
+    }
+    let other = random.pick(&others);
+    let account = t.journal[at(other, ROW_ACCOUNT)];
+    let own: Vec<usize> = tolls.iter().copied().filter(|r| t.journal[at(*r, ROW_ACCOUNT)] == account).collect();
+    let toll = random.pick(if own.is_empty() { &tolls } else { &own });
+    let (from, to) = random.pick(&[(toll, other), (other, toll)]);
+    let most = t.journal[at(from, ROW_SETTLED)].min(t.journal[at(to, ROW_AMOUNT)] - t.journal[at(to, ROW_SETTLED)]);
+    let part = random.pick(&[most, most, most, (most + 1) / 2, 1, most + 1]);
+    t.journal[at(from, ROW_SETTLED)] -= part;
+    t.journal[at(to, ROW_SETTLED)] += part;
 }
 
 /// One amount or two, now and then to the most that the kind allows or one more.
@@ -316,6 +338,15 @@ fn other_reserve(x: &Book, y: &Book) -> bool {
     x.all_accounts().zip(y.all_accounts()).any(|(a, b)| a[ACCOUNT_RESERVE] != b[ACCOUNT_RESERVE])
 }
 
+/// Whether a toll is paid more in one of two books of the same rows, and a fee or reversal less.
+fn moved(x: &Book, y: &Book) -> bool {
+    let paid_more = |toll: bool, x: &Book, y: &Book| {
+        let mut rows = x.used_rows().zip(y.used_rows()).filter(|(r, _)| (r[ROW_KIND] == KIND_TOLL) == toll);
+        rows.any(|(r, s)| matches!(r[ROW_KIND], KIND_TOLL..=KIND_REVERSAL) && r[ROW_SETTLED] > s[ROW_SETTLED])
+    };
+    paid_more(true, x, y) && paid_more(false, y, x) || paid_more(false, x, y) && paid_more(true, y, x)
+}
+
 /// Tables longer or shorter than a book's.
 fn resize(random: &mut Random, t: &mut Book) {
     let filler = random.pick(&[0, 0, 1]);
@@ -342,7 +373,7 @@ fn call(random: &mut Random, host: &mut Host, whole: &Book, met: &mut Met) -> Ca
     if !MODEL.is_sound(whole) {
         return Call::Balance(n);
     }
-    let event = host.event(random, whole);
+    let event = host.single(random, whole);
     let mut odd = |random: &mut Random, fit: usize| {
         if !random.once_in(3) {
             return fit;
@@ -393,6 +424,7 @@ pub fn run(random: &mut Random, host: &mut Host, whole: &Book, met: &mut Met) ->
     met.reserves_out += unsound_by_reserve(&damaged, |a| !(0..=1).contains(&a[ACCOUNT_RESERVE])) as u64;
     met.reserves_alone += unsound_by_reserve(&damaged, |a| a[ACCOUNT_TOPUP] == 0 && a[ACCOUNT_RESERVE] == 1) as u64;
     met.reserves_sound += (sound && other_reserve(&damaged, whole)) as u64;
+    met.moved_sound += (sound && moved(&damaged, whole)) as u64;
     let call = call(random, host, whole, met);
     match Pair::new(damaged.clone()).call(&call) {
         Ok(_) => Ok(()),

@@ -5,6 +5,7 @@ use calls::{event, Book, Event, MODEL};
 
 // Limits of documents 01 and 02 that the header has no name for.
 pub const LAST_STAGE: i64 = 4;
+const HOLD_DAYS: i64 = 30;
 pub const MOST_AMOUNT: i64 = 1_000_000;
 pub const MOST_FEE: i64 = 100_000;
 pub const MOST_CREDIT: i64 = 1_300_000;
@@ -84,6 +85,7 @@ pub const WORDS: [i64; 30] = [
 /// Events one after another: what a list remembers of itself.
 pub struct Host {
     passage: i64,
+    planned: Vec<Event>, // the next one last; then so many ticks
     ticks: i64,
     pays: bool,  // debts are paid soon, so that accounts close
     fill: usize, // tolls and payments alone, until so many rows are used
@@ -91,7 +93,8 @@ pub struct Host {
 
 impl Host {
     pub fn new(random: &mut Random, fill: usize) -> Host {
-        Host { passage: random.pick(&[0, 40, 999_000_000]), ticks: 0, pays: random.once_in(2), fill }
+        let passage = random.pick(&[0, 40, 999_000_000]);
+        Host { passage, planned: Vec::new(), ticks: 0, pays: random.once_in(2), fill }
     }
 
     /// The next event for a book.
@@ -104,7 +107,18 @@ impl Host {
         event
     }
 
+    /// An event for a book that stays as it is, so that nothing is planned from it.
+    pub fn single(&mut self, random: &mut Random, book: &Book) -> Event {
+        let event = self.event(random, book);
+        self.planned.clear();
+        self.ticks = 0;
+        event
+    }
+
     fn fitting(&mut self, random: &mut Random, book: &Book) -> Event {
+        if let Some(event) = self.planned.pop() {
+            return event;
+        }
         if self.ticks > 0 {
             self.ticks -= 1;
             return event(EVENT_TICK, 0, &[]);
@@ -123,6 +137,11 @@ impl Host {
         if let Some(event) = beside_reserve(random, book) {
             return event;
         }
+        if random.once_in(8) {
+            if let Some(event) = self.around_fee(random, book) {
+                return event;
+            }
+        }
         let die = if book.rows_used() < self.fill { random.range(7, 42) } else { random.below(100) };
         let fit = match die {
             0..=6 => account(random, book, |n| book.state(n) == STATE_UNUSED).map(|n| open(random, n)),
@@ -132,7 +151,10 @@ impl Host {
                 let charge = random.pick(&[0, 0, 100, MOST_BANK_CHARGE]);
                 of_row(random, book, is_check, EVENT_RETURNED_CHECK, charge)
             }
-            52..=61 => of_row(random, book, is_disputable, EVENT_DISPUTE, 0),
+            52..=61 => {
+                let part = if random.once_in(2) { of_row(random, book, is_part_paid, EVENT_DISPUTE, 0) } else { None };
+                part.or_else(|| of_row(random, book, is_disputable, EVENT_DISPUTE, 0))
+            }
             62..=69 => {
                 let verdict = random.below(2);
                 of_row(random, book, is_held_toll, EVENT_DECISION, verdict)
@@ -150,6 +172,20 @@ impl Host {
             }
         };
         fit.unwrap_or_else(|| self.toll(random, book))
+    }
+
+    /// Two tolls with a fee of the first between them are held from one day on; then comes money for a part of the three, and
+    /// ticks until the holds end: the last one has the fee and the later toll to choose from.
+    fn around_fee(&mut self, random: &mut Random, book: &Book) -> Option<Event> {
+        let pairs = around_fees(book);
+        if pairs.is_empty() {
+            return None;
+        }
+        let pair = random.pick(&pairs);
+        let n = row_words(book, pair[0])[ROW_ACCOUNT];
+        self.ticks = HOLD_DAYS + 3; // a few may be refused
+        self.planned = vec![payment_beside(random, book, pair), event(EVENT_DISPUTE, n, &[pair[1]])];
+        Some(event(EVENT_DISPUTE, n, &[pair[0]]))
     }
 
     fn toll(&mut self, random: &mut Random, book: &Book) -> Event {
@@ -210,6 +246,11 @@ fn is_check(r: &[i64]) -> bool {
 
 fn is_disputable(r: &[i64]) -> bool {
     r[ROW_KIND] == KIND_TOLL && r[ROW_DISPUTE] == DISPUTE_NEVER && r[ROW_SETTLED] < r[ROW_AMOUNT]
+}
+
+/// Upheld, such a toll leaves money of its credit for others.
+fn is_part_paid(r: &[i64]) -> bool {
+    is_disputable(r) && r[ROW_SETTLED] > 0
 }
 
 fn is_held_toll(r: &[i64]) -> bool {
@@ -274,12 +315,56 @@ pub fn account_words(book: &Book, n: i64) -> Option<&[i64]> {
     book.all_accounts().nth(usize::try_from(n - 1).ok()?)
 }
 
+/// Whether a row is a held toll or a fee of one.
+pub fn is_held(rows: &[&[i64]], r: &[i64]) -> bool {
+    is_held_toll(if r[ROW_KIND] == KIND_FEE { rows[r[ROW_REFERENCE] as usize - 1] } else { r })
+}
+
 /// What is unsettled of an account's held tolls and their fees.
 fn held_debts(book: &Book, n: i64) -> i64 {
     let rows: Vec<&[i64]> = book.used_rows().collect();
-    let toll_of = |r: &[i64]| if r[ROW_KIND] == KIND_FEE { r[ROW_REFERENCE] as usize - 1 } else { usize::MAX };
-    let held = |r: &[i64]| is_held_toll(r) || rows.get(toll_of(r)).is_some_and(|t| is_held_toll(t));
-    rows.iter().filter(|r| r[ROW_ACCOUNT] == n && held(r)).map(|r| r[ROW_AMOUNT] - r[ROW_SETTLED]).sum()
+    rows.iter().filter(|r| r[ROW_ACCOUNT] == n && is_held(&rows, r)).map(|r| r[ROW_AMOUNT] - r[ROW_SETTLED]).sum()
+}
+
+/// Pairs of disputable tolls of one account, by their rows, with an unsettled fee of the first between them: of each such fee
+/// the next toll after it.
+fn around_fees(book: &Book) -> Vec<[i64; 2]> {
+    let mut next = vec![0; book.count() + 1]; // of each account
+    let mut pairs = Vec::new();
+    for (i, r) in book.used_rows().enumerate().rev() {
+        let n = r[ROW_ACCOUNT] as usize;
+        if is_disputable(r) {
+            next[n] = i as i64 + 1;
+        }
+        let is_owed_fee = r[ROW_KIND] == KIND_FEE && r[ROW_SETTLED] < r[ROW_AMOUNT];
+        if is_owed_fee && next[n] > 0 && is_disputable(row_words(book, r[ROW_REFERENCE])) {
+            pairs.push([r[ROW_REFERENCE], next[n]]);
+        }
+    }
+    pairs
+}
+
+fn row_words(book: &Book, row: i64) -> &[i64] {
+    &book.journal[(row as usize - 1) * ROW_WORDS..][..ROW_WORDS]
+}
+
+/// What is unsettled of a toll and its fees.
+fn toll_debts(book: &Book, toll: i64) -> i64 {
+    let of_toll = |r: &[i64]| r[ROW_KIND] == KIND_FEE && r[ROW_REFERENCE] == toll;
+    let fees = book.used_rows().filter(|r| of_toll(r)).map(|r| r[ROW_AMOUNT] - r[ROW_SETTLED]).sum::<i64>();
+    row_words(book, toll)[ROW_AMOUNT] - row_words(book, toll)[ROW_SETTLED] + fees
+}
+
+/// What leaves unused money for the first of two tolls of an account and a part of the second, or a cent beside that, once both
+/// are held.
+fn payment_beside(random: &mut Random, book: &Book, pair: [i64; 2]) -> Event {
+    let owed = pair.map(|row| row_words(book, row)[ROW_AMOUNT] - row_words(book, row)[ROW_SETTLED]);
+    let n = row_words(book, pair[0])[ROW_ACCOUNT];
+    let part = random.range(0, owed[1]);
+    let money = owed[0] + random.pick(&[-1, 0, 1, part, part, part, owed[1], owed[1] + 1, owed[1] + 100]);
+    let held = held_debts(book, n) + toll_debts(book, pair[0]) + toll_debts(book, pair[1]);
+    let amount = (money - balance(book, n) - held).clamp(1, MOST_AMOUNT);
+    event(EVENT_PAYMENT, n, &[amount, random.range(METHOD_CARD, METHOD_CASH)])
 }
 
 /// All that makes a top-up due, the balance among it, but held debts are what brings it so low.

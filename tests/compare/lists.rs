@@ -1,5 +1,5 @@
 //! Lists of calls from an opening, made while they run; what they met; and the shortest failing part of one.
-use crate::generate::{account_words, is_low_through_held, is_reopened, Host, Opening, LAST_STAGE};
+use crate::generate::{account_words, is_held, is_low_through_held, is_reopened, Host, Opening, LAST_STAGE};
 use crate::pair::{Call, Pair};
 use calls::random::Random;
 use calls::words::*;
@@ -29,6 +29,7 @@ pub struct Met {
     pub tolls: Tolls,
     pub held_results: [u64; 2], // top-ups declined, paid: results on accounts low only through held debts
     pub reserves: Reserves,
+    pub settlements: Settlements,
 }
 
 /// Tolls accepted, by the rate list of their passage day.
@@ -94,6 +95,74 @@ impl Reserves {
     }
 }
 
+/// Settlements of single accounts, by the event's kind.
+#[derive(Default)]
+pub struct Settlements {
+    pub past: [u64; KINDS],   // paid a toll and left an older fee or reversal owed
+    pub on: [u64; KINDS],     // paid tolls, then fees or reversals
+    pub beside: [u64; KINDS], // left a fee paid in part before a toll that is owed; of a tick counted once
+}
+
+/// What is met of one account's debts, row by row.
+#[derive(Clone, Default)]
+struct Debts {
+    older: bool, // a fee or reversal is owed
+    part: bool,  // a fee is paid in part
+    tolls: bool, // a toll was paid
+    others: bool,
+    past: bool,
+    beside: bool,
+}
+
+impl Debts {
+    /// Notes a row that is no held one, with what the settlement paid of it.
+    fn note(&mut self, r: &[i64], paid: i64) {
+        let owed = r[ROW_SETTLED] < r[ROW_AMOUNT];
+        match r[ROW_KIND] {
+            KIND_TOLL => {
+                self.tolls |= paid > 0;
+                self.past |= paid > 0 && self.older;
+                self.beside |= owed && self.part;
+            }
+            KIND_FEE | KIND_REVERSAL => {
+                self.others |= paid > 0;
+                self.older |= owed;
+                self.part |= owed && r[ROW_KIND] == KIND_FEE && r[ROW_SETTLED] > 0;
+            }
+            _ => {}
+        }
+    }
+}
+
+impl Settlements {
+    fn note(&mut self, before: &Book, event: &Event, after: &Book) {
+        let (kind, credited) = (event[EVENT_KIND], upheld(event));
+        let rows: Vec<&[i64]> = after.used_rows().collect();
+        let old = before.used_rows().map(|r| r[ROW_SETTLED]).chain(std::iter::repeat(0));
+        let mut debts = vec![Debts::default(); after.count() + 1];
+        for ((number, r), settled) in (1..).zip(&rows).zip(old) {
+            let n = r[ROW_ACCOUNT];
+            if (kind == EVENT_TICK || n == event[EVENT_ACCOUNT]) && !is_held(&rows, r) {
+                let of_credit = number == credited || (r[ROW_KIND] == KIND_FEE && r[ROW_REFERENCE] == credited);
+                debts[n as usize].note(r, if of_credit { 0 } else { r[ROW_SETTLED] - settled });
+            }
+        }
+        let count = |test: fn(&Debts) -> bool| debts.iter().filter(|d| test(d)).count() as u64;
+        self.past[kind as usize] += count(|d| d.past);
+        self.on[kind as usize] += count(|d| d.tolls && d.others);
+        self.beside[kind as usize] += count(|d| d.beside).min(1);
+    }
+}
+
+/// The toll row that an accepted event upholds, 0 where it upholds none: its credit pays it and its fees.
+fn upheld(event: &Event) -> i64 {
+    if event[EVENT_KIND] == EVENT_DECISION && event[EVENT_B] == 1 {
+        event[EVENT_A]
+    } else {
+        0
+    }
+}
+
 impl Met {
     pub fn accepted(&self, kind: usize) -> u64 {
         self.answers[kind][POSTED as usize]
@@ -112,6 +181,9 @@ impl Met {
         self.raised += answer[ANSWER_RAISED] as u64;
         self.removed += answer[ANSWER_REMOVED] as u64;
         self.full += (after.rows_used() == after.room()) as u64;
+        if number == POSTED {
+            self.settlements.note(before, event, after);
+        }
         match (kind, number) {
             (EVENT_TICK, POSTED) => self.note_tick(before, after),
             (EVENT_RETURNED_CHECK, POSTED) => self.reopened += became(before, after, STATE_CLOSED, STATE_PENDING),

@@ -8,7 +8,8 @@ mod lists;
 mod pair;
 
 use calls::random::Random;
-use calls::words::{CEILING, MOST_ACCOUNTS, MOST_EVENTS, MOST_ROWS, UNSOUND};
+use calls::words::{CEILING, EVENT_DECISION, EVENT_PAYMENT, EVENT_TICK, EVENT_TOPUP_RESULT};
+use calls::words::{MOST_ACCOUNTS, MOST_EVENTS, MOST_ROWS, UNSOUND};
 use generate::{Host, Opening};
 use lists::{Plan, DECLINES, KINDS, NUMBERS};
 use pair::Pair;
@@ -73,7 +74,9 @@ fn large_books(seed: u64, met: &mut lists::Met, damaged: &mut damage::Met) {
 /// Fails where the events or the damaged books met too little to show anything.
 fn enough(met: &lists::Met, damaged: &damage::Met) -> Result<(), String> {
     let accepted: u64 = (0..KINDS).map(|k| met.accepted(k)).sum();
-    let r = &met.reserves;
+    let (r, s) = (&met.reserves, &met.settlements);
+    let by = |of: &[u64; KINDS], event: i64| of[event as usize];
+    let by_others = |of: &[u64; KINDS]| of.iter().sum::<u64>() - by(of, EVENT_TICK);
     let both = |of: [u64; 2]| of[0].min(of[1]);
     let after = |of: &[[u64; DECLINES]; 2], declines: usize| both([of[0][declines], of[1][declines]]);
     let wants = [
@@ -109,11 +112,20 @@ fn enough(met: &lists::Met, damaged: &damage::Met) -> Result<(), String> {
         ("results beside a reserve after one decline", after(&r.results, 1), 20),
         ("results of a reserve, declined or paid", after(&r.results, 2), 20),
         ("results after two declines without a reserve", after(&r.alone, 2), 10),
+        ("payments to a toll past an older fee or reversal", by(&s.past, EVENT_PAYMENT), 200),
+        ("credits to a toll past an older fee or reversal", by(&s.past, EVENT_DECISION), 5),
+        ("top-ups to a toll past an older fee or reversal", by(&s.past, EVENT_TOPUP_RESULT), 5),
+        ("tolls paid past an older fee or reversal within a tick", by(&s.past, EVENT_TICK), 8),
+        ("events that pay fees or reversals after tolls", by_others(&s.on), 200),
+        ("settlements within a tick that pay fees or reversals after tolls", by(&s.on, EVENT_TICK), 4),
+        ("events that leave a fee paid in part before a toll that is owed", by_others(&s.beside), 200),
+        ("ticks that leave a fee paid in part before a toll that is owed", by(&s.beside, EVENT_TICK), 200),
         ("damaged books", damaged.books, 20_000),
         ("damaged books in a hundred that are sound", 100 * damaged.sound / damaged.books, 5),
         ("books unsound by a reserve out of its range alone", damaged.reserves_out, 300),
         ("books unsound by a reserve without a top-up alone", damaged.reserves_alone, 300),
         ("books sound with another reserve", damaged.reserves_sound, 100),
+        ("books sound with money moved from a toll to a fee or reversal, or back", damaged.moved_sound, 40),
         ("damaged lengths", damaged.lengths, 2_000),
         ("odd answer tables", damaged.answer_tables, 2_000),
     ];
@@ -162,9 +174,14 @@ fn main() {
     );
     println!("refused: closed {:?}, without a top-up {:?}, reserve {:?}", r.closed, r.untimely, r.refused);
     println!("results declined, paid, by declines: with a reserve {:?}, without {:?}", r.results, r.alone);
+    let s = &met.settlements;
+    println!("settlements that pay a toll past an older fee or reversal, by events 0 to 11: {:?}", s.past);
+    println!("that go on to fees or reversals after tolls {:?}", s.on);
+    println!("that leave a fee paid in part before a toll that is owed {:?}", s.beside);
     println!(
-        "damaged books unsound by a reserve alone: {} out of its range, {} without a top-up; sound with another {}",
-        damaged.reserves_out, damaged.reserves_alone, damaged.reserves_sound
+        "damaged books unsound by a reserve alone: {} out of its range, {} without a top-up; sound with another {}, \
+         with moved money {}",
+        damaged.reserves_out, damaged.reserves_alone, damaged.reserves_sound, damaged.moved_sound
     );
     if let Err(why) = enough(&met, &damaged) {
         println!("{why}");

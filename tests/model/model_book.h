@@ -131,6 +131,12 @@ static inline bool is_held(const struct book *b, const struct row *r)
     return is_held_toll(r->kind == TOLL_LEDGER_KIND_FEE ? &b->rows[r->reference - 1] : r);
 }
 
+/* "Unheld unsettled": what settlement pays, tolls first. */
+static inline bool is_payable(const struct book *b, const struct row *r)
+{
+    return !is_source(r) && left_of(r) > 0 && !is_held(b, r);
+}
+
 /* Writes a row of today into the first free place; its other words are those of `r`. */
 static inline void add_row(const struct book *b, struct row r)
 {

@@ -47,33 +47,41 @@ static size_t next_source(const struct book *b, int64_t account, size_t i)
     return i;
 }
 
-/* Likewise the first unsettled unheld debit. */
-static size_t next_debit(const struct book *b, int64_t account, size_t i)
+/* Pays a debit from the account's unused sources from row s on; gives the first that has something
+ * left. */
+static size_t pay(const struct book *b, struct row *debit, size_t s)
 {
     const size_t used = rows_used(b);
-    while (i < used && !(b->rows[i].account == account && !is_source(&b->rows[i]) &&
-                         left_of(&b->rows[i]) > 0 && !is_held(b, &b->rows[i])))
-        i++;
-    return i;
-}
-
-/* "Unused sources in row order pay unsettled unheld debits in row order, until either side is
- * spent." */
-static void settle(const struct book *b, int64_t account)
-{
-    const size_t used = rows_used(b);
-    size_t s = next_source(b, account, 0);
-    size_t d = s < used ? next_debit(b, account, 0) : used;
-    while (s < used && d < used) {
-        struct row *source = &b->rows[s], *debit = &b->rows[d];
+    while (s < used && left_of(debit) > 0) {
+        struct row *source = &b->rows[s];
         const int64_t part = lesser(left_of(source), left_of(debit));
         source->settled += part;
         debit->settled += part;
         if (left_of(source) == 0)
-            s = next_source(b, account, s + 1);
-        if (left_of(debit) == 0)
-            d = next_debit(b, account, d + 1);
+            s = next_source(b, debit->account, s + 1);
     }
+    return s;
+}
+
+/* "Pays the account's unheld tolls in row order, then unheld fees and reversals in row order", from
+ * "unused sources in row order", "until either side is spent". */
+static void settle(const struct book *b, int64_t account)
+{
+    const size_t used = rows_used(b);
+    size_t s = next_source(b, account, 0);
+    size_t others = used; /* the first fee or reversal that may be paid */
+    for (size_t d = 0; s < used && d < used; d++) {
+        struct row *r = &b->rows[d];
+        if (r->account != account || !is_payable(b, r))
+            continue;
+        if (r->kind == TOLL_LEDGER_KIND_TOLL)
+            s = pay(b, r, s);
+        else if (others == used)
+            others = d;
+    }
+    for (size_t d = others; s < used && d < used; d++)
+        if (b->rows[d].account == account && is_payable(b, &b->rows[d]))
+            s = pay(b, &b->rows[d], s);
 }
 
 /* The rate list that event 10 brings. */

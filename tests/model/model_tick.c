@@ -1,4 +1,6 @@
 /* Event 9, the day tick: one pass plans it, so that a refusal leaves the book unchanged. */
+#include <string.h>
+
 #include "model_book.h"
 
 #define NUMBERS (TOLL_LEDGER_MOST_ACCOUNTS + 1) /* of accounts, with 0 */
@@ -88,28 +90,38 @@ static void end_holds(const struct book *b, int64_t today)
     }
 }
 
-/* Settles `part` of what is left of a row, as far as the purse has it. */
-static int64_t settle_from(struct row *r, int64_t *purse)
+/* Settles what is left of a row, as far as the purse has it. */
+static void settle_from(struct row *r, int64_t *purse)
 {
     const int64_t part = lesser(left_of(r), *purse);
     r->settled += part;
     *purse -= part;
-    return part;
 }
 
-/* Settlement of every account: its money goes to its debits in row order, and comes from its sources
- * in row order. */
+/* Settlement of every account: its money goes to its tolls, then to its fees and reversals, and
+ * comes from its sources, each in row order. */
 static void settle_all(const struct book *b, const struct plan *p)
 {
-    int64_t money[NUMBERS], spent[NUMBERS] = {0};
+    int64_t money[NUMBERS], spent[NUMBERS];
     const size_t used = rows_used(b);
-    for (size_t n = 0; n <= b->count; n++)
-        money[n] = p->unused[n];
+    size_t others = used; /* the first fee or reversal that may be paid */
+    memcpy(money, p->unused, sizeof money);
     for (size_t i = 0; i < used; i++) {
         struct row *r = &b->rows[i];
-        if (!is_source(r) && !is_held(b, r))
-            spent[r->account] += settle_from(r, &money[r->account]);
+        if (money[r->account] == 0 || !is_payable(b, r))
+            continue;
+        if (r->kind == TOLL_LEDGER_KIND_TOLL)
+            settle_from(r, &money[r->account]);
+        else if (others == used)
+            others = i;
     }
+    for (size_t i = others; i < used; i++) {
+        struct row *r = &b->rows[i];
+        if (money[r->account] > 0 && is_payable(b, r))
+            settle_from(r, &money[r->account]);
+    }
+    for (size_t n = 0; n <= b->count; n++)
+        spent[n] = p->unused[n] - money[n];
     for (size_t i = 0; i < used; i++)
         if (is_source(&b->rows[i]))
             settle_from(&b->rows[i], &spent[b->rows[i].account]);

@@ -21,7 +21,7 @@ use Rattle.rules.specs.Settlement.{money, used, paid, owed}
 use Rattle.rules.specs.Book.{Account, unused, Book, account}
 use Rattle.rules.specs.Tick.{closes, close_if, refund_row, use_up}
 use Rattle.rules.specs.Soundness.{settled_fits, due_within, hold_fits, returned_of, returned_fits, used_is_paid, closed_clear, state_fits, unused_zero, request_fits, topup_fits, decline_fits}
-use Rattle.rules.proofs.SettlementLaws.{kinds-apart}
+use Rattle.rules.proofs.RankLaws.{kinds-apart}
 use Rattle.rules.specs.SoundFacts.{Live, Standing, SumsFit}
 
 -- ---- sums

@@ -12,12 +12,11 @@ use lib.Dec.{eqb, leb, ltb}
 use borrow.Author.Tests.{le-leb, ltb-true, lt-ltb, eqb-true, eq-eqb}
 use Rattle.lists.specs.Tests.{◌implies◌}
 use Rattle.lists.proofs.TestLaws.{and_left, and_right, and_both}
-use Rattle.rules.specs.Rows.{Row, blank, held_toll, unsettled, settle_more, fee_naming, source_of, payable}
+use Rattle.rules.specs.Rows.{Row, blank, held_toll, unsettled, settle_more, fee_naming}
 use Rattle.rules.specs.Settlement.{money, debt, moved, settle, settle_accounts, used, paid, owed}
 use Rattle.rules.specs.Book.{Account, unused, Book, with_rows, settled}
 use Rattle.rules.specs.Soundness.{kind_fits, amount_fits, settled_fits, mark_fits, toll_words_fit, no_reference, row_day_fits, due_within, hold_fits, account_used, names, reference_fits, passage, passage_once, fees_fit, returned_of, returned_fits, used_is_paid, no_idle_money, closed_clear}
-use Rattle.rules.proofs.AllocationLaws.{share, share-le}
-use Rattle.rules.proofs.SettlementLaws.{settle-same, settle-fair, settle-row, settle-at, length-settle, held-source, held-payable}
+use Rattle.rules.proofs.SettlementLaws.{settle-same, settle-fair, settle-row, gain, settle-at, settle-held, length-settle}
 use Rattle.rules.proofs.SettlementAccountsLaws.{used-other, money-other, paid_other, owed-other, count-settle, named-settle, length-settle_accounts, settle_accounts-no-idle-money}
 use Rattle.rules.specs.SoundFacts.{Shape, Live, SumsFit, Near, Sound}
 use Rattle.rules.proofs.StorableLaws.{settled-le}
@@ -96,20 +95,15 @@ live_more past today L r m f z v =
     holds false e = hold-free (eqb r.kind 1) (eqb r.dispute 1) _ _ (eqb r.hold 0) e v.hold
 
 live-settle : (past today L a : ℕ) (rows : List Row) (i : ℕ) → Live past today L (get_or rows i blank) → Live past today L (get_or (settle a rows) i blank)
+unfolding gain
 live-settle past today L a rows i v =
-    let s : ℕ = share (source_of a) (moved a rows) rows i in
-    let p : ℕ = share (payable rows a) (moved a rows) rows i in
     let r : Row = get_or rows i blank in
-    let e : get_or (settle a rows) i blank ≡ settle_more r (s + p) = settle-at a rows i in
-    let f : r.settled ≤ r.amount → r.settled + (s + p) ≤ r.amount = rw e at (settle-row a rows i).fits in
-    rw e (live_more past today L r (s + p) f
-    (λ h. omega (
-      arith,
-      share-le (source_of a) (moved a rows) rows i,
-      share-le (payable rows a) (moved a rows) rows i,
-      held-source a r h,
-      held-payable rows a r h,
-    ))
+    let s : Row = get_or (settle a rows) i blank in
+    let w = settle-row a rows i in
+    let k : s.amount ≡ r.amount = ap (λ (x : Row). x.amount) w.kept in
+    rw (settle-at a rows i)
+    (live_more past today L r (gain a rows i) (λ h. omega (arith, w.fits h, w.grows))
+    (λ h. let e : s.settled ≡ r.settled = ap (λ (x : Row). x.settled) (settle-held a rows i h) in omega arith)
     v)
 
 -- ---- one account

@@ -5,7 +5,7 @@ use Prim.Native.Nat.{ℕ, zero, suc, ◌+◌, ◌-◌}
 use native.Mathlib.Omega.{arith}
 use mathlib.Core.List.{List, [], ◌∷◌}
 use lib.ListN.{get_or}
-use Rattle.replay.specs.Entries.{Entry, no_entry, with_covered, with_open_days, unused_of, wanted_by, cover, settle_entries, settle_all_entries}
+use Rattle.replay.specs.Entries.{Entry, no_entry, with_covered, with_open_days, unused_of, cover, cover_rank, settle_entries, settle_all_entries}
 use Rattle.replay.specs.Replay.{gains, count_tick, count_day}
 
 -- an entry without its part covered
@@ -18,12 +18,14 @@ cover-bare f n [] k = refl
 cover-bare f n (x ∷ xs) zero = refl
 cover-bare f n (x ∷ xs) (suc k) = cover-bare f (n - f x) xs k
 
+rank-bare : (want : Entry → ℕ) (a : ℕ) (xs : List Entry) (k : ℕ) → bare_entry (get_or (cover_rank want a xs) k no_entry) ≡ bare_entry (get_or xs k no_entry)
+unfolding cover_rank
+rank-bare want a xs k = cover-bare want _ (cover (unused_of a) _ xs) k ∙ cover-bare (unused_of a) _ xs k
+
 pub settle-bare-entry : (n : ℕ) (xs : List Entry) (k : ℕ) → bare_entry (get_or (settle_all_entries n xs) k no_entry) ≡ bare_entry (get_or xs k no_entry)
 unfolding settle_all_entries settle_entries
 settle-bare-entry zero xs k = refl
-settle-bare-entry (suc n) xs k =
-    let ys : List Entry = settle_all_entries n xs in
-    cover-bare (wanted_by ys (suc n)) _ (cover (unused_of (suc n)) _ ys) k ∙ cover-bare (unused_of (suc n)) _ ys k ∙ settle-bare-entry n xs k
+settle-bare-entry (suc n) xs k = rank-bare _ (suc n) _ k ∙ rank-bare _ (suc n) _ k ∙ settle-bare-entry n xs k
 
 pub count-open : (x : Entry) → (count_day x).open-days ≡ x.open-days + cond (gains x) 1 0
 unfolding count_day count_tick

@@ -15,7 +15,7 @@ use Rattle.lists.proofs.TestLaws.{cond_either}
 use Rattle.lists.proofs.PairLaws.{Pairs, none, more, pairs-at, pairs-to, pairs-map-self, pairs-set-self}
 use Rattle.lists.proofs.CollectLaws.{collect, collect-append, collect-pairs, collect-none}
 use Rattle.rules.proofs.KindLaws.{by_kind}
-use Rattle.replay.specs.Entries.{Entry, kind_fee, no_entry, entry_no, cover_whole, fee_of, unused_of, wanted_by, cover, settle_entries, settle_all_entries}
+use Rattle.replay.specs.Entries.{Entry, kind_fee, no_entry, entry_no, cover_whole, fee_of, unused_of, cover_rank, cover, settle_entries, settle_all_entries}
 use Rattle.replay.specs.Replay.{Replay, note_topup, note_request, note_list, add_toll, add_payment, add_topup, add_return, set_hold, add_credit, free_toll, step_of}
 use Rattle.replay.proofs.Growing.{number_at}
 
@@ -90,13 +90,14 @@ unfolding cover
 cover-still f n [] = none
 cover-still f n (x ∷ xs) = more (record { kind = refl; toll = refl; amount = refl; day = refl; opened = refl }) (cover-still f (n - f x) xs)
 
+rank-steady : (want : Entry → ℕ) (a : ℕ) (xs : List Entry) → Steady xs (cover_rank want a xs)
+unfolding cover_rank
+rank-steady want a xs = steady_then (steady-still (cover-still (unused_of a) _ xs)) (steady-still (cover-still want _ (cover (unused_of a) _ xs)))
+
 pub settle-steady : (n : ℕ) (xs : List Entry) → Steady xs (settle_all_entries n xs)
 unfolding settle_all_entries settle_entries
 settle-steady zero xs = steady_self xs
-settle-steady (suc n) xs =
-    let ys : List Entry = settle_all_entries n xs in
-    steady_then (settle-steady n xs)
-    (steady_then (steady-still (cover-still (unused_of (suc n)) _ ys)) (steady-still (cover-still (wanted_by ys (suc n)) _ (cover (unused_of (suc n)) _ ys))))
+settle-steady (suc n) xs = steady_then (settle-steady n xs) (steady_then (rank-steady _ (suc n) _) (rank-steady _ (suc n) _))
 
 -- ---- events 1 to 8
 

@@ -182,11 +182,23 @@ unfoldable pub cover : (Entry → ℕ) → ℕ → List Entry → List Entry
 cover take n [] = []
 cover take n (x ∷ xs) = with_covered (x.covered + min (take x) n) x ∷ cover take (n - take x) xs
 
--- settlement of one account: the lesser of its unused money and its wanted debt, spread over each side
+-- what a toll wants of it; what a fee or a reversal does (document 02, No. 5); a refund, covered whole, wants nothing
+unfoldable pub wanted_by_toll : List Entry → ℕ → Entry → ℕ
+wanted_by_toll xs a x = cond (is_toll x) (wanted_by xs a x) 0
+
+-- the others
+unfoldable pub wanted_by_rest : List Entry → ℕ → Entry → ℕ
+wanted_by_rest xs a x = cond (is_toll x) 0 (wanted_by xs a x)
+
+-- the lesser of an account's unused money and what a rank of its debts wants, spread over each side
+unfoldable pub cover_rank : (Entry → ℕ) → ℕ → List Entry → List Entry
+cover_rank want a xs =
+    let n : ℕ = min (sum_by (unused_of a) xs) (sum_by want xs) in
+    cover want n (cover (unused_of a) n xs)
+
+-- settlement of one account: "the account's unheld tolls in row order, then unheld fees and reversals in row order" (document 02, No. 5)
 unfoldable pub settle_entries : ℕ → List Entry → List Entry
-settle_entries a xs =
-    let n : ℕ = min (sum_by (unused_of a) xs) (sum_by (wanted_by xs a) xs) in
-    cover (wanted_by xs a) n (cover (unused_of a) n xs)
+settle_entries a xs = cover_rank (wanted_by_rest xs a) a (cover_rank (wanted_by_toll xs a) a xs)
 
 -- settlement of accounts 1 to n
 unfoldable pub settle_all_entries : ℕ → List Entry → List Entry

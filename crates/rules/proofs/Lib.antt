@@ -1,4 +1,5 @@
 pub mod AllocationLaws
+pub mod RankLaws
 pub mod SettlementLaws
 pub mod SettlementStepsLaws
 pub mod SettlementAccountsLaws
@@ -21,3 +22,4 @@ pub mod Borders
 pub mod RateListExamples
 pub mod TopupExamples
 pub mod ReserveExamples
+pub mod RankExamples

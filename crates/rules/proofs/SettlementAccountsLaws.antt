@@ -12,9 +12,9 @@ use borrow.Author.Tests.{eqb-true, ne_eqb}
 use Rattle.lists.specs.Lists.{sum_by, only, count}
 use Rattle.lists.proofs.SumLaws.{sum_by-ext, sum_by-map}
 use Rattle.rules.specs.Rows.{Row, Test, blank, source, debit, held, held_toll, row_no, remaining, source_of, debit_of, payable}
-use Rattle.rules.specs.Settlement.{allocate, money, debt, moved, pay, settle, settle_accounts, used, paid, owed}
-use Rattle.rules.proofs.AllocationLaws.{bare, Steady, Apart, other-allocate}
-use Rattle.rules.proofs.SettlementLaws.{payable-pay, money-settle, owed-settle, settle-no-idle-money, settle-same, settle-fair, settle-bare, settle-row, settle-held, length-settle}
+use Rattle.rules.specs.Settlement.{money, debt, moved, ranks, settle, settle_accounts, used, paid, owed}
+use Rattle.rules.proofs.AllocationLaws.{bare, Steady, Apart}
+use Rattle.rules.proofs.SettlementLaws.{other-ranks, ranks-part, payable-settle, money-settle, owed-settle, settle-no-idle-money, settle-same, settle-fair, settle-bare, settle-row, settle-held, length-settle}
 
 -- ---- another account's sums stay
 
@@ -44,36 +44,34 @@ module _ (a b : ℕ) (ne : a ≢ b) (v : Test) (s : Steady v) where
   unfolding u payable
   payable-u rows r = of_two r.account a b ne (debit r && not (held rows r)) (v r)
 
-  pub other-pay : (f : Row → ℕ) (n : ℕ) (rows : List Row)
-      → sum_by (only (λ r. eqb r.account b && v r) f) (pay a n rows) ≡ sum_by (only (λ r. eqb r.account b && v r) f) rows
-  unfolding u pay
-  other-pay f n rows =
-      other-allocate (payable rows a) u f (payable-u rows) u-steady n (allocate (source_of a) n rows)
-      ∙ other-allocate (source_of a) u f source-u u-steady n rows
+  pub other-settle : (f : Row → ℕ) (rows : List Row)
+      → sum_by (only (λ r. eqb r.account b && v r) f) (settle a rows) ≡ sum_by (only (λ r. eqb r.account b && v r) f) rows
+  unfolding u settle
+  other-settle f rows = other-ranks a (ranks rows a) (payable rows a) u f (ranks-part rows a) source-u (payable-u rows) u-steady rows
 
 module _ (a b : ℕ) (ne : a ≢ b) (rows : List Row) where
   pub used-other : used b (settle a rows) ≡ used b rows
-  unfolding used source_of settle
-  used-other = other-pay a b ne source (λ r k. refl) (λ r. r.settled) (moved a rows) rows
+  unfolding used source_of
+  used-other = other-settle a b ne source (λ r k. refl) (λ r. r.settled) rows
 
   pub money-other : money b (settle a rows) ≡ money b rows
-  unfolding money source_of settle
-  money-other = other-pay a b ne source (λ r k. refl) remaining (moved a rows) rows
+  unfolding money source_of
+  money-other = other-settle a b ne source (λ r k. refl) remaining rows
 
   pub paid_other : paid b (settle a rows) ≡ paid b rows
-  unfolding paid debit_of settle
-  paid_other = other-pay a b ne debit (λ r k. refl) (λ r. r.settled) (moved a rows) rows
+  unfolding paid debit_of
+  paid_other = other-settle a b ne debit (λ r k. refl) (λ r. r.settled) rows
 
   pub owed-other : owed b (settle a rows) ≡ owed b rows
-  unfolding owed debit_of settle
-  owed-other = other-pay a b ne debit (λ r k. refl) remaining (moved a rows) rows
+  unfolding owed debit_of
+  owed-other = other-settle a b ne debit (λ r k. refl) remaining rows
 
   pub debt-other : debt b (settle a rows) ≡ debt b rows
-  unfolding debt settle
-  debt-other = rw (payable-pay a b (moved a rows) rows) debt-kept
+  unfolding debt
+  debt-other = rw (payable-settle a b rows) debt-kept
     where
-      debt-kept : sum_by (only (payable rows b) remaining) (pay a (moved a rows) rows) ≡ sum_by (only (payable rows b) remaining) rows
-      debt-kept = unfold payable held in other-pay a b ne (λ r. debit r && not (held rows r)) (λ r k. refl) remaining (moved a rows) rows
+      debt-kept : sum_by (only (payable rows b) remaining) (settle a rows) ≡ sum_by (only (payable rows b) remaining) rows
+      debt-kept = unfold payable held in other-settle a b ne (λ r. debit r && not (held rows r)) (λ r k. refl) remaining rows
 
   pub moved_other : moved b (settle a rows) ≡ moved b rows
   unfolding moved

@@ -8,10 +8,11 @@ use lib.Dec.{eqb}
 use borrow.Author.Tests.{eqb-true}
 use Rattle.lists.specs.Lists.{sum_by, only}
 use Rattle.rules.specs.Rows.{Row, Test, remaining, settle_more, source_of, payable}
-use Rattle.rules.specs.Settlement.{allocate, money, debt, moved, pay, settle}
-use Rattle.rules.specs.SettlementSteps.{first_remaining, settle_first, first_payment, pay_first, pay_times, settle_in_steps}
+use Rattle.rules.specs.Settlement.{allocate, money, moved_to, pay, settle_rank, settle_ranks, ranks, settle}
+use Rattle.rules.specs.SettlementSteps.{first_remaining, settle_first, first_payment, pay_first, pay_times, ranks_in_steps, settle_in_steps}
 use Rattle.rules.proofs.AllocationLaws.{Steady, Apart, settle_more-zero, allocate-zero, only-settle_more-other}
-use Rattle.rules.proofs.SettlementLaws.{settle-same, settle-pay, moved-pay, payable-steady, source-payable}
+use Rattle.rules.proofs.RankLaws.{Rank, moved-pay, settle_rank-pay, settle_rank-same}
+use Rattle.rules.proofs.SettlementLaws.{minus, Parts, rank-within, rank-minus, payable-rank, ranks-part}
 
 -- ---- a payment is a allocate
 
@@ -62,46 +63,55 @@ first_remaining-other t u a s p [] = refl
 first_remaining-other t u a s p (r ∷ rs) =
     rw (only-settle_more-other t u remaining remaining a s r (min (only t remaining r) p) (omega arith), first_remaining-other t u a s (p - only t remaining r) rs)
 
--- ---- the pay_times
+-- ---- one rank
 
-pay_first-pay : (a : ℕ) (rows : List Row) → pay_first a rows ≡ pay a (first_payment a rows) rows
-unfolding pay_first first_payment pay
-pay_first-pay a rows =
-    let s : Test = source_of a in
-    let u : Test = payable rows a in
-    let m : ℕ = min (first_remaining s rows) (first_remaining u rows) in
-    let e : settle_first s m rows ≡ allocate s m rows = feed-allocate s m rows (omega arith) in
-    rw e (feed-allocate u m (allocate s m rows) (omega (arith, first_remaining-other s u (source-payable rows a) (payable-steady rows a) m rows)))
+module _ (t : Test) (a : ℕ) (k : Rank a t) where
+  pay_first-pay : (rows : List Row) → pay_first t a rows ≡ pay t a (first_payment t a rows) rows
+  unfolding pay_first first_payment pay
+  pay_first-pay rows =
+      let s : Test = source_of a in
+      let m : ℕ = min (first_remaining s rows) (first_remaining t rows) in
+      let e : settle_first s m rows ≡ allocate s m rows = feed-allocate s m rows (omega arith) in
+      rw e (feed-allocate t m (allocate s m rows) (omega (arith, first_remaining-other s t k.no-source k.steady m rows)))
 
-first_payment-le : (a : ℕ) (rows : List Row) → first_payment a rows ≤ moved a rows
-unfolding first_payment moved money debt
-first_payment-le a rows = omega (arith, first_remaining-le (source_of a) rows, first_remaining-le (payable rows a) rows)
+  first_payment-le : (rows : List Row) → first_payment t a rows ≤ moved_to t a rows
+  unfolding first_payment moved_to money
+  first_payment-le rows = omega (arith, first_remaining-le (source_of a) rows, first_remaining-le t rows)
 
--- a payment is of something, while there is something to move
-first_payment-moves : (a : ℕ) (rows : List Row) → 0 < moved a rows → 0 < first_payment a rows
-unfolding first_payment moved money debt
-first_payment-moves a rows h =
-    let s : Test = source_of a in
-    let u : Test = payable rows a in
-    go (first_remaining s rows) (first_remaining u rows) (first_remaining-none s rows) (first_remaining-none u rows)
-  where
-    go : (m n : ℕ) → (m ≡ 0 → sum_by (only (source_of a) remaining) rows ≡ 0) → (n ≡ 0 → sum_by (only (payable rows a) remaining) rows ≡ 0) → 0 < min m n
-    go zero n p q = absurd (omega (arith, p refl))
-    go (suc m) zero p q = absurd (omega (arith, q refl))
-    go (suc m) (suc n) p q = omega arith
+  -- a payment is of something, while there is something to move
+  first_payment-moves : (rows : List Row) → 0 < moved_to t a rows → 0 < first_payment t a rows
+  unfolding first_payment moved_to money
+  first_payment-moves rows h =
+      go (first_remaining (source_of a) rows) (first_remaining t rows) (first_remaining-none (source_of a) rows) (first_remaining-none t rows)
+    where
+      go : (m n : ℕ) → (m ≡ 0 → sum_by (only (source_of a) remaining) rows ≡ 0) → (n ≡ 0 → sum_by (only t remaining) rows ≡ 0) → 0 < min m n
+      go zero n p q = absurd (omega (arith, p refl))
+      go (suc m) zero p q = absurd (omega (arith, q refl))
+      go (suc m) (suc n) p q = omega arith
 
-pub pay_times-settle : (k a : ℕ) (rows : List Row) → moved a rows ≤ k → pay_times k a rows ≡ settle a rows
-unfolding pay_times
-pay_times-settle zero a rows h = sym (settle-same a rows (omega arith))
-pay_times-settle (suc k) a rows h =
-    rw (pay_first-pay a rows) (pay_times-settle k a (pay a (first_payment a rows) rows) (rw (moved-pay a (first_payment a rows) rows) (go (moved a rows) (first_payment-moves a rows) h))
-    ∙ settle-pay a (first_payment a rows) rows (first_payment-le a rows))
-  where
-    go : (n : ℕ) → (0 < n → 0 < first_payment a rows) → n ≤ suc k → n - first_payment a rows ≤ k
-    go zero p l = omega arith
-    go (suc n) p l = omega (arith, p (omega arith))
+  pub pay_times-settle : (n : ℕ) (rows : List Row) → moved_to t a rows ≤ n → pay_times n t a rows ≡ settle_rank t a rows
+  unfolding pay_times
+  pay_times-settle zero rows h = sym (settle_rank-same t a k rows (omega arith))
+  pay_times-settle (suc n) rows h =
+      rw (pay_first-pay rows)
+      (pay_times-settle n (pay t a (first_payment t a rows) rows)
+      (rw (moved-pay t a k (first_payment t a rows) rows) (go (moved_to t a rows) (first_payment-moves rows) h))
+      ∙ settle_rank-pay t a k (first_payment t a rows) rows (first_payment-le rows))
+    where
+      go : (m : ℕ) → (0 < m → 0 < first_payment t a rows) → m ≤ suc n → m - first_payment t a rows ≤ n
+      go zero p l = omega arith
+      go (suc m) p l = omega (arith, p (omega arith))
+
+-- ---- the ranks in order
+
+ranks-in-steps : (a : ℕ) (ts : List Test) (u : Test) → Rank a u → Parts u ts → (rows : List Row) → ranks_in_steps ts a rows ≡ settle_ranks ts a rows
+unfolding ranks_in_steps settle_ranks Parts
+ranks-in-steps a [] u k p rows = refl
+ranks-in-steps a (t ∷ ts) u k p rows =
+    rw (pay_times-settle t a (rank-within a t u k p.0 p.1) (moved_to t a rows) rows (omega arith))
+    (ranks-in-steps a ts (minus u t) (rank-minus a t u k p.0) p.2 (settle_rank t a rows))
 
 -- "until either side is spent" is the lesser of the two sides, moved
 pub steps-settle : (a : ℕ) (rows : List Row) → settle_in_steps a rows ≡ settle a rows
-unfolding settle_in_steps
-steps-settle a rows = pay_times-settle (moved a rows) a rows (omega arith)
+unfolding settle_in_steps settle
+steps-settle a rows = ranks-in-steps a (ranks rows a) (payable rows a) (payable-rank rows a) (ranks-part rows a) rows

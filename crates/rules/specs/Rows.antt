@@ -71,6 +71,14 @@ debit_of a r = r.account is a && debit r
 unfoldable pub payable : List Row → ℕ → Test
 payable rows a r = r.account is a && (debit r && not (held rows r))
 
+-- "the account's unheld tolls" (document 02, No. 5)
+unfoldable pub payable_toll : List Row → ℕ → Test
+payable_toll rows a r = payable rows a r && toll r
+
+-- "unheld fees and reversals" (document 02, No. 5); a refund, settled whole, wants nothing
+unfoldable pub payable_rest : List Row → ℕ → Test
+payable_rest rows a r = payable rows a r && not (toll r)
+
 -- a held toll of account a, or a fee of one: a debit that settlement leaves alone
 unfoldable pub held_debit : List Row → ℕ → Test
 held_debit rows a r = r.account is a && held rows r

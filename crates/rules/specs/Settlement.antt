@@ -1,8 +1,8 @@
--- Settlement (document 01, "Events"), in closed form: what the unused sources have and the payable debits want, the lesser of the
--- two, allocated over each side in row order. SettlementSteps has the same in the text's own words.
+-- Settlement (document 01, "Events"; document 02, No. 5), in closed form: rank by rank, what the unused sources have and the debits of the
+-- rank want, the lesser of the two, allocated over each side in row order. SettlementSteps has the same in the text's own words.
 use Rattle.std.specs.Prelude.{ℕ, zero, suc, ◌-◌, min, List, [], ◌∷◌}
 use Rattle.lists.specs.Lists.{sum_by, only}
-use Rattle.rules.specs.Rows.{Row, Test, remaining, settle_more, source_of, debit_of, payable, held_debit}
+use Rattle.rules.specs.Rows.{Row, Test, remaining, settle_more, source_of, debit_of, payable, payable_toll, payable_rest, held_debit}
 
 -- n allocated over the rows that pass the test, in row order: each takes what it can, the rest goes on
 unfoldable pub allocate : Test → ℕ → List Row → List Row
@@ -17,17 +17,34 @@ money a rows = sum_by (only (source_of a) remaining) rows
 unfoldable pub debt : ℕ → List Row → ℕ
 debt a rows = sum_by (only (payable rows a) remaining) rows
 
--- "until either side is spent"
+-- "until either side is spent": what all ranks together are paid
 unfoldable pub moved : ℕ → List Row → ℕ
 moved a rows = min (money a rows) (debt a rows)
 
--- n of the account's money used: "sources in row order pay .. debits in row order"
-unfoldable pub pay : ℕ → ℕ → List Row → List Row
-pay a n rows = allocate (payable rows a) n (allocate (source_of a) n rows)
+-- the same of the debits that pass a test
+unfoldable pub moved_to : Test → ℕ → List Row → ℕ
+moved_to t a rows = min (money a rows) (sum_by (only t remaining) rows)
+
+-- n of the account's money used for them: "sources in row order pay .. debits in row order"
+unfoldable pub pay : Test → ℕ → ℕ → List Row → List Row
+pay t a n rows = allocate t n (allocate (source_of a) n rows)
+
+-- a rank is paid, as far as the money goes
+unfoldable pub settle_rank : Test → ℕ → List Row → List Row
+settle_rank t a rows = pay t a (moved_to t a rows) rows
+
+-- one rank after the other: "Rows settled earlier are not rearranged" (document 02, No. 5)
+unfoldable pub settle_ranks : List Test → ℕ → List Row → List Row
+settle_ranks [] a rows = rows
+settle_ranks (t ∷ ts) a rows = settle_ranks ts a (settle_rank t a rows)
+
+-- "the account's unheld tolls in row order, then unheld fees and reversals in row order" (document 02, No. 5)
+abbrev pub ranks : List Row → ℕ → List Test
+ranks rows a = payable_toll rows a ∷ payable_rest rows a ∷ []
 
 -- settlement of one account
 unfoldable pub settle : ℕ → List Row → List Row
-settle a rows = pay a (moved a rows) rows
+settle a rows = settle_ranks (ranks rows a) a rows
 
 -- "per account": accounts 1 to n
 unfoldable pub settle_accounts : ℕ → List Row → List Row

@@ -1,3 +1,4 @@
 pub mod RowTestLaws
+pub mod RankTestLaws
 pub mod PayingLaws
 pub mod WalkLaws

@@ -1,10 +1,26 @@
 -- What the settlement of an account leaves of the journal.
-use Rattle.std.specs.Prelude.{ℕ, ◌*◌, ◌^◌, ◌≤◌, ◌<◌, ◌≡◌, ◌⊎◌, List, ℤ, length, Option, Some, None}
+use Rattle.std.specs.Prelude.{not, ◌&&◌, ℕ, ◌*◌, ◌^◌, ◌≤◌, ◌<◌, ◌≡◌, ◌⊎◌, List, ℤ, length, Option, Some, None}
 use Rattle.records.specs.Layout.{row_width}
 use Rattle.records.specs.Encoding.{row_at, rows_of}
 use Rattle.lists.specs.Lists.{only}
-use Rattle.rules.specs.Rows.{Row, remaining, source_of, payable}
-use Rattle.rules.specs.Settlement.{moved, settle}
+use Rattle.rules.specs.Rows.{Row, Test, remaining, debit, toll, source_of, payable, payable_toll, payable_rest}
+use Rattle.rules.specs.Settlement.{moved, settle_rank, settle}
+use Rattle.settlement.specs.declared.Rank.{Rank}
+use Rattle.settlement.specs.declared.Rank.TheVariants.{Tolls, FeesAndReversals}
+
+-- ---- the two ranks
+
+-- a debit of the rank, whoever's, held or not
+unfoldable pub in_rank : Rank → Test
+in_rank Tolls r = toll r
+in_rank FeesAndReversals r = debit r && not (toll r)
+
+-- the debits of account a that settlement may pay with the rank
+unfoldable pub of_rank : Rank → List Row → ℕ → Test
+of_rank Tolls rows a = payable_toll rows a
+of_rank FeesAndReversals rows a = payable_rest rows a
+
+-- ---- the journal
 
 -- a journal with room for the used rows, whose amounts a signed word holds
 pub record Journal (t : List ℤ) (used : ℕ) : Type 0 where
@@ -22,21 +38,21 @@ pub record Begun (t : List ℤ) (used a i j : ℕ) : Type 0 where
   pub j-in : j ≤ used
   pub way : (moved a (rows_of t used) ≡ 0) ⊎ Passed t used a i j
 
--- no row from j up to k wants anything of the account's
-abbrev pub NoneWants : List ℤ → ℕ → ℕ → ℕ → ℕ → Type 0
-NoneWants t used a j k = (i : ℕ) → j ≤ i → i < k → only (payable (rows_of t used) a) remaining (row_at t i) ≡ 0
+-- of the debits that pass a test no row from j up to k wants anything
+abbrev pub NoneWants : Test → List ℤ → ℕ → ℕ → Type 0
+NoneWants x t j k = (i : ℕ) → j ≤ i → i < k → only x remaining (row_at t i) ≡ 0
 
--- k is the first used row from j on that wants something of the account's
-pub record FirstDebit (t : List ℤ) (used a j k : ℕ) : Type 0 where
+-- k is the first used row from j on that wants something
+pub record FirstDebit (x : Test) (t : List ℤ) (used j k : ℕ) : Type 0 where
   pub after : j ≤ k
   pub within : k < used
-  pub passed : NoneWants t used a j k
-  pub wants : 0 < only (payable (rows_of t used) a) remaining (row_at t k)
+  pub passed : NoneWants x t j k
+  pub wants : 0 < only x remaining (row_at t k)
 
--- the first used row from j on that wants something of the account's, and none where none does
-abbrev pub NextDebit : List ℤ → ℕ → ℕ → ℕ → Option ℕ → Type 0
-NextDebit t used a j None = NoneWants t used a j used
-NextDebit t used a j (Some k) = FirstDebit t used a j k
+-- the first used row from j on that wants something, and none where none does
+abbrev pub NextDebit : Test → List ℤ → ℕ → ℕ → Option ℕ → Type 0
+NextDebit x t used j None = NoneWants x t j used
+NextDebit x t used j (Some k) = FirstDebit x t used j k
 
 -- the used rows become those given; the others are as before
 pub record RowsBecome (t u : List ℤ) (used : ℕ) (new : List Row) : Type 0 where
@@ -47,3 +63,9 @@ pub record RowsBecome (t u : List ℤ) (used : ℕ) (new : List Row) : Type 0 wh
 -- the used rows become those after settlement
 abbrev pub Settled : List ℤ → List ℤ → ℕ → ℕ → Type 0
 Settled t u used a = RowsBecome t u used (settle a (rows_of t used))
+
+-- the used rows become those after the settlement of one rank, and settlement of what is left may begin at source i and debit j
+pub record RankSettled (k : Rank) (t u : List ℤ) (used a i j : ℕ) : Type 0 where
+  pub become : RowsBecome t u used (settle_rank (of_rank k (rows_of t used) a) a (rows_of t used))
+  pub journal : Journal u used
+  pub begun : Begun u used a i j

@@ -11,18 +11,18 @@ use Rattle.std.specs.Prelude.{Option, Some, None}
 use Rattle.records.specs.Encoding.{row_at, rows_of}
 use Rattle.lists.specs.Lists.{only}
 use Rattle.lists.proofs.SearchLaws.{Finds, first-from}
-use Rattle.rules.specs.Rows.{remaining, payable}
-use Rattle.settlement.specs.Settling.{NextDebit}
+use Rattle.rules.specs.Rows.{Test, remaining}
+use Rattle.settlement.specs.Settling.{of_rank, NextDebit}
 use Rattle.settlement.proofs.next_debit.Goals as goal
 
-abbrev want : List ℤ → ℕ → ℕ → ℕ → ℕ
-want t used a k = only (payable (rows_of t used) a) remaining (row_at t k)
+abbrev want : Test → List ℤ → ℕ → ℕ
+want x t k = only x remaining (row_at t k)
 
-next : (t : List ℤ) (used a j : ℕ) → j ≤ used → (r : Option ℕ) → Finds (λ k. 0 < want t used a k) (λ k. want t used a k ≡ 0) j used r
-    → NextDebit t used a j r
-next t used a j h None m = (first-from (λ k. 0 < want t used a k) (λ k. want t used a k ≡ 0) j used h None m).passed
-next t used a j h (Some k) m =
-    let f = first-from (λ k. 0 < want t used a k) (λ k. want t used a k ≡ 0) j used h (Some k) m in
+next : (x : Test) (t : List ℤ) (used j : ℕ) → j ≤ used → (r : Option ℕ) → Finds (λ k. 0 < want x t k) (λ k. want x t k ≡ 0) j used r
+    → NextDebit x t used j r
+next x t used j h None m = (first-from (λ k. 0 < want x t k) (λ k. want x t k ≡ 0) j used h None m).passed
+next x t used j h (Some k) m =
+    let f = first-from (λ k. 0 < want x t k) (λ k. want x t k ≡ 0) j used h (Some k) m in
     let i : m.1 < used - j = rw length-range_with_len at m.2 in
     let within : k < used = omega (arith, sym (get_or-range_with_len j (used - j) m.1 0 i) ∙ m.3 0) in
     record { after = f.after; within = within; passed = f.passed; wants = f.found within }
@@ -30,6 +30,7 @@ next t used a j h (Some k) m =
 pub returns : goal.returns
 returns c =
     let t = c.args.rows.now in
-    next t.journal.now t.used c.args.account c.args.j c.requires c.find.result
-    (first_from_find _ _ _ (λ k. 0 < want t.journal.now t.used c.args.account k) (λ k. want t.journal.now t.used c.args.account k ≡ 0) c.find.ensures.ran
+    let x : Test = of_rank c.args.rank (rows_of t.journal.now t.used) c.args.account in
+    next x t.journal.now t.used c.args.j c.requires c.find.result
+    (first_from_find _ _ _ (λ k. 0 < want x t.journal.now k) (λ k. want x t.journal.now k ≡ 0) c.find.ensures.ran
     (YieldsList-from_range c.args.j t.used _ refl refl) (λ k q d. search rules) (λ k q d. search rules))
