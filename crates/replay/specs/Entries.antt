@@ -182,11 +182,11 @@ unfoldable pub cover : (Entry → ℕ) → ℕ → List Entry → List Entry
 cover take n [] = []
 cover take n (x ∷ xs) = with_covered (x.covered + min (take x) n) x ∷ cover take (n - take x) xs
 
--- what a toll wants of it; what a fee or a reversal does (document 02, No. 5); a refund, covered whole, wants nothing
+-- what a toll wants: the first rank of debts (document 02, No. 5)
 unfoldable pub wanted_by_toll : List Entry → ℕ → Entry → ℕ
 wanted_by_toll xs a x = cond (is_toll x) (wanted_by xs a x) 0
 
--- the others
+-- what a fee or a reversal wants: the second rank; a refund, covered whole, wants nothing
 unfoldable pub wanted_by_rest : List Entry → ℕ → Entry → ℕ
 wanted_by_rest xs a x = cond (is_toll x) 0 (wanted_by xs a x)
 
