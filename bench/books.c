@@ -10,6 +10,8 @@ const struct library ours = {toll_ledger_open, toll_ledger_event, toll_ledger_ba
                              toll_ledger_balance, toll_ledger_topup_due};
 const struct library plain = {model_open, model_event, model_batch, model_balance, model_topup_due};
 
+const int64_t no_holidays[1] = {0};
+
 void must(bool so, const char *what)
 {
     if (so)
@@ -42,6 +44,7 @@ struct book book_of(struct tables *t)
     return (struct book){.header = (struct header *)t->header,
                          .accounts = (struct account *)t->accounts,
                          .rows = (struct row *)t->journal,
+                         .holidays = no_holidays,
                          .count = t->accounts_words / TOLL_LEDGER_ACCOUNT_WORDS,
                          .room = t->journal_words / TOLL_LEDGER_ROW_WORDS};
 }

@@ -12,22 +12,24 @@ struct tables {
     int64_t journal[TOLL_LEDGER_MOST_ROWS * TOLL_LEDGER_ROW_WORDS];
 };
 
+extern const int64_t no_holidays[1]; /* an empty list has a place too */
+
 #define LENT(t)                                                                     \
     (t)->header, (t)->header_words, (t)->accounts, (t)->accounts_words, (t)->journal, \
-        (t)->journal_words
+        (t)->journal_words, no_holidays, (size_t)0
 
 /* One of the two libraries. */
 struct library {
     int64_t (*open)(int64_t *, size_t, int64_t *, size_t, int64_t *, size_t, const int64_t *,
-                    size_t);
+                    size_t, const int64_t *, size_t);
     int64_t (*event)(int64_t *, size_t, int64_t *, size_t, int64_t *, size_t, const int64_t *,
-                     size_t, int64_t *, size_t);
-    int64_t (*batch)(int64_t *, size_t, int64_t *, size_t, int64_t *, size_t, const event *, size_t,
-                     int64_t *, size_t);
+                     size_t, const int64_t *, size_t, int64_t *, size_t);
+    int64_t (*batch)(int64_t *, size_t, int64_t *, size_t, int64_t *, size_t, const int64_t *,
+                     size_t, const event *, size_t, int64_t *, size_t);
     int64_t (*balance)(const int64_t *, size_t, const int64_t *, size_t, const int64_t *, size_t,
-                       int64_t, int64_t *);
+                       const int64_t *, size_t, int64_t, int64_t *);
     int64_t (*topup_due)(const int64_t *, size_t, const int64_t *, size_t, const int64_t *, size_t,
-                         int64_t, int64_t *);
+                         const int64_t *, size_t, int64_t, int64_t *);
 };
 
 extern const struct library ours, plain;

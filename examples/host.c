@@ -1,11 +1,12 @@
 /*
  * A small host of the toll account ledger: it keeps one book in a file.
  *
- *     host BOOK [EVENTS]
+ *     host BOOK [EVENTS [HOLIDAYS]]
  *
- * Loads the book saved in BOOK, or opens a fresh one where there is no such file; posts the events of
- * the file EVENTS, one a line as kind,account,a,b,c,d,e,f,g; prints what was refused and a statement
- * of every account; saves the book. Ends with 0, or with 1 and nothing saved where something is wrong.
+ * Loads the book saved in BOOK, or opens a fresh one where there is no such file, with the days of the
+ * file HOLIDAYS, one a line; posts the events of the file EVENTS, one a line as
+ * kind,account,a,b,c,d,e,f,g; prints what was refused and a statement of every account; saves the
+ * book. Ends with 0, or with 1 and nothing saved where something is wrong.
  */
 #include <errno.h>
 #include <inttypes.h>
@@ -22,19 +23,25 @@
 static const int64_t schedule[TOLL_LEDGER_SCHEDULE_WORDS] = {1,   30,  500, 2500, 3000, 250,
                                                              500, 600, 900, 1200, 1600};
 
-/* How the file begins: its last letter is the version's first number, which rises where stored books
- * no longer fit. */
+/* How the file begins: its last letter is the version's first number, which rises where this file's
+ * form or a stored book no longer fits. */
 static const char magic[8] = {'T', 'L', 'L', 'B', 'O', 'O', 'K', '0' + TOLL_LEDGER_VERSION_MAJOR};
 
 struct book {
     int64_t header[TOLL_LEDGER_HEADER_WORDS];
-    int64_t *accounts, *journal;
-    size_t accounts_words, journal_words;
+    int64_t *accounts, *journal, *holidays;
+    size_t accounts_words, journal_words, holidays_words;
 };
 
-/* The three tables as every call takes them. */
-#define TABLES(b) \
-    (b)->header, TOLL_LEDGER_HEADER_WORDS, (b)->accounts, (b)->accounts_words, (b)->journal, (b)->journal_words
+/* The four tables as every call takes them. */
+#define TABLES(b)                                                                                                    \
+    (b)->header, TOLL_LEDGER_HEADER_WORDS, (b)->accounts, (b)->accounts_words, (b)->journal, (b)->journal_words, \
+        (b)->holidays, (b)->holidays_words
+
+static const char *const number_names[] = {
+    "posted",    "unsound", "malformed", "unknown",  "taken",    "closed", "unclassed", "misdated",
+    "duplicate", "barred",  "no row",    "untimely", "last day", "full",   "ceiling",   "list",
+    "reserve",   "holidays"};
 
 static _Noreturn void fail(const char *what, const char *why)
 {
@@ -50,31 +57,35 @@ static void *memory(void *old, size_t count, size_t size)
     return new;
 }
 
-static void make_room(struct book *b, size_t accounts, size_t rows)
+static void make_room(struct book *b, size_t accounts, size_t rows, size_t holidays)
 {
     b->accounts_words = accounts * TOLL_LEDGER_ACCOUNT_WORDS;
     b->journal_words = rows * TOLL_LEDGER_ROW_WORDS;
+    b->holidays_words = holidays;
     b->accounts = memory(NULL, b->accounts_words, sizeof(int64_t));
     b->journal = memory(NULL, b->journal_words, sizeof(int64_t));
+    b->holidays = memory(NULL, b->holidays_words + 1, sizeof(int64_t)); /* an empty list has a place too */
 }
 
-/* ---- the book's file: the magic letters, how many accounts and rows, the three tables */
+/* ---- the book's file: the magic letters, how many accounts, rows and holidays, the four tables */
 
 static void load(struct book *b, FILE *file, const char *path)
 {
     char letters[sizeof magic];
-    int64_t counts[2];
+    int64_t counts[3];
     if (fread(letters, sizeof letters, 1, file) != 1 || memcmp(letters, magic, sizeof magic - 1) != 0 ||
-        fread(counts, sizeof(int64_t), 2, file) != 2)
+        fread(counts, sizeof(int64_t), 3, file) != 3)
         fail(path, "not a book");
     if (letters[sizeof magic - 1] != magic[sizeof magic - 1])
         fail(path, "of another version of the ledger, whose books don't fit this one");
-    if (counts[0] < 1 || counts[0] > TOLL_LEDGER_MOST_ACCOUNTS || counts[1] < 1 || counts[1] > TOLL_LEDGER_MOST_ROWS)
+    if (counts[0] < 1 || counts[0] > TOLL_LEDGER_MOST_ACCOUNTS || counts[1] < 1 || counts[1] > TOLL_LEDGER_MOST_ROWS ||
+        counts[2] < 0 || counts[2] > TOLL_LEDGER_MOST_HOLIDAYS)
         fail(path, "not a book");
-    make_room(b, (size_t)counts[0], (size_t)counts[1]);
+    make_room(b, (size_t)counts[0], (size_t)counts[1], (size_t)counts[2]);
     if (fread(b->header, sizeof(int64_t), TOLL_LEDGER_HEADER_WORDS, file) != TOLL_LEDGER_HEADER_WORDS ||
         fread(b->accounts, sizeof(int64_t), b->accounts_words, file) != b->accounts_words ||
-        fread(b->journal, sizeof(int64_t), b->journal_words, file) != b->journal_words || fgetc(file) != EOF)
+        fread(b->journal, sizeof(int64_t), b->journal_words, file) != b->journal_words ||
+        fread(b->holidays, sizeof(int64_t), b->holidays_words, file) != b->holidays_words || fgetc(file) != EOF)
         fail(path, "not the length of its book");
     fclose(file);
 }
@@ -82,29 +93,51 @@ static void load(struct book *b, FILE *file, const char *path)
 /* Writes a new file and puts it in the old one's place, so that a stop midway loses no book. */
 static void save(const struct book *b, const char *path)
 {
-    const int64_t counts[2] = {(int64_t)(b->accounts_words / TOLL_LEDGER_ACCOUNT_WORDS),
-                               (int64_t)(b->journal_words / TOLL_LEDGER_ROW_WORDS)};
+    const int64_t counts[3] = {(int64_t)(b->accounts_words / TOLL_LEDGER_ACCOUNT_WORDS),
+                               (int64_t)(b->journal_words / TOLL_LEDGER_ROW_WORDS), (int64_t)b->holidays_words};
     char *new_path = memory(NULL, strlen(path) + sizeof ".new", 1);
     strcat(strcpy(new_path, path), ".new");
     FILE *file = fopen(new_path, "wb");
     if (file == NULL)
         fail(new_path, strerror(errno));
     const int written =
-        fwrite(magic, sizeof magic, 1, file) == 1 && fwrite(counts, sizeof(int64_t), 2, file) == 2 &&
+        fwrite(magic, sizeof magic, 1, file) == 1 && fwrite(counts, sizeof(int64_t), 3, file) == 3 &&
         fwrite(b->header, sizeof(int64_t), TOLL_LEDGER_HEADER_WORDS, file) == TOLL_LEDGER_HEADER_WORDS &&
         fwrite(b->accounts, sizeof(int64_t), b->accounts_words, file) == b->accounts_words &&
-        fwrite(b->journal, sizeof(int64_t), b->journal_words, file) == b->journal_words;
+        fwrite(b->journal, sizeof(int64_t), b->journal_words, file) == b->journal_words &&
+        fwrite(b->holidays, sizeof(int64_t), b->holidays_words, file) == b->holidays_words;
     if (fclose(file) != 0 || !written || rename(new_path, path) != 0)
         fail(new_path, strerror(errno));
     free(new_path);
 }
 
-static void load_or_open(struct book *b, const char *path)
+/* The holidays of a fresh book, which stay its own: whether they fit, the opening tells. */
+static void read_holidays(struct book *b, const char *path)
+{
+    char line[64], *end;
+    FILE *file = fopen(path, "r");
+    if (file == NULL)
+        fail(path, strerror(errno));
+    while (fgets(line, sizeof line, file) != NULL) {
+        b->holidays = memory(b->holidays, b->holidays_words + 1, sizeof(int64_t));
+        errno = 0;
+        b->holidays[b->holidays_words++] = strtoll(line, &end, 10);
+        if (end == line || errno != 0 || (*end != '\n' && *end != '\0'))
+            fail(path, "a line isn't a day");
+    }
+    if (ferror(file))
+        fail(path, strerror(errno));
+    fclose(file);
+}
+
+static void load_or_open(struct book *b, const char *path, const char *holidays)
 {
     const struct toll_ledger_event_record none = {0};
     int64_t no_answer = 0;
     FILE *file = fopen(path, "rb");
     if (file != NULL) {
+        if (holidays != NULL)
+            fail(path, "has its holidays, from its opening");
         load(b, file, path);
         /* A batch of no events asks whether the book is sound: a damaged file is not worked on. */
         if (toll_ledger_batch(TABLES(b), &none, 0, &no_answer, 0) != TOLL_LEDGER_POSTED)
@@ -112,9 +145,12 @@ static void load_or_open(struct book *b, const char *path)
     } else if (errno != ENOENT) {
         fail(path, strerror(errno));
     } else {
-        make_room(b, ACCOUNTS, ROWS);
-        if (toll_ledger_open(TABLES(b), schedule, TOLL_LEDGER_SCHEDULE_WORDS) != TOLL_LEDGER_POSTED)
-            fail(path, "the schedule is out of range");
+        make_room(b, ACCOUNTS, ROWS, 0);
+        if (holidays != NULL)
+            read_holidays(b, holidays);
+        const int64_t opened = toll_ledger_open(TABLES(b), schedule, TOLL_LEDGER_SCHEDULE_WORDS);
+        if (opened != TOLL_LEDGER_POSTED)
+            fail("opening", number_names[opened]);
     }
 }
 
@@ -156,11 +192,6 @@ static struct toll_ledger_event_record *read_events(const char *path, size_t *co
     fclose(file);
     return events;
 }
-
-static const char *const number_names[] = {
-    "posted",    "unsound", "malformed", "unknown",  "taken",    "closed", "unclassed", "misdated",
-    "duplicate", "barred",  "no row",    "untimely", "last day", "full",   "ceiling",   "list",
-    "reserve"};
 
 /* Posts events in batches of the most that one call takes, and prints the refused ones. */
 static void post(struct book *b, const struct toll_ledger_event_record *events, size_t count)
@@ -241,10 +272,10 @@ static void print_statement(const struct book *b)
 int main(int argc, char **argv)
 {
     struct book book;
-    if (argc < 2 || argc > 3)
-        fail("usage", "host BOOK [EVENTS]");
-    load_or_open(&book, argv[1]);
-    if (argc == 3) {
+    if (argc < 2 || argc > 4)
+        fail("usage", "host BOOK [EVENTS [HOLIDAYS]]");
+    load_or_open(&book, argv[1], argc == 4 ? argv[3] : NULL);
+    if (argc >= 3) {
         size_t count;
         struct toll_ledger_event_record *events = read_events(argv[2], &count);
         post(&book, events, count);
@@ -252,6 +283,7 @@ int main(int argc, char **argv)
     }
     print_statement(&book);
     save(&book, argv[1]);
+    free(book.holidays);
     free(book.journal);
     free(book.accounts);
     return 0;

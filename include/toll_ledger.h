@@ -2,14 +2,16 @@
  * The toll account ledger, for C and C++ hosts on x86-64.
  *
  * Link libtoll_ledger.a. The library keeps nothing between calls, takes nothing from a heap, reads
- * no file and no clock. All that it knows stands in three tables of signed 64-bit words which the
- * host owns and lends to each call: header, accounts and journal. Together they are a book.
+ * no file and no clock. All that it knows stands in four tables of signed 64-bit words which the
+ * host owns and lends to each call: header, accounts, journal and holidays. Together they are a
+ * book. No call writes the holidays: the host has that list before the opening, and leaves it as it
+ * is from then on. One list may serve several books.
  * Amounts are whole US cents. Days are numbers: day 1 is 2000-01-01, day 36,525 is 2099-12-31.
  *
  * Every call takes each table as a pointer and its length in words, checks the whole book, and
  * answers by a number of enum toll_ledger_number. The contents of the tables need no check before a
- * call: any words, lengths, events and accounts get an answer. A refusal leaves the book's three
- * tables as they were.
+ * call: any words, lengths, events and accounts get an answer. A refusal leaves the book's tables
+ * as they were.
  *
  * The host sees to it that
  *   - each table is at least as long as its length says, aligned for int64_t, and not null, not
@@ -27,8 +29,8 @@
 
 /* The version of this interface: the first number rises where a host must change or its stored
  * books no longer fit, the second where something is added, the third where neither is. */
-#define TOLL_LEDGER_VERSION_MAJOR 3
-#define TOLL_LEDGER_VERSION_MINOR 1
+#define TOLL_LEDGER_VERSION_MAJOR 4
+#define TOLL_LEDGER_VERSION_MINOR 0
 #define TOLL_LEDGER_VERSION_PATCH 0
 
 /* For compilers that can warn: a call's number must not be ignored, and no pointer may be null. */
@@ -44,12 +46,14 @@ extern "C" {
 
 /* Sizes. A header has exactly 62 words; accounts are 1 to 256 of 8 words each, numbered from 1; a
  * journal is 1 to 8,192 rows of 10 words each, numbered from 1. How many accounts and rows a book
- * has room for is the host's choice at opening, told by the tables' lengths. */
+ * has room for is the host's choice at opening, told by the tables' lengths. Holidays are 0 to 400
+ * words, a day each. */
 #define TOLL_LEDGER_HEADER_WORDS 62
 #define TOLL_LEDGER_ACCOUNT_WORDS 8
 #define TOLL_LEDGER_ROW_WORDS 10
 #define TOLL_LEDGER_MOST_ACCOUNTS 256
 #define TOLL_LEDGER_MOST_ROWS 8192
+#define TOLL_LEDGER_MOST_HOLIDAYS 400
 #define TOLL_LEDGER_MOST_LISTS 8 /* rate lists, the opening's among them */
 #define TOLL_LEDGER_LIST_WORDS 7 /* of each rate list after the first */
 #define TOLL_LEDGER_SCHEDULE_WORDS 11
@@ -62,12 +66,14 @@ extern "C" {
  * one that stands first here wins. */
 enum toll_ledger_number {
     TOLL_LEDGER_POSTED = 0,     /* accepted; of a batch, an opening and a question: it has run */
-    TOLL_LEDGER_UNSOUND = 1,    /* the book isn't sound (see "A sound book"); opening: its lengths
-                                   aren't those of a book */
+    TOLL_LEDGER_UNSOUND = 1,    /* the book isn't sound (see "A sound book"); opening: header,
+                                   accounts or journal have no length of a book */
     TOLL_LEDGER_MALFORMED = 2,  /* an event of no kind, with a word out of range or an unnamed word
                                    that isn't 0; an event not of 9 words; an answer table too short;
                                    a batch of more than 4,096; opening: first day or schedule out of
                                    range, or not 11 words */
+    TOLL_LEDGER_HOLIDAYS = 17,  /* opening: more than 400 holidays, one that isn't a day from 1 to
+                                   36,525, or one not after the holiday before it */
     TOLL_LEDGER_LIST = 15,      /* event 10: the book has eight rate lists, or the last one begins
                                    on the new one's first day or later */
     TOLL_LEDGER_UNKNOWN = 3,    /* the account is unused, or not from 1 to the table's count */
@@ -204,11 +210,12 @@ enum toll_ledger_event_kind {
      * primary, and the account has none until one is added. The third decline in a row removes the
      * top-up, and a reserve with it. */
     TOLL_LEDGER_EVENT_TOPUP_RESULT = 7,
-    /* The account is pending from today; a tick closes it 15 days on or later, once nothing is
-     * owed. */
+    /* The account is pending from today; the tick to the first business day that is 15 days on or
+     * later and finds no unsettled debit, held ones counted, closes it. */
     TOLL_LEDGER_EVENT_CLOSE_REQUEST = 8,
     /* Account 0. The day rises by 1: holds of 30 days end, tolls due rise a stage and from stage 2
-     * on add a fee, pending accounts close and what is left of their money leaves as a refund. */
+     * on add a fee. Where the new day is a business day, pending accounts that may close do so, and
+     * what is left of their money leaves as a refund. */
     TOLL_LEDGER_EVENT_TICK = 9,
     /* Account 0, a first day 1 to 36,525, b to g six rates, 1 to 1,000,000 each, in the header's
      * order. Adds a rate list, which begins after the last one: on a day to come or one gone by.
@@ -218,6 +225,9 @@ enum toll_ledger_event_kind {
      * when it is asked: one added after the second decline is asked next. */
     TOLL_LEDGER_EVENT_RESERVE = 11
 };
+
+/* Business days are all days but Saturdays, Sundays and the book's holidays. Day 1 is a Saturday.
+ * A holiday may fall on a weekend or before the opening. */
 
 enum toll_ledger_mode { TOLL_LEDGER_MODE_TAG = 1, TOLL_LEDGER_MODE_PLATE = 2 };
 
@@ -270,22 +280,25 @@ enum toll_ledger_answer_word {
  * L, other tolls from 1 to today + L. Hold start is 0 but for a held toll, then from today - 29 to
  * today and at least 1, the toll unsettled, due by hold start + L and, under stage 4, after hold
  * start. Per account, used sources = settled debits, no unused source stands beside an unsettled
- * debit that isn't held, and a closed account has nothing unused or unsettled.
+ * debit that isn't held, and a closed account has nothing unused or unsettled. Holidays are at most
+ * 400, days 1 to 36,525, each after the one before it.
  *
  * Opening makes a sound book, and every call leaves a sound book sound. So a host meets "unsound"
- * only where something else wrote the tables, or where their lengths changed.
+ * only where something else wrote the tables, or where their lengths changed. With other holidays
+ * than the opening's it is another book, sound or not, and closes accounts on other days.
  */
 
 /*
  * Opens a book in tables of any contents: schedule is first day, L, fees 2 to 4 and six rates in
  * the header's order, 11 words. The first day becomes today and the first day of the first rate
- * list; all other words become 0. Gives 0, else 1 (lengths unfit) or 2 (schedule of another length
- * or out of range), nothing written.
+ * list; all other words of header, accounts and journal become 0. Gives 0, else 1 (their lengths
+ * unfit), 2 (schedule of another length or out of range) or 17 (holidays), nothing written.
  */
 TOLL_LEDGER_CALL
 int64_t toll_ledger_open(int64_t *header, size_t header_words,
                          int64_t *accounts, size_t accounts_words,
                          int64_t *journal, size_t journal_words,
+                         const int64_t *holidays, size_t holidays_words,
                          const int64_t *schedule, size_t schedule_words);
 
 /*
@@ -297,6 +310,7 @@ TOLL_LEDGER_CALL
 int64_t toll_ledger_event(int64_t *header, size_t header_words,
                           int64_t *accounts, size_t accounts_words,
                           int64_t *journal, size_t journal_words,
+                          const int64_t *holidays, size_t holidays_words,
                           const int64_t *event, size_t event_words,
                           int64_t *answer, size_t answer_words);
 
@@ -311,6 +325,7 @@ TOLL_LEDGER_CALL
 int64_t toll_ledger_batch(int64_t *header, size_t header_words,
                           int64_t *accounts, size_t accounts_words,
                           int64_t *journal, size_t journal_words,
+                          const int64_t *holidays, size_t holidays_words,
                           const struct toll_ledger_event_record *events, size_t count,
                           int64_t *answers, size_t answers_words);
 
@@ -322,6 +337,7 @@ TOLL_LEDGER_CALL
 int64_t toll_ledger_balance(const int64_t *header, size_t header_words,
                             const int64_t *accounts, size_t accounts_words,
                             const int64_t *journal, size_t journal_words,
+                            const int64_t *holidays, size_t holidays_words,
                             int64_t account, int64_t *value);
 
 /*
@@ -334,6 +350,7 @@ TOLL_LEDGER_CALL
 int64_t toll_ledger_topup_due(const int64_t *header, size_t header_words,
                               const int64_t *accounts, size_t accounts_words,
                               const int64_t *journal, size_t journal_words,
+                              const int64_t *holidays, size_t holidays_words,
                               int64_t account, int64_t *value);
 
 #ifdef __cplusplus

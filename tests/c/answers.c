@@ -27,7 +27,7 @@ static void unsound(struct book *b)
     b->header[TOLL_LEDGER_HEADER_ROWS_USED] = 0;
     CHECK(sound(b) == TOLL_LEDGER_POSTED);
     CHECK(toll_ledger_open(b->header, b->header_words, b->accounts, b->accounts_words - 1, b->journal,
-                           b->journal_words, example_schedule, 11) == TOLL_LEDGER_UNSOUND);
+                           b->journal_words, b->holidays, b->holidays_words, example_schedule, 11) == TOLL_LEDGER_UNSOUND);
 }
 
 /* 2 malformed: no such kind, a payment of nothing, a word that the kind doesn't name, a tick with an
@@ -40,9 +40,33 @@ static void malformed(struct book *b)
     CHECK(post(b, TOLL_LEDGER_EVENT_OPEN, 7, 0, 0, 0, 0, 0, 0, 1) == TOLL_LEDGER_MALFORMED);
     CHECK(post(b, TOLL_LEDGER_EVENT_TICK, 7) == TOLL_LEDGER_MALFORMED);
     CHECK(toll_ledger_event(b->header, b->header_words, b->accounts, b->accounts_words, b->journal,
-                            b->journal_words, event, 8, b->answer, 5) == TOLL_LEDGER_MALFORMED);
+                            b->journal_words, b->holidays, b->holidays_words, event, 8, b->answer,
+                            5) == TOLL_LEDGER_MALFORMED);
     CHECK(toll_ledger_open(b->header, b->header_words, b->accounts, b->accounts_words, b->journal,
-                           b->journal_words, example_schedule, 10) == TOLL_LEDGER_MALFORMED);
+                           b->journal_words, b->holidays, b->holidays_words, example_schedule, 10) == TOLL_LEDGER_MALFORMED);
+}
+
+/* Opens b anew, with other holidays than its own. */
+static int64_t open_with(struct book *b, const int64_t *days, size_t count)
+{
+    return toll_ledger_open(b->header, b->header_words, b->accounts, b->accounts_words, b->journal,
+                            b->journal_words, days, count, example_schedule, 11);
+}
+
+/* 17 holidays: at opening, a day twice, a day before another, day 0, a day past the last, and one more
+ * than 400. The book there is stays. */
+static void holidays(struct book *b)
+{
+    const int64_t twice[] = {17, 17}, falling[] = {31, 17}, early[] = {0, 17}, late[] = {17, 36526};
+    int64_t many[TOLL_LEDGER_MOST_HOLIDAYS + 1];
+    for (int64_t i = 0; i <= TOLL_LEDGER_MOST_HOLIDAYS; i++)
+        many[i] = 17 + i;
+    CHECK(post(b, TOLL_LEDGER_EVENT_OPEN, 7, 0, 0) == TOLL_LEDGER_POSTED);
+    CHECK(open_with(b, twice, 2) == TOLL_LEDGER_HOLIDAYS && open_with(b, falling, 2) == TOLL_LEDGER_HOLIDAYS);
+    CHECK(open_with(b, early, 2) == TOLL_LEDGER_HOLIDAYS && open_with(b, late, 2) == TOLL_LEDGER_HOLIDAYS);
+    CHECK(open_with(b, many, TOLL_LEDGER_MOST_HOLIDAYS + 1) == TOLL_LEDGER_HOLIDAYS);
+    CHECK(balance(b, 7) == 0);
+    CHECK(open_with(b, many, TOLL_LEDGER_MOST_HOLIDAYS) == TOLL_LEDGER_POSTED);
 }
 
 /* 15 list: a rate list begins after the last one, and the opening's began on day 1; a ninth list. */
@@ -70,12 +94,14 @@ static void taken(struct book *b)
     CHECK(post(b, TOLL_LEDGER_EVENT_OPEN, 7, 0, 0) == TOLL_LEDGER_TAKEN);
 }
 
-/* 5 closed: 15 days after its close request the account is closed. */
+/* 5 closed: 15 days after its close request is day 16, a Sunday; from Monday on the account is closed. */
 static void closed(struct book *b)
 {
     CHECK(post(b, TOLL_LEDGER_EVENT_OPEN, 7, 0, 0) == TOLL_LEDGER_POSTED);
     CHECK(post(b, TOLL_LEDGER_EVENT_CLOSE_REQUEST, 7) == TOLL_LEDGER_POSTED);
     ticks(b, 15);
+    CHECK(post(b, TOLL_LEDGER_EVENT_PAYMENT, 7, 500, 2) == TOLL_LEDGER_POSTED);
+    ticks(b, 1);
     CHECK(post(b, TOLL_LEDGER_EVENT_PAYMENT, 7, 500, 2) == TOLL_LEDGER_CLOSED);
     CHECK(post(b, TOLL_LEDGER_EVENT_RESERVE, 7, 1) == TOLL_LEDGER_CLOSED);
 }
@@ -281,6 +307,26 @@ static void reserve_life(struct book *b)
 }
 /* examples: end */
 
+/* examples: begin, of business days */
+/* Account 7 asks to close on day 1. The first day that is 15 days on is day 16, a Sunday, and Monday
+ * is a holiday: it closes on Tuesday, day 18, and its money leaves then. lend_holidays has b lend this
+ * list in every call from now on, the opening too. */
+static void business_days(struct book *b)
+{
+    const int64_t days[] = {17};
+    lend_holidays(b, days, 1);
+    CHECK(open_with(b, b->holidays, b->holidays_words) == TOLL_LEDGER_POSTED);
+    CHECK(post(b, TOLL_LEDGER_EVENT_OPEN, 7, 0, 0) == TOLL_LEDGER_POSTED);
+    CHECK(post(b, TOLL_LEDGER_EVENT_PAYMENT, 7, 700, 2) == TOLL_LEDGER_POSTED);
+    CHECK(post(b, TOLL_LEDGER_EVENT_CLOSE_REQUEST, 7) == TOLL_LEDGER_POSTED);
+    ticks(b, 16);
+    CHECK(today(b) == 17 && balance(b, 7) == 700);
+    ticks(b, 1);
+    CHECK(account_of(b, 7)[TOLL_LEDGER_ACCOUNT_STATE] == TOLL_LEDGER_STATE_CLOSED);
+    CHECK(row_of(b, 2)[TOLL_LEDGER_ROW_KIND] == TOLL_LEDGER_KIND_REFUND && balance(b, 7) == 0);
+}
+/* examples: end */
+
 /* As near to 14 as a book comes: a journal of credits for one settled toll, and a single free row. */
 static void largest_refund(struct book *b)
 {
@@ -288,7 +334,7 @@ static void largest_refund(struct book *b)
     const int64_t toll[] = {1, 7, 1, 1, 1, 0, 1, 3, 0, 41};
     CHECK(post(b, TOLL_LEDGER_EVENT_OPEN, 7, 0, 0) == TOLL_LEDGER_POSTED);
     CHECK(post(b, TOLL_LEDGER_EVENT_CLOSE_REQUEST, 7) == TOLL_LEDGER_POSTED);
-    ticks(b, 14);
+    ticks(b, 15); /* to day 16, a Sunday */
     memcpy(row_of(b, 1), toll, sizeof toll);
     for (int64_t n = 2; n < rows; n++) {
         const int64_t credit[] = {5, 7, 1, 1300000, n == 2, 0, 0, 0, 0, 1};
@@ -417,6 +463,7 @@ int main(void)
         {classes, 64, 512, 1},   {stages_and_holds, 64, 512, 1}, {closing, 64, 512, 1}, {declines, 64, 512, 1},
         {rates_ahead, 64, 512, 1}, {held_topup, 64, 512, 1}, {reserve, 64, 512, 1},
         {reserve_life, 64, 512, 1}, {tolls_first, 64, 512, 1},
+        {holidays, 64, 512, 1}, {business_days, 64, 512, 1},
     };
     for (size_t i = 0; i < sizeof examples / sizeof examples[0]; i++) {
         struct book b = open_book(examples[i].accounts, examples[i].rows, examples[i].first_day);

@@ -64,6 +64,7 @@ struct book new_book(size_t accounts, size_t rows)
     b.header = new_table(b.header_words);
     b.accounts = new_table(b.accounts_words);
     b.journal = new_table(b.journal_words);
+    b.holidays = new_table(0);
     return b;
 }
 
@@ -72,16 +73,37 @@ void free_book(struct book *b)
     free_table(b->header, b->header_words);
     free_table(b->accounts, b->accounts_words);
     free_table(b->journal, b->journal_words);
+    free_table((int64_t *)b->holidays, b->holidays_words);
+}
+
+void lend_holidays(struct book *b, const int64_t *days, size_t count)
+{
+    const size_t page = (size_t)sysconf(_SC_PAGESIZE), bytes = count * sizeof(int64_t);
+    int64_t *table = new_table(count);
+    if (count > 0)
+        memcpy(table, days, bytes);
+    if (place() != HEAP) {
+        unsigned char *base = (unsigned char *)table - (place() == END ? paged(bytes) - bytes : 0);
+        CHECK((uintptr_t)base % page == 0 && mprotect(base, paged(bytes), PROT_READ) == 0);
+    }
+    free_table((int64_t *)b->holidays, b->holidays_words);
+    b->holidays = table;
+    b->holidays_words = count;
 }
 
 struct book open_book(size_t accounts, size_t rows, int64_t first_day)
 {
+    return open_book_with(accounts, rows, first_day, NULL, 0);
+}
+
+struct book open_book_with(size_t accounts, size_t rows, int64_t first_day, const int64_t *days, size_t count)
+{
     struct book b = new_book(accounts, rows);
+    lend_holidays(&b, days, count);
     int64_t *schedule = new_table(TOLL_LEDGER_SCHEDULE_WORDS);
     memcpy(schedule, example_schedule, sizeof example_schedule);
     schedule[0] = first_day;
-    CHECK(toll_ledger_open(b.header, b.header_words, b.accounts, b.accounts_words, b.journal,
-                           b.journal_words, schedule, TOLL_LEDGER_SCHEDULE_WORDS) == 0);
+    CHECK(toll_ledger_open(TABLES(&b), schedule, TOLL_LEDGER_SCHEDULE_WORDS) == 0);
     free_table(schedule, TOLL_LEDGER_SCHEDULE_WORDS);
     return b;
 }
@@ -93,10 +115,8 @@ int64_t post_words(struct book *book, const int64_t *words)
     int64_t *event = new_table(TOLL_LEDGER_EVENT_WORDS);
     int64_t *answer = new_table(TOLL_LEDGER_ANSWER_WORDS);
     memcpy(event, words, size);
-    const int64_t number =
-        toll_ledger_event(book->header, book->header_words, book->accounts, book->accounts_words,
-                          book->journal, book->journal_words, event, TOLL_LEDGER_EVENT_WORDS,
-                          answer, TOLL_LEDGER_ANSWER_WORDS);
+    const int64_t number = toll_ledger_event(TABLES(book), event, TOLL_LEDGER_EVENT_WORDS, answer,
+                                             TOLL_LEDGER_ANSWER_WORDS);
     memcpy(book->answer, answer, sizeof book->answer);
     CHECK(number == answer[TOLL_LEDGER_ANSWER_NUMBER]);
     CHECK(memcmp(event, words, size) == 0);
@@ -127,9 +147,8 @@ void ticks(struct book *book, int64_t count)
 int64_t sound(struct book *book)
 {
     int64_t *empty = new_table(0);
-    const int64_t number = toll_ledger_batch(
-        book->header, book->header_words, book->accounts, book->accounts_words, book->journal,
-        book->journal_words, (struct toll_ledger_event_record *)(void *)empty, 0, empty, 0);
+    const int64_t number =
+        toll_ledger_batch(TABLES(book), (struct toll_ledger_event_record *)(void *)empty, 0, empty, 0);
     free_table(empty, 0);
     return number;
 }
@@ -138,9 +157,7 @@ int64_t ask(question *question, struct book *book, int64_t account, int64_t *val
 {
     int64_t *before = copy_words(book);
     int64_t *place = new_table(1);
-    const int64_t number =
-        question(book->header, book->header_words, book->accounts, book->accounts_words,
-                 book->journal, book->journal_words, account, place);
+    const int64_t number = question(TABLES(book), account, place);
     *value = *place;
     CHECK(same_words(book, before));
     CHECK(number == TOLL_LEDGER_POSTED || *value == 0);
@@ -183,18 +200,21 @@ int64_t today(const struct book *book)
 int64_t *copy_words(const struct book *b)
 {
     const size_t words = b->header_words + b->accounts_words + b->journal_words;
-    int64_t *copy = malloc((words + 1) * sizeof *copy);
+    int64_t *copy = malloc((words + b->holidays_words + 1) * sizeof *copy);
     CHECK(copy != NULL);
     memcpy(copy, b->header, b->header_words * sizeof *copy);
     memcpy(copy + b->header_words, b->accounts, b->accounts_words * sizeof *copy);
     memcpy(copy + b->header_words + b->accounts_words, b->journal, b->journal_words * sizeof *copy);
+    memcpy(copy + words, b->holidays, b->holidays_words * sizeof *copy);
     return copy;
 }
 
 int same_words(const struct book *b, const int64_t *copy)
 {
+    const size_t words = b->header_words + b->accounts_words + b->journal_words;
     return memcmp(copy, b->header, b->header_words * sizeof *copy) == 0 &&
            memcmp(copy + b->header_words, b->accounts, b->accounts_words * sizeof *copy) == 0 &&
            memcmp(copy + b->header_words + b->accounts_words, b->journal,
-                  b->journal_words * sizeof *copy) == 0;
+                  b->journal_words * sizeof *copy) == 0 &&
+           memcmp(copy + words, b->holidays, b->holidays_words * sizeof *copy) == 0;
 }

@@ -1,6 +1,6 @@
-/* The borders of the calls: lengths of every kind, words of every size, rate lists, reserves, the
- * order of payment, answer tables, batches, and full books. Every table stands in a place of
- * exactly its size. */
+/* The borders of the calls: lengths of every kind, words of every size, rate lists, holidays,
+ * reserves, the order of payment, answer tables, batches, and full books. Every table stands in a
+ * place of exactly its size. */
 #include "book.h"
 
 #include <string.h>
@@ -32,8 +32,7 @@ static int64_t batch(struct book *book, const struct toll_ledger_event_record *e
     if (count > 0)
         memcpy(list, events, count * sizeof *events);
     const int64_t number = toll_ledger_batch(
-        book->header, book->header_words, book->accounts, book->accounts_words, book->journal,
-        book->journal_words, (struct toll_ledger_event_record *)(void *)list, count, table, words);
+        TABLES(book), (struct toll_ledger_event_record *)(void *)list, count, table, words);
     if (number != 0)
         CHECK(same_words(book, before));
     for (size_t i = number == 0 ? count * TOLL_LEDGER_ANSWER_WORDS : 0; i < words; i++)
@@ -46,11 +45,12 @@ static int64_t batch(struct book *book, const struct toll_ledger_event_record *e
     return number;
 }
 
-/* A book with a row of every kind, every state of an account, a held toll with a fee, and rate lists
- * begun and to begin. */
+/* A book with a row of every kind, every state of an account, a held toll with a fee, rate lists
+ * begun and to begin, and holidays gone by and to come. */
 static struct book varied_book(void)
 {
-    struct book b = open_book(5, 16, 1);
+    static const int64_t days[] = {1, 17, 18, 62, 400, 36525};
+    struct book b = open_book_with(5, 16, 1, days, sizeof days / sizeof days[0]);
     CHECK(post(&b, TOLL_LEDGER_EVENT_OPEN, 1, 100, 2000) == 0);
     CHECK(post(&b, TOLL_LEDGER_EVENT_OPEN, 2, 0, 0) == 0);
     CHECK(post(&b, TOLL_LEDGER_EVENT_OPEN, 3, 0, 0) == 0);
@@ -107,11 +107,11 @@ static void lengths_of_tables(void)
                 b.header = new_table(b.header_words);
                 b.accounts = new_table(b.accounts_words);
                 b.journal = new_table(b.journal_words);
+                b.holidays = new_table(0);
                 int64_t *before = copy_words(&b);
                 const int fit = fits(headers[h], accounts[a], journals[j]);
                 const int64_t number =
-                    toll_ledger_open(b.header, b.header_words, b.accounts, b.accounts_words, b.journal,
-                                     b.journal_words, example_schedule, TOLL_LEDGER_SCHEDULE_WORDS);
+                    toll_ledger_open(TABLES(&b), example_schedule, TOLL_LEDGER_SCHEDULE_WORDS);
                 CHECK(number == (fit ? TOLL_LEDGER_POSTED : TOLL_LEDGER_UNSOUND));
                 if (fit)
                     CHECK(sound(&b) == TOLL_LEDGER_POSTED);
@@ -137,6 +137,8 @@ static void lengths_of_a_sound_book(void)
             b.header = new_table(b.header_words);
             b.accounts = new_table(b.accounts_words);
             b.journal = new_table(b.journal_words);
+            b.holidays = new_table(b.holidays_words);
+            lend_holidays(&b, whole.holidays, whole.holidays_words);
             memset(b.header, 0, b.header_words * sizeof(int64_t));
             memset(b.accounts, 0, b.accounts_words * sizeof(int64_t));
             memset(b.journal, 0, b.journal_words * sizeof(int64_t));
@@ -181,11 +183,11 @@ static void lengths_of_schedules(void)
         int64_t *before = copy_words(&b), *schedule = new_table(words);
         for (size_t i = 0; i < words; i++)
             schedule[i] = i < 11 ? example_schedule[i] : 1;
-        const int64_t number = toll_ledger_open(b.header, 62, b.accounts, 16, b.journal, 30, schedule, words);
+        const int64_t number = toll_ledger_open(b.header, 62, b.accounts, 16, b.journal, 30, b.holidays, 0, schedule, words);
         CHECK(number == (words == 11 ? TOLL_LEDGER_POSTED : TOLL_LEDGER_MALFORMED));
         if (number != 0)
             CHECK(same_words(&b, before));
-        CHECK(toll_ledger_open(b.header, 61, b.accounts, 16, b.journal, 30, schedule, words) == TOLL_LEDGER_UNSOUND);
+        CHECK(toll_ledger_open(b.header, 61, b.accounts, 16, b.journal, 30, b.holidays, 0, schedule, words) == TOLL_LEDGER_UNSOUND);
         free_table(schedule, words);
         free(before);
         free_book(&b);
@@ -205,7 +207,7 @@ static void ranges_of_schedules(void)
             int64_t schedule[11], *before = copy_words(&b);
             memcpy(schedule, example_schedule, sizeof schedule);
             schedule[word] = values[v];
-            const int64_t number = toll_ledger_open(b.header, 62, b.accounts, 16, b.journal, 30, schedule, 11);
+            const int64_t number = toll_ledger_open(b.header, 62, b.accounts, 16, b.journal, 30, b.holidays, 0, schedule, 11);
             CHECK(number == (v < 2 ? TOLL_LEDGER_POSTED : TOLL_LEDGER_MALFORMED));
             if (v < 2) {
                 CHECK(b.header[0] == schedule[0] && b.header[1] == 0);
@@ -238,7 +240,7 @@ static void lengths_of_events_and_answers(void)
                     e[i] = i < 2; /* opens account 1 */
                 const int64_t want = damaged ? TOLL_LEDGER_UNSOUND
                                      : words == 9 && room >= 5 ? TOLL_LEDGER_POSTED : TOLL_LEDGER_MALFORMED;
-                CHECK(toll_ledger_event(b.header, 62, b.accounts, 16, b.journal, 30, e, words, answer, room) == want);
+                CHECK(toll_ledger_event(b.header, 62, b.accounts, 16, b.journal, 30, b.holidays, 0, e, words, answer, room) == want);
                 CHECK(want == TOLL_LEDGER_POSTED || same_words(&b, before));
                 for (size_t i = 0; i < room; i++)
                     CHECK(answer[i] == (room < 5 || i >= 5 ? -77 : i == 0 ? want : 0));
@@ -460,6 +462,249 @@ static void fewer_lists(void)
     free_book(&b);
 }
 
+/* Lists of holidays that fit, and such that have a day out of its range or don't rise. */
+static const struct {
+    int64_t days[4];
+    size_t count;
+    int fits;
+} lists[] = {
+    {{0}, 0, 1},           {{1}, 1, 1},           {{36525}, 1, 1},       {{1, 36525}, 2, 1},    {{1, 2, 3, 4}, 4, 1},
+    {{0}, 1, 0},           {{-1}, 1, 0},          {{36526}, 1, 0},       {{INT64_MIN}, 1, 0},   {{INT64_MAX}, 1, 0},
+    {{0, 7, 8}, 3, 0},     {{7, 8, 36526}, 3, 0}, {{7, -8, 9}, 3, 0},    {{-2, -1}, 2, 0},      {{7, 7}, 2, 0},
+    {{8, 7}, 2, 0},        {{7, 9, 8}, 3, 0},     {{7, 8, 8}, 3, 0},     {{9, 8, 7}, 3, 0},     {{5, 7, 6, 8}, 4, 0},
+    {{6, 5, 7, 8}, 4, 0},  {{5, 6, 7, 7}, 4, 0},
+};
+#define LISTS (sizeof lists / sizeof lists[0])
+
+/* So many rising days over the whole range, the last one apart. */
+static const int64_t *rising_days(size_t count, int64_t last)
+{
+    static int64_t days[TOLL_LEDGER_MOST_HOLIDAYS + 1];
+    for (size_t i = 0; i < count; i++)
+        days[i] = 1 + 91 * (int64_t)i;
+    if (count > 0)
+        days[count - 1] = last;
+    return days;
+}
+
+/* Opens anew in a book's tables; gives the call's number. A refusal writes nothing. */
+static int64_t reopen(struct book *b, const int64_t *schedule, size_t words)
+{
+    int64_t *before = copy_words(b);
+    const int64_t number = toll_ledger_open(TABLES(b), schedule, words);
+    CHECK(number == TOLL_LEDGER_POSTED || same_words(b, before));
+    free(before);
+    return number;
+}
+
+/* Holidays that don't fit are told after the lengths and the schedule. */
+static void opens_with(struct book *b, int fits)
+{
+    int64_t wrong[TOLL_LEDGER_SCHEDULE_WORDS];
+    memcpy(wrong, example_schedule, sizeof wrong);
+    wrong[0] = 0;
+    b->header_words--;
+    CHECK(reopen(b, wrong, 11) == TOLL_LEDGER_UNSOUND);
+    CHECK(reopen(b, example_schedule, 11) == TOLL_LEDGER_UNSOUND);
+    b->header_words++;
+    CHECK(reopen(b, wrong, 11) == TOLL_LEDGER_MALFORMED);
+    CHECK(reopen(b, example_schedule, 10) == TOLL_LEDGER_MALFORMED);
+    CHECK(reopen(b, example_schedule, 11) == (fits ? TOLL_LEDGER_POSTED : TOLL_LEDGER_HOLIDAYS));
+    if (fits)
+        CHECK(sound(b) == TOLL_LEDGER_POSTED);
+}
+
+/* The same lists make a sound book sound or not. */
+static void holidays_of_every_kind(void)
+{
+    const size_t counts[] = {1, 2, 399, 400, 401};
+    struct book fresh = new_book(2, 3), varied = varied_book();
+    for (size_t i = 0; i < LISTS + sizeof counts / sizeof counts[0]; i++) {
+        const size_t count = i < LISTS ? lists[i].count : counts[i - LISTS];
+        const int64_t *days = i < LISTS ? lists[i].days : rising_days(count, TOLL_LEDGER_DAYS);
+        const int fits = i < LISTS ? lists[i].fits : count <= TOLL_LEDGER_MOST_HOLIDAYS;
+        lend_holidays(&fresh, days, count);
+        opens_with(&fresh, fits);
+        lend_holidays(&varied, days, count);
+        if (fits)
+            CHECK(sound(&varied) == TOLL_LEDGER_POSTED);
+        else
+            all_refuse_as_unsound(&varied);
+    }
+    const int64_t past[] = {TOLL_LEDGER_DAYS + 1, 0, 1 + 91 * 398, INT64_MAX}; /* the last of 400: out of range or order */
+    for (size_t i = 0; i < sizeof past / sizeof past[0]; i++) {
+        lend_holidays(&fresh, rising_days(TOLL_LEDGER_MOST_HOLIDAYS, past[i]), TOLL_LEDGER_MOST_HOLIDAYS);
+        opens_with(&fresh, 0);
+        lend_holidays(&varied, fresh.holidays, fresh.holidays_words);
+        all_refuse_as_unsound(&varied);
+    }
+    free_book(&fresh);
+    free_book(&varied);
+}
+
+/* A negative or huge word anywhere in the most holidays makes a book unsound. */
+static void wild_words_in_holidays(void)
+{
+    int64_t days[TOLL_LEDGER_MOST_HOLIDAYS];
+    struct book b = varied_book();
+    memcpy(days, rising_days(TOLL_LEDGER_MOST_HOLIDAYS, TOLL_LEDGER_DAYS), sizeof days);
+    for (size_t i = 0; i < TOLL_LEDGER_MOST_HOLIDAYS; i++) {
+        const int64_t old = days[i];
+        days[i] = wild[i % WILD];
+        lend_holidays(&b, days, TOLL_LEDGER_MOST_HOLIDAYS);
+        all_refuse_as_unsound(&b);
+        days[i] = old;
+    }
+    lend_holidays(&b, days, TOLL_LEDGER_MOST_HOLIDAYS);
+    CHECK(sound(&b) == TOLL_LEDGER_POSTED);
+    free_book(&b);
+}
+
+static int is_listed(const struct book *b, int64_t day)
+{
+    for (size_t i = 0; i < b->holidays_words; i++)
+        if (b->holidays[i] == day)
+            return 1;
+    return 0;
+}
+
+/* The first day from `day` on that is no Saturday, Sunday or holiday. */
+static int64_t business_day_from(const struct book *b, int64_t day)
+{
+    while (day % 7 == 1 || day % 7 == 2 || is_listed(b, day))
+        day++;
+    return day;
+}
+
+/* An account with money asks to close on the opening's day: the tick to the first business day that is
+ * 15 days on or later closes it, and refunds; no tick before it does. */
+static void closes_on_a_business_day(int64_t request, const int64_t *days, size_t count)
+{
+    struct book b = open_book_with(2, 3, request, days, count);
+    const int64_t closing = business_day_from(&b, request + 15);
+    CHECK(post(&b, TOLL_LEDGER_EVENT_OPEN, 2, 0, 0) == 0);
+    CHECK(post(&b, TOLL_LEDGER_EVENT_PAYMENT, 2, 700, 2) == 0);
+    CHECK(post(&b, TOLL_LEDGER_EVENT_CLOSE_REQUEST, 2) == 0);
+    while (today(&b) < closing) {
+        CHECK(account_of(&b, 2)[TOLL_LEDGER_ACCOUNT_STATE] == TOLL_LEDGER_STATE_PENDING);
+        CHECK(balance(&b, 2) == 700);
+        ticks(&b, 1);
+    }
+    CHECK(account_of(&b, 2)[TOLL_LEDGER_ACCOUNT_STATE] == TOLL_LEDGER_STATE_CLOSED);
+    CHECK(b.answer[TOLL_LEDGER_ANSWER_FIRST_ROW] == 2 && b.answer[TOLL_LEDGER_ANSWER_NEW_ROWS] == 1);
+    CHECK(row_of(&b, 2)[TOLL_LEDGER_ROW_KIND] == TOLL_LEDGER_KIND_REFUND && balance(&b, 2) == 0);
+    CHECK(sound(&b) == TOLL_LEDGER_POSTED);
+    free_book(&b);
+}
+
+/* Requests on every day of two weeks, with no holidays, with those that stand first, in the middle
+ * and last in a list, and with more than two weeks of them; and a request from year to year. */
+static void days_of_closing(void)
+{
+    int64_t days[18];
+    for (int64_t request = 1; request <= 14; request++) {
+        closes_on_a_business_day(request, NULL, 0);
+        for (int64_t first = request; first <= request + 17; first++) {
+            for (int64_t i = 0; i < 18; i++)
+                days[i] = first + i;
+            closes_on_a_business_day(request, days, 1);
+            closes_on_a_business_day(request, days, 3);
+            closes_on_a_business_day(request, days, 18);
+        }
+    }
+    for (int64_t request = 30; request < 36500; request += 365)
+        closes_on_a_business_day(request, rising_days(TOLL_LEDGER_MOST_HOLIDAYS, TOLL_LEDGER_DAYS), TOLL_LEDGER_MOST_HOLIDAYS);
+}
+
+/* Of two books, one with a holiday each day, posted to alike: stages, fees and holds go on in both. */
+static void all_else_on_holidays(void)
+{
+    static int64_t days[TOLL_LEDGER_MOST_HOLIDAYS];
+    for (int64_t i = 0; i < TOLL_LEDGER_MOST_HOLIDAYS; i++)
+        days[i] = 1 + i;
+    struct book plain = open_book(3, 12, 1), listed = open_book_with(3, 12, 1, days, TOLL_LEDGER_MOST_HOLIDAYS);
+    const int64_t events[][9] = {{1, 1, 0, 0}, {1, 2, 100, 2000}, {2, 1, 41, 1, 2, 60, 2}, {2, 2, 42, 1, 5, 60, 1},
+                                 {2, 1, 43, 1, 3, 60, 1}, {5, 2, 2}, {3, 1, 550, 3}, {7, 2, 0, 0}};
+    for (size_t i = 0; i < 8 + 130; i++) {
+        const int64_t *e = i < 8 ? events[i] : EVENT_OF(TOLL_LEDGER_EVENT_TICK);
+        CHECK(post_words(&plain, e) == post_words(&listed, e));
+        CHECK(memcmp(plain.answer, listed.answer, sizeof plain.answer) == 0);
+        CHECK(memcmp(plain.header, listed.header, plain.header_words * sizeof(int64_t)) == 0);
+        CHECK(memcmp(plain.accounts, listed.accounts, plain.accounts_words * sizeof(int64_t)) == 0);
+        CHECK(memcmp(plain.journal, listed.journal, plain.journal_words * sizeof(int64_t)) == 0);
+    }
+    CHECK(today(&plain) == 131 && row_of(&plain, 3)[TOLL_LEDGER_ROW_MARK] == 4);
+    CHECK(row_of(&plain, 2)[TOLL_LEDGER_ROW_DISPUTE] == TOLL_LEDGER_DISPUTE_ENDED);
+    free_book(&plain);
+    free_book(&listed);
+}
+
+/* On whatever day of the week: a toll rises after L days and after as many more with its fee, and a
+ * hold ends after 30. */
+static void all_else_on_weekends(void)
+{
+    for (int64_t first = 1; first <= 7; first++) {
+        struct book b = open_book(2, 4, first);
+        CHECK(post(&b, TOLL_LEDGER_EVENT_OPEN, 1, 0, 0) == 0 && post(&b, TOLL_LEDGER_EVENT_OPEN, 2, 0, 0) == 0);
+        CHECK(post(&b, TOLL_LEDGER_EVENT_TOLL, 1, 41, first, 2, 60, 2) == 0);
+        CHECK(post(&b, TOLL_LEDGER_EVENT_TOLL, 2, 42, first, 2, 60, 2) == 0);
+        CHECK(post(&b, TOLL_LEDGER_EVENT_DISPUTE, 2, 2) == 0);
+        for (int64_t day = first + 1; day <= first + 60; day++) {
+            ticks(&b, 1);
+            const int64_t stage = day < first + 30 ? 0 : day < first + 60 ? 1 : 2;
+            CHECK(row_of(&b, 1)[TOLL_LEDGER_ROW_MARK] == stage);
+            CHECK((row_of(&b, 2)[TOLL_LEDGER_ROW_DISPUTE] == TOLL_LEDGER_DISPUTE_HELD) == (day < first + 30));
+        }
+        CHECK(row_of(&b, 3)[TOLL_LEDGER_ROW_KIND] == TOLL_LEDGER_KIND_FEE && row_of(&b, 2)[TOLL_LEDGER_ROW_MARK] == 1);
+        free_book(&b);
+    }
+}
+
+/* A refund that has no row lets ticks pass until the first business day. */
+static void full_until_a_business_day(void)
+{
+    const int64_t days[] = {17, 18};
+    for (size_t listed = 0; listed <= 2; listed++) {
+        struct book b = open_book_with(2, 1, 1, days, listed);
+        CHECK(post(&b, TOLL_LEDGER_EVENT_OPEN, 1, 0, 0) == 0);
+        CHECK(post(&b, TOLL_LEDGER_EVENT_PAYMENT, 1, 700, 2) == 0); /* takes the only row */
+        CHECK(post(&b, TOLL_LEDGER_EVENT_CLOSE_REQUEST, 1) == 0);
+        ticks(&b, 15 + (int64_t)listed); /* day 16 is a Sunday */
+        CHECK(post(&b, TOLL_LEDGER_EVENT_TICK, 0) == TOLL_LEDGER_FULL);
+        CHECK(account_of(&b, 1)[TOLL_LEDGER_ACCOUNT_STATE] == TOLL_LEDGER_STATE_PENDING);
+        CHECK(balance(&b, 1) == 700 && sound(&b) == TOLL_LEDGER_POSTED);
+        free_book(&b);
+    }
+}
+
+/* A debit that the first business days find unsettled, a held one too, puts the closing off: what is
+ * settled on a Friday or later closes the account on the Monday after it. */
+static void closings_put_off(void)
+{
+    for (int64_t paid = 17; paid <= 24; paid++)
+        for (int held = 0; held < 2; held++) {
+            struct book b = open_book(2, 4, 1);
+            CHECK(post(&b, TOLL_LEDGER_EVENT_OPEN, 1, 0, 0) == 0);
+            CHECK(post(&b, TOLL_LEDGER_EVENT_TOLL, 1, 41, 1, 2, 60, 2) == 0);
+            CHECK(post(&b, TOLL_LEDGER_EVENT_CLOSE_REQUEST, 1) == 0);
+            if (held)
+                CHECK(post(&b, TOLL_LEDGER_EVENT_DISPUTE, 1, 1) == 0 && post(&b, TOLL_LEDGER_EVENT_PAYMENT, 1, 500, 2) == 0);
+            ticks(&b, paid - 1);
+            CHECK(account_of(&b, 1)[TOLL_LEDGER_ACCOUNT_STATE] == TOLL_LEDGER_STATE_PENDING);
+            if (held)
+                CHECK(post(&b, TOLL_LEDGER_EVENT_DECISION, 1, 1, 0) == 0);
+            else
+                CHECK(post(&b, TOLL_LEDGER_EVENT_PAYMENT, 1, 500, 2) == 0);
+            while (today(&b) < business_day_from(&b, paid + 1)) {
+                CHECK(account_of(&b, 1)[TOLL_LEDGER_ACCOUNT_STATE] == TOLL_LEDGER_STATE_PENDING);
+                ticks(&b, 1);
+            }
+            CHECK(account_of(&b, 1)[TOLL_LEDGER_ACCOUNT_STATE] == TOLL_LEDGER_STATE_CLOSED);
+            CHECK(b.header[TOLL_LEDGER_HEADER_ROWS_USED] == 2);
+            free_book(&b);
+        }
+}
+
 /* Account 2 with a top-up, after so many declines, each on a day of its own. */
 static struct book declined_book(int64_t declines)
 {
@@ -510,7 +755,7 @@ static void reserves_after_closing(void)
     CHECK(post(&b, TOLL_LEDGER_EVENT_PAYMENT, 2, 700, 3) == 0); /* row 1 */
     CHECK(post(&b, TOLL_LEDGER_EVENT_CLOSE_REQUEST, 1) == 0);
     CHECK(post(&b, TOLL_LEDGER_EVENT_CLOSE_REQUEST, 2) == 0);
-    ticks(&b, 15);
+    ticks(&b, 16); /* day 16 is a Sunday */
     for (int64_t adds = 0; adds < 2; adds++) {
         CHECK(post(&b, TOLL_LEDGER_EVENT_RESERVE, 1, adds) == TOLL_LEDGER_CLOSED);
         CHECK(post(&b, TOLL_LEDGER_EVENT_RESERVE, 2, adds) == TOLL_LEDGER_CLOSED);
@@ -886,6 +1131,13 @@ int main(void)
     rates_by_passage_day();
     damaged_lists();
     fewer_lists();
+    holidays_of_every_kind();
+    wild_words_in_holidays();
+    days_of_closing();
+    all_else_on_holidays();
+    all_else_on_weekends();
+    full_until_a_business_day();
+    closings_put_off();
     changing_reserves();
     reserves_after_closing();
     results_with_reserves();

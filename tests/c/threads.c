@@ -68,20 +68,16 @@ static void *play(void *argument)
     for (int round = 0; round < p->rounds; round++) {
         int64_t value;
         next_event(b, &p->seed, e);
-        const int64_t number = toll_ledger_event(b->header, b->header_words, b->accounts, b->accounts_words,
-                                                 b->journal, b->journal_words, e, TOLL_LEDGER_EVENT_WORDS,
+        const int64_t number = toll_ledger_event(TABLES(b), e, TOLL_LEDGER_EVENT_WORDS,
                                                  answers, TOLL_LEDGER_ANSWER_WORDS);
         CHECK(number == answers[0] && number != TOLL_LEDGER_UNSOUND && number != TOLL_LEDGER_MALFORMED);
         for (size_t i = 0; i < BATCH; i++) {
             next_event(b, &p->seed, e);
             events[i] = record_of(e);
         }
-        CHECK(toll_ledger_batch(b->header, b->header_words, b->accounts, b->accounts_words, b->journal,
-                                b->journal_words, events, BATCH, answers, BATCH * 5) == 0);
-        CHECK(toll_ledger_balance(b->header, b->header_words, b->accounts, b->accounts_words, b->journal,
-                                  b->journal_words, 1, &value) != TOLL_LEDGER_UNSOUND);
-        CHECK(toll_ledger_topup_due(b->header, b->header_words, b->accounts, b->accounts_words, b->journal,
-                                    b->journal_words, 1, &value) != TOLL_LEDGER_UNSOUND);
+        CHECK(toll_ledger_batch(TABLES(b), events, BATCH, answers, BATCH * 5) == 0);
+        CHECK(toll_ledger_balance(TABLES(b), 1, &value) != TOLL_LEDGER_UNSOUND);
+        CHECK(toll_ledger_topup_due(TABLES(b), 1, &value) != TOLL_LEDGER_UNSOUND);
     }
     free(e);
     free(answers);
@@ -97,15 +93,13 @@ static void *play_full(void *argument)
     struct toll_ledger_event_record *events = malloc(4096 * sizeof *events);
     int64_t *answers = malloc(4096 * TOLL_LEDGER_ANSWER_WORDS * sizeof *answers);
     CHECK(events != NULL && answers != NULL);
-    CHECK(toll_ledger_open(b->header, b->header_words, b->accounts, b->accounts_words, b->journal,
-                           b->journal_words, example_schedule, TOLL_LEDGER_SCHEDULE_WORDS) == 0);
+    CHECK(toll_ledger_open(TABLES(b), example_schedule, TOLL_LEDGER_SCHEDULE_WORDS) == 0);
     for (int64_t round = 0; round < 3; round++) {
         const size_t count = round == 0 ? 256 : round == 1 ? 4096 : 4000;
         for (int64_t i = 0; i < (int64_t)count; i++)
             events[i] = round == 0 ? record(1, 1 + i, 50, 100)
                                    : record(2, 1 + i % 256, i + 4096 * round, 1, 2, 60, 2);
-        CHECK(toll_ledger_batch(b->header, b->header_words, b->accounts, b->accounts_words, b->journal,
-                                b->journal_words, events, count, answers, count * 5) == 0);
+        CHECK(toll_ledger_batch(TABLES(b), events, count, answers, count * 5) == 0);
     }
     CHECK(b->header[TOLL_LEDGER_HEADER_ROWS_USED] == 8096);
     play(p);
@@ -122,6 +116,10 @@ static void small_stack(void)
     CHECK(mprotect(stack, STACK, PROT_READ | PROT_WRITE) == 0);
     memset(stack, 0xa5, STACK);
     struct player p = {.book = new_book(256, 8192), .seed = 88172645463325252u, .rounds = 30};
+    int64_t days[TOLL_LEDGER_MOST_HOLIDAYS];
+    for (int64_t i = 0; i < TOLL_LEDGER_MOST_HOLIDAYS; i++)
+        days[i] = 1 + 2 * i;
+    lend_holidays(&p.book, days, TOLL_LEDGER_MOST_HOLIDAYS);
     pthread_attr_t attributes;
     pthread_t thread;
     CHECK(pthread_attr_init(&attributes) == 0 && pthread_attr_setstack(&attributes, stack, STACK) == 0);
@@ -142,10 +140,11 @@ static void small_stack(void)
 static void two_books_at_once(void)
 {
     const uint64_t seeds[2] = {2463534242u, 362436069u};
+    const int64_t days[] = {3, 17, 18, 31};
     int64_t *alone[2];
     struct player players[2];
     for (int i = 0; i < 2; i++) {
-        players[i] = (struct player){.book = open_book(8, 400, 1), .seed = seeds[i], .rounds = 40};
+        players[i] = (struct player){.book = open_book_with(8, 400, 1, days, 4), .seed = seeds[i], .rounds = 40};
         play(&players[i]);
         alone[i] = copy_words(&players[i].book);
         free_book(&players[i].book);
@@ -154,7 +153,7 @@ static void two_books_at_once(void)
     pthread_t threads[2];
     CHECK(pthread_barrier_init(&start, NULL, 2) == 0);
     for (int i = 0; i < 2; i++) {
-        players[i] = (struct player){.book = open_book(8, 400, 1), .seed = seeds[i], .rounds = 40, .start = &start};
+        players[i] = (struct player){.book = open_book_with(8, 400, 1, days, 4), .seed = seeds[i], .rounds = 40, .start = &start};
         CHECK(pthread_create(&threads[i], NULL, play, &players[i]) == 0);
     }
     for (int i = 0; i < 2; i++) {

@@ -5,8 +5,6 @@
 
 #include <time.h>
 
-#define TABLES(b) (b)->header, (b)->header_words, (b)->accounts, (b)->accounts_words, (b)->journal, (b)->journal_words
-
 static struct toll_ledger_event_record events[TOLL_LEDGER_MOST_EVENTS];
 static int64_t answers[TOLL_LEDGER_MOST_EVENTS * TOLL_LEDGER_ANSWER_WORDS];
 

@@ -70,22 +70,28 @@ impl DerefMut for Table {
     }
 }
 
-/// The three tables of a book, read by places. What is read by row or account is that of a sound book.
+/// The four tables of a book, read by places. What is read by row or account is that of a sound book.
 #[derive(Clone, PartialEq)]
 pub struct Book {
     pub header: Table,
     pub accounts: Table,
     pub journal: Table,
+    pub holidays: Table, // no call may write them
 }
 
 impl Book {
-    /// Tables of so many accounts and rows, full of words that no book has.
+    /// Tables of so many accounts and rows, full of words that no book has, and of no holidays.
     pub fn new(accounts: usize, rows: usize) -> Book {
         Book {
             header: Table::new(&[-5; HEADER_WORDS]),
             accounts: Table::new(&vec![-6; accounts * ACCOUNT_WORDS]),
             journal: Table::new(&vec![-7; rows * ROW_WORDS]),
+            holidays: Table::new(&[]),
         }
+    }
+
+    pub fn with_holidays(self, days: &[i64]) -> Book {
+        Book { holidays: Table::new(days), ..self }
     }
 
     /// Takes the words of a book of the same lengths, without new tables.
@@ -93,10 +99,11 @@ impl Book {
         self.header.copy_from_slice(&from.header);
         self.accounts.copy_from_slice(&from.accounts);
         self.journal.copy_from_slice(&from.journal);
+        self.holidays.copy_from_slice(&from.holidays);
     }
 
     pub fn guarded(&self) -> bool {
-        self.header.guarded() && self.accounts.guarded() && self.journal.guarded()
+        self.header.guarded() && self.accounts.guarded() && self.journal.guarded() && self.holidays.guarded()
     }
 
     pub fn day(&self) -> i64 {
@@ -144,16 +151,21 @@ impl Book {
     }
 }
 
-/// Opening: header, accounts, journal, schedule, each with its length.
-type Opening = unsafe extern "C" fn(*mut i64, usize, *mut i64, usize, *mut i64, usize, *const i64, usize) -> i64;
-
-/// The single event and the batch: header, accounts, journal, events, answers, each with its length.
+/// Opening: header, accounts, journal, holidays, schedule, each with its length.
 #[rustfmt::skip]
-type Posting<T> =
-    unsafe extern "C" fn(*mut i64, usize, *mut i64, usize, *mut i64, usize, *const T, usize, *mut i64, usize) -> i64;
+type Opening = unsafe extern "C" fn(*mut i64, usize, *mut i64, usize, *mut i64, usize, *const i64, usize,
+                                    *const i64, usize) -> i64;
 
-/// Balance and top-up due: header, accounts, journal, each with its length, the account, and the place of the value.
-type Question = unsafe extern "C" fn(*const i64, usize, *const i64, usize, *const i64, usize, i64, *mut i64) -> i64;
+/// The single event and the batch: header, accounts, journal, holidays, events, answers, each with its length.
+#[rustfmt::skip]
+type Posting<T> = unsafe extern "C" fn(*mut i64, usize, *mut i64, usize, *mut i64, usize, *const i64, usize,
+                                       *const T, usize, *mut i64, usize) -> i64;
+
+/// Balance and top-up due: header, accounts, journal, holidays, each with its length, the account, and the place of the
+/// value.
+#[rustfmt::skip]
+type Question = unsafe extern "C" fn(*const i64, usize, *const i64, usize, *const i64, usize, *const i64, usize,
+                                     i64, *mut i64) -> i64;
 
 /// The C functions of one implementation.
 pub struct Calls {
@@ -172,13 +184,16 @@ macro_rules! calls {
         type Words = *const i64;
         type Table = *mut i64;
         extern "C" {
-            fn $open(h: Table, hn: usize, a: Table, an: usize, j: Table, jn: usize, from: Words, n: usize) -> i64;
-            fn $event(h: Table, hn: usize, a: Table, an: usize, j: Table, jn: usize,
+            fn $open(h: Table, hn: usize, a: Table, an: usize, j: Table, jn: usize, d: Words, dn: usize,
+                     from: Words, n: usize) -> i64;
+            fn $event(h: Table, hn: usize, a: Table, an: usize, j: Table, jn: usize, d: Words, dn: usize,
                       from: Words, n: usize, to: Table, room: usize) -> i64;
-            fn $batch(h: Table, hn: usize, a: Table, an: usize, j: Table, jn: usize,
+            fn $batch(h: Table, hn: usize, a: Table, an: usize, j: Table, jn: usize, d: Words, dn: usize,
                       from: *const $crate::Event, n: usize, to: Table, room: usize) -> i64;
-            fn $balance(h: Words, hn: usize, a: Words, an: usize, j: Words, jn: usize, n: i64, to: Table) -> i64;
-            fn $topup_due(h: Words, hn: usize, a: Words, an: usize, j: Words, jn: usize, n: i64, to: Table) -> i64;
+            fn $balance(h: Words, hn: usize, a: Words, an: usize, j: Words, jn: usize, d: Words, dn: usize,
+                        n: i64, to: Table) -> i64;
+            fn $topup_due(h: Words, hn: usize, a: Words, an: usize, j: Words, jn: usize, d: Words, dn: usize,
+                          n: i64, to: Table) -> i64;
         }
         $crate::Calls { open: $open, event: $event, batch: $batch, balance: $balance, topup_due: $topup_due }
     }};
@@ -190,17 +205,17 @@ pub static MODEL: Calls = calls!(model_open, model_event, model_batch, model_bal
 // The pointers are those of live tables with their true lengths, which are apart from each other: what the header asks of a host.
 impl Calls {
     pub fn open(&self, book: &mut Book, schedule: &[i64]) -> i64 {
-        let (h, a, j) = (&mut book.header, &mut book.accounts, &mut book.journal);
-        let (hn, an, jn) = (h.len(), a.len(), j.len());
-        let (from, count) = (schedule.as_ptr(), schedule.len());
-        unsafe { (self.open)(h.as_mut_ptr(), hn, a.as_mut_ptr(), an, j.as_mut_ptr(), jn, from, count) }
+        let Book { header: h, accounts: a, journal: j, holidays: d } = book;
+        let (hn, an, jn, dn) = (h.len(), a.len(), j.len(), d.len());
+        let (d, from, count) = (d.as_ptr(), schedule.as_ptr(), schedule.len());
+        unsafe { (self.open)(h.as_mut_ptr(), hn, a.as_mut_ptr(), an, j.as_mut_ptr(), jn, d, dn, from, count) }
     }
 
     fn post<T>(call: Posting<T>, book: &mut Book, events: &[T], answers: &mut Table) -> i64 {
-        let (h, a, j) = (&mut book.header, &mut book.accounts, &mut book.journal);
-        let (hn, an, jn, room) = (h.len(), a.len(), j.len(), answers.len());
-        let (from, count, to) = (events.as_ptr(), events.len(), answers.as_mut_ptr());
-        unsafe { call(h.as_mut_ptr(), hn, a.as_mut_ptr(), an, j.as_mut_ptr(), jn, from, count, to, room) }
+        let Book { header: h, accounts: a, journal: j, holidays: d } = book;
+        let (hn, an, jn, dn, room) = (h.len(), a.len(), j.len(), d.len(), answers.len());
+        let (d, from, count, to) = (d.as_ptr(), events.as_ptr(), events.len(), answers.as_mut_ptr());
+        unsafe { call(h.as_mut_ptr(), hn, a.as_mut_ptr(), an, j.as_mut_ptr(), jn, d, dn, from, count, to, room) }
     }
 
     pub fn event(&self, book: &mut Book, event: &[i64], answer: &mut Table) -> i64 {
@@ -213,10 +228,11 @@ impl Calls {
 
     /// A question's number and value.
     fn ask(call: Question, book: &Book, account: i64) -> (i64, i64) {
-        let (h, a, j) = (&book.header, &book.accounts, &book.journal);
+        let Book { header: h, accounts: a, journal: j, holidays: d } = book;
+        let (hn, an, jn, dn) = (h.len(), a.len(), j.len(), d.len());
+        let (h, a, j, d) = (h.as_ptr(), a.as_ptr(), j.as_ptr(), d.as_ptr());
         let mut value = GUARD_WORD;
-        let number =
-            unsafe { call(h.as_ptr(), h.len(), a.as_ptr(), a.len(), j.as_ptr(), j.len(), account, &mut value) };
+        let number = unsafe { call(h, hn, a, an, j, jn, d, dn, account, &mut value) };
         (number, value)
     }
 

@@ -1,5 +1,5 @@
 //! Damaged tables, lengths and answer tables: what a host may lend that is no sound book, or only just one.
-use crate::generate::{Host, WORDS};
+use crate::generate::{holidays, Host, WORDS};
 use crate::generate::{LAST_STAGE, MOST_AMOUNT, MOST_CREDIT, MOST_FEE, MOST_PASSAGE, MOST_REFUND, RATES};
 use crate::pair::{line, Call, Pair};
 use calls::random::Random;
@@ -15,8 +15,53 @@ pub struct Met {
     pub reserves_alone: u64, // and by one alone beside no top-up
     pub reserves_sound: u64, // sound, with another reserve
     pub moved_sound: u64,    // sound, with money moved from a toll to a fee or reversal, or back
+    pub holidays: Holidays,
     pub lengths: u64,
     pub answer_tables: u64,
+}
+
+/// Faults of a list of holidays, of which the first that it has counts.
+pub const LONG: usize = 0;
+pub const OUT: usize = 1; // a day out of its range
+pub const ORDER: usize = 2;
+
+fn fault(days: &[i64]) -> Option<usize> {
+    match days {
+        _ if days.len() > MOST_HOLIDAYS => Some(LONG),
+        _ if days.iter().any(|d| !(1..=DAYS).contains(d)) => Some(OUT),
+        _ if days.windows(2).any(|d| d[0] >= d[1]) => Some(ORDER),
+        _ => None,
+    }
+}
+
+/// Books by their holidays.
+#[derive(Default)]
+pub struct Holidays {
+    pub unsound: [u64; 3], // by their fault alone
+    pub sound: u64,        // with others than the whole book's
+    pub refused: [u64; 3], // openings answered 17, by the fault
+    pub beaten: [u64; 2],  // openings answered 1 and 2 all the same
+    pub opened: u64,       // openings with as many as fit
+}
+
+impl Holidays {
+    /// Notes a damaged book, and what an opening in its tables gives.
+    fn note(&mut self, damaged: &Book, whole: &Book, sound: bool, call: &Call) {
+        let fault = fault(&damaged.holidays);
+        match fault {
+            Some(fault) if MODEL.is_sound(&damaged.clone().with_holidays(&[])) => self.unsound[fault] += 1,
+            None if sound && damaged.holidays != whole.holidays => self.sound += 1,
+            _ => {}
+        }
+        let Call::Open(schedule) = call else { return };
+        match (MODEL.open(&mut damaged.clone(), schedule), fault) {
+            (HOLIDAYS, Some(fault)) => self.refused[fault] += 1,
+            (UNSOUND, Some(_)) => self.beaten[0] += 1,
+            (MALFORMED, Some(_)) => self.beaten[1] += 1,
+            (POSTED, _) => self.opened += (damaged.holidays.len() == MOST_HOLIDAYS) as u64,
+            _ => {}
+        }
+    }
 }
 
 /// A damaged book on which a call differs.
@@ -120,7 +165,7 @@ fn damage(random: &mut Random, t: &mut Book) {
     let i = row(random, t);
     let k = mate(random, t, i);
     let (x, y) = (random.index(t.count()), random.index(t.count()));
-    match random.below(29) {
+    match random.below(33) {
         0..=6 => {
             for _ in 0..random.pick(&[1, 1, 1, 2]) {
                 let word = place(random, &whole, t);
@@ -146,6 +191,7 @@ fn damage(random: &mut Random, t: &mut Book) {
         19..=21 => change_lists(random, t),
         22..=24 => change_reserve(random, t, x),
         25..=26 => move_between(random, t),
+        27..=30 => change_holidays(random, t),
         _ => change_topup(random, t, x),
     }
 }
@@ -306,6 +352,27 @@ fn change_lists(random: &mut Random, t: &mut Book) {
     }
 }
 
+/// Other holidays: as many as fit or one more, days at the ends of their range or past them, two swapped, one twice.
+fn change_holidays(random: &mut Random, t: &mut Book) {
+    let mut days = holidays(random, t.day());
+    days.push(days.last().map_or(t.day(), |d| d + 1).min(DAYS));
+    let i = random.index(days.len());
+    match random.below(8) {
+        0 | 1 => {
+            let count = (MOST_HOLIDAYS + random.index(2)) as i64;
+            let from = random.pick(&[1, t.day().min(DAYS + 1 - count), DAYS + 1 - count]);
+            days = (from..from + count).collect();
+        }
+        2 => days.insert(0, random.pick(&[i64::MIN, -1, 0, 0, 1])),
+        3 => days.push(random.pick(&[DAYS, DAYS + 1, DAYS + 1, i64::MAX])),
+        4 => days.swap(i, random.index(i + 1)),
+        5 => days.insert(i, days[i]),
+        6 => days[i] = near(random, t, days[i]),
+        _ => days.truncate(i),
+    }
+    t.holidays = Table::new(&days);
+}
+
 /// The words of a top-up.
 fn change_topup(random: &mut Random, t: &mut Book, x: usize) {
     let day = t.day();
@@ -350,9 +417,10 @@ fn moved(x: &Book, y: &Book) -> bool {
 /// Tables longer or shorter than a book's.
 fn resize(random: &mut Random, t: &mut Book) {
     let filler = random.pick(&[0, 0, 1]);
-    let (table, width, most) = match random.below(3) {
+    let (table, width, most) = match random.below(4) {
         0 => (&mut t.header, HEADER_WORDS as i64, 2),
         1 => (&mut t.accounts, ACCOUNT_WORDS as i64, MOST_ACCOUNTS as i64 + 1),
+        2 => (&mut t.holidays, 1, MOST_HOLIDAYS as i64 + 1),
         _ => (&mut t.journal, ROW_WORDS as i64, MOST_ROWS as i64 + 1),
     };
     let words = table.len() as i64;
@@ -365,6 +433,18 @@ fn resize(random: &mut Random, t: &mut Book) {
         _ => random.range(0, words + 2 * width),
     };
     table.resize(to.max(0) as usize, filler);
+}
+
+/// An opening, its schedule mostly fit.
+fn opening(random: &mut Random) -> Call {
+    let whole = SCHEDULE_WORDS as i64;
+    let lengths = [whole, whole, whole, whole - 1, whole + 1, 0];
+    let mut schedule: Vec<i64> = (1..=random.pick(&lengths)).collect();
+    if !schedule.is_empty() && random.once_in(2) {
+        let i = random.index(schedule.len());
+        schedule[i] = random.pick(&WORDS);
+    }
+    Call::Open(schedule)
 }
 
 /// A call for a damaged book: mostly an event that the sound one would take.
@@ -384,16 +464,7 @@ fn call(random: &mut Random, host: &mut Host, whole: &Book, met: &mut Met) -> Ca
     match random.below(20) {
         0..=2 => Call::Balance(n),
         3..=4 => Call::TopUpDue(n),
-        5 => {
-            let whole = SCHEDULE_WORDS as i64;
-            let lengths = [whole, whole, whole, whole - 1, whole + 1, 0];
-            let mut schedule: Vec<i64> = (1..=random.pick(&lengths)).collect();
-            if !schedule.is_empty() && random.once_in(2) {
-                let i = random.index(schedule.len());
-                schedule[i] = random.pick(&WORDS);
-            }
-            Call::Open(schedule)
-        }
+        5 => opening(random),
         6..=10 => {
             let count = if random.once_in(50) { MOST_EVENTS + 1 } else { random.index(4) };
             let events = vec![event; count];
@@ -414,6 +485,9 @@ pub fn run(random: &mut Random, host: &mut Host, whole: &Book, met: &mut Met) ->
     let mut damaged = whole.clone();
     if random.once_in(8) {
         met.lengths += 1;
+        if random.once_in(4) {
+            change_holidays(random, &mut damaged);
+        }
         resize(random, &mut damaged);
     } else if !random.once_in(12) {
         damage(random, &mut damaged);
@@ -425,7 +499,9 @@ pub fn run(random: &mut Random, host: &mut Host, whole: &Book, met: &mut Met) ->
     met.reserves_alone += unsound_by_reserve(&damaged, |a| a[ACCOUNT_TOPUP] == 0 && a[ACCOUNT_RESERVE] == 1) as u64;
     met.reserves_sound += (sound && other_reserve(&damaged, whole)) as u64;
     met.moved_sound += (sound && moved(&damaged, whole)) as u64;
-    let call = call(random, host, whole, met);
+    let lent = damaged.holidays != whole.holidays && random.once_in(3);
+    let call = if lent { opening(random) } else { call(random, host, whole, met) };
+    met.holidays.note(&damaged, whole, sound, &call);
     match Pair::new(damaged.clone()).call(&call) {
         Ok(_) => Ok(()),
         Err(difference) => Err(Failure { whole: whole.clone(), damaged, call, difference }),
@@ -435,7 +511,8 @@ pub fn run(random: &mut Random, host: &mut Host, whole: &Book, met: &mut Met) ->
 impl Failure {
     /// As few damaged words as still show the difference.
     pub fn shortest(mut self) -> Failure {
-        let tables: [fn(&mut Book) -> &mut Table; 3] = [|t| &mut t.header, |t| &mut t.accounts, |t| &mut t.journal];
+        let tables: [fn(&mut Book) -> &mut Table; 4] =
+            [|t| &mut t.header, |t| &mut t.accounts, |t| &mut t.journal, |t| &mut t.holidays];
         for table in tables {
             let whole = table(&mut self.whole).clone();
             for i in 0..table(&mut self.damaged).len().min(whole.len()) {
@@ -459,6 +536,7 @@ impl Failure {
         print_parts(&t.accounts, ACCOUNT_WORDS);
         println!("journal of {} words, rows not all 0:", t.journal.len());
         print_parts(&t.journal, ROW_WORDS);
+        println!("{} holidays: {}", t.holidays.len(), line(&t.holidays));
         println!("call: {}\n{}", self.call, self.difference);
     }
 }

@@ -6,6 +6,7 @@ use calls::{event, Book, Event, MODEL};
 // Limits of documents 01 and 02 that the header has no name for.
 pub const LAST_STAGE: i64 = 4;
 const HOLD_DAYS: i64 = 30;
+pub const CLOSING_DAYS: i64 = 15;
 pub const MOST_AMOUNT: i64 = 1_000_000;
 pub const MOST_FEE: i64 = 100_000;
 pub const MOST_CREDIT: i64 = 1_300_000;
@@ -18,6 +19,7 @@ pub const RATES: usize = LIST_WORDS - LIST_RATES; // of a rate list
 pub struct Opening {
     pub accounts: usize,
     pub rows: usize,
+    pub holidays: Vec<i64>,
     pub schedule: Vec<i64>,
 }
 
@@ -32,12 +34,30 @@ impl Opening {
             schedule.push(random.pick(&[0, most, any, any, MOST_FEE]));
         }
         schedule.extend(rates(random));
-        Opening { accounts, rows, schedule }
+        Opening { accounts, rows, holidays: holidays(random, first), schedule }
     }
 
     /// The tables before it.
     pub fn book(&self) -> Book {
-        Book::new(self.accounts, self.rows)
+        Book::new(self.accounts, self.rows).with_holidays(&self.holidays)
+    }
+}
+
+/// Holidays around the days to come from a first day: none, one, some, or as many as a list has.
+pub fn holidays(random: &mut Random, first: i64) -> Vec<i64> {
+    let most = MOST_HOLIDAYS as i64;
+    let from = (first - random.range(0, 20)).clamp(1, DAYS - most);
+    match random.below(8) {
+        0 => Vec::new(),
+        1 => vec![random.range(from, from + 60)],
+        2 | 3 => {
+            let step = random.range(1, (DAYS - from) / most).min(4);
+            (0..most).map(|i| from + i * step).collect()
+        }
+        _ => {
+            let often = random.pick(&[2, 3, 5, 9]);
+            (from..from + most).filter(|_| random.once_in(often)).collect()
+        }
     }
 }
 
@@ -88,13 +108,14 @@ pub struct Host {
     planned: Vec<Event>, // the next one last; then so many ticks
     ticks: i64,
     pays: bool,  // debts are paid soon, so that accounts close
+    lists: bool, // rate lists come soon, so that the eighth is in force for long
     fill: usize, // tolls and payments alone, until so many rows are used
 }
 
 impl Host {
     pub fn new(random: &mut Random, fill: usize) -> Host {
         let passage = random.pick(&[0, 40, 999_000_000]);
-        Host { passage, planned: Vec::new(), ticks: 0, pays: random.once_in(2), fill }
+        Host { passage, planned: Vec::new(), ticks: 0, pays: random.once_in(2), lists: random.once_in(6), fill }
     }
 
     /// The next event for a book.
@@ -119,11 +140,18 @@ impl Host {
         if let Some(event) = self.planned.pop() {
             return event;
         }
-        if self.ticks > 0 {
+        if self.ticks > 0 && book.day() < DAYS {
             self.ticks -= 1;
             return event(EVENT_TICK, 0, &[]);
         }
-        if random.once_in(if book.first_days().len() < MOST_LISTS { 25 } else { 250 }) {
+        let room = book.first_days().len() < MOST_LISTS;
+        let often = match (self.lists, room) {
+            (true, true) => 6,
+            (true, false) => 60,
+            (false, true) => 25,
+            (false, false) => 250,
+        };
+        if random.once_in(often) {
             return rate_list(random, book);
         }
         if self.pays && random.once_in(6) {
@@ -160,9 +188,7 @@ impl Host {
                 of_row(random, book, is_held_toll, EVENT_DECISION, verdict)
             }
             70..=79 => account(random, book, |n| MODEL.topup_due(book, n).1 == 1).map(|n| result(random, book, n)),
-            80..=83 => {
-                account(random, book, |n| book.state(n) == STATE_OPEN).map(|n| event(EVENT_CLOSE_REQUEST, n, &[]))
-            }
+            80..=83 => account(random, book, |n| book.state(n) == STATE_OPEN).map(|n| self.leave(random, book, n)),
             _ => {
                 if random.once_in(5) {
                     let any = random.range(1, 40);
@@ -172,6 +198,18 @@ impl Host {
             }
         };
         fit.unwrap_or_else(|| self.toll(random, book))
+    }
+
+    /// A close request; half of the time what is owed is paid at once, and ticks follow until past the first day to close on.
+    fn leave(&mut self, random: &mut Random, book: &Book, n: i64) -> Event {
+        if random.once_in(2) {
+            self.ticks = CLOSING_DAYS + random.range(0, 4);
+            let owed = -balance(book, n);
+            if owed > 0 {
+                self.planned = vec![event(EVENT_PAYMENT, n, &[owed.min(MOST_AMOUNT), METHOD_CASH])];
+            }
+        }
+        event(EVENT_CLOSE_REQUEST, n, &[])
     }
 
     /// Two tolls with a fee of the first between them are held from one day on; then comes money for a part of the three, and
@@ -289,7 +327,7 @@ fn payment(random: &mut Random, book: &Book, n: i64) -> Event {
 /// Now and then, where an account has held debts and a top-up: a payment that brings it to the threshold or past it while the
 /// top-up is due, a result while held debts alone make the account low.
 fn beside_held(random: &mut Random, book: &Book) -> Option<Event> {
-    if !random.once_in(5) {
+    if !random.once_in(4) {
         return None;
     }
     let is_due = |n: i64| held_debts(book, n) > 0 && MODEL.topup_due(book, n).1 == 1;
@@ -381,7 +419,7 @@ pub fn is_low_through_held(book: &Book, n: i64) -> bool {
 
 /// Now and then a reserve added or removed, or a result where one is: rather one that concerns it.
 fn beside_reserve(random: &mut Random, book: &Book) -> Option<Event> {
-    match random.below(30) {
+    match random.below(24) {
         0..=4 => return reserve(random, book),
         5..=9 => {}
         _ => return None,
@@ -403,7 +441,7 @@ fn beside_reserve(random: &mut Random, book: &Book) -> Option<Event> {
 fn reserve(random: &mut Random, book: &Book) -> Option<Event> {
     let adds = random.below(2);
     let before = if random.once_in(8) { adds } else { 1 - adds };
-    let die = random.below(14);
+    let die = random.below(16);
     let wanted = |n: i64| {
         let Some(x) = account_words(book, n) else { return false };
         let fits = x[ACCOUNT_TOPUP] > 0 && x[ACCOUNT_RESERVE] == before;
@@ -413,7 +451,7 @@ fn reserve(random: &mut Random, book: &Book) -> Option<Event> {
             2 => fits && x[ACCOUNT_STATE] == STATE_PENDING,
             3..=6 => fits && is_reopened(book, n),
             7 | 8 => fits && x[ACCOUNT_DECLINES] == 1,
-            9 | 10 => fits && x[ACCOUNT_DECLINES] == 2,
+            9..=12 => fits && x[ACCOUNT_DECLINES] == 2,
             _ => fits && x[ACCOUNT_STATE] == STATE_OPEN,
         }
     };

@@ -1,5 +1,7 @@
 //! Lists of calls from an opening, made while they run; what they met; and the shortest failing part of one.
-use crate::generate::{account_words, is_held, is_low_through_held, is_reopened, Host, Opening, LAST_STAGE};
+use crate::generate::{
+    account_words, is_held, is_low_through_held, is_reopened, Host, Opening, CLOSING_DAYS, LAST_STAGE,
+};
 use crate::pair::{Call, Pair};
 use calls::random::Random;
 use calls::words::*;
@@ -30,6 +32,7 @@ pub struct Met {
     pub held_results: [u64; 2], // top-ups declined, paid: results on accounts low only through held debts
     pub reserves: Reserves,
     pub settlements: Settlements,
+    pub closings: Closings,
 }
 
 /// Tolls accepted, by the rate list of their passage day.
@@ -55,6 +58,63 @@ impl Tolls {
         self.under_old += (lists.max(1) < begun(book.day())) as u64;
         self.before_all += (lists == 0) as u64;
     }
+}
+
+/// Days on which no account closes.
+pub const SATURDAY: usize = 0;
+pub const SUNDAY: usize = 1;
+pub const HOLIDAY: usize = 2; // on neither
+pub const BOTH: usize = 3;
+
+/// Of a day and a book's holidays; none for a business day.
+fn rest(day: i64, holidays: &[i64]) -> Option<usize> {
+    match (day % 7, holidays.contains(&day)) {
+        (1 | 2, true) => Some(BOTH),
+        (1, false) => Some(SATURDAY),
+        (2, false) => Some(SUNDAY),
+        (_, true) => Some(HOLIDAY),
+        (_, false) => None,
+    }
+}
+
+/// Pending accounts that may close after a tick, but for the day.
+#[derive(Default)]
+pub struct Closings {
+    pub waits: [u64; 4],   // left pending, by the day
+    pub without_room: u64, // with money to refund and no free row
+    pub late: u64,         // closed after days on which none could
+    pub at_once: u64,      // on the 15th day, a business day
+}
+
+impl Closings {
+    fn note(&mut self, before: &Book, after: &Book) {
+        let today = after.day();
+        let (day, holidays) = (rest(today, &after.holidays), &after.holidays);
+        for (n, x) in (1..).zip(after.all_accounts()) {
+            let due = x[ACCOUNT_REQUEST_DAY] + CLOSING_DAYS;
+            if before.state(n) != STATE_PENDING || today < due {
+                continue;
+            }
+            match day {
+                Some(day) if !owes(after, n) => {
+                    self.waits[day] += 1;
+                    let full = after.rows_used() == after.room();
+                    self.without_room += (full && MODEL.balance(after, n).1 > 0) as u64;
+                }
+                None if x[ACCOUNT_STATE] == STATE_CLOSED => {
+                    self.at_once += (today == due) as u64;
+                    self.late += (today > due && (due..today).all(|d| rest(d, holidays).is_some())) as u64;
+                }
+                _ => {}
+            }
+        }
+    }
+}
+
+/// Whether an account has an unsettled debit.
+fn owes(book: &Book, n: i64) -> bool {
+    let debit = |r: &[i64]| !matches!(r[ROW_KIND], KIND_PAYMENT | KIND_CREDIT);
+    book.used_rows().any(|r| r[ROW_ACCOUNT] == n && debit(r) && r[ROW_SETTLED] < r[ROW_AMOUNT])
 }
 
 pub const DECLINES: usize = 3; // how many an account may have, 0 among them
@@ -208,6 +268,7 @@ impl Met {
         self.refunds +=
             after.used_rows().skip(before.rows_used()).filter(|r| r[ROW_KIND] == KIND_REFUND).count() as u64;
         self.closed += became(before, after, STATE_PENDING, STATE_CLOSED);
+        self.closings.note(before, after);
     }
 }
 
@@ -276,7 +337,8 @@ pub fn run(random: &mut Random, opening: Opening, plan: &Plan, met: &mut Met) ->
     if let Err(difference) = pair.call(&calls[0]) {
         return Err(Failure { opening, calls, difference });
     }
-    while met.events < end {
+    // a long batch that is refused for its answer table leaves the book as it was
+    while met.events < end || pair.model.rows_used() < plan.fill {
         let call = next_call(random, &mut host, &pair, plan.longest, met);
         calls.push(call);
         if let Err(difference) = pair.call(&calls[calls.len() - 1]) {

@@ -9,12 +9,13 @@ mod pair;
 
 use calls::random::Random;
 use calls::words::{CEILING, EVENT_DECISION, EVENT_PAYMENT, EVENT_TICK, EVENT_TOPUP_RESULT};
-use calls::words::{MOST_ACCOUNTS, MOST_EVENTS, MOST_ROWS, UNSOUND};
+use calls::words::{MOST_ACCOUNTS, MOST_EVENTS, MOST_HOLIDAYS, MOST_ROWS, UNSOUND};
+use damage::{LONG, ORDER, OUT};
 use generate::{Host, Opening};
-use lists::{Plan, DECLINES, KINDS, NUMBERS};
-use pair::Pair;
+use lists::{Plan, BOTH, DECLINES, HOLIDAY, KINDS, NUMBERS, SATURDAY, SUNDAY};
+use pair::{line, Pair};
 
-const LISTS: u64 = 400;
+const LISTS: u64 = 480;
 const EVENTS: u64 = 200; // in a list, at least
 const DAMAGES: u64 = 100; // of a list's last book
 
@@ -22,7 +23,7 @@ fn stop(seed: u64, number: u64, failure: lists::Failure) -> ! {
     let long = failure.calls.len();
     let f = failure.shortest();
     println!("seed {seed}, list {number}: differs at call {long}. The shortest list found:");
-    println!("  {} accounts, {} rows", f.opening.accounts, f.opening.rows);
+    println!("  {} accounts, {} rows, holidays {}", f.opening.accounts, f.opening.rows, line(&f.opening.holidays));
     f.calls.iter().for_each(|c| println!("  {c}"));
     println!("the last call: {}", f.difference);
     std::process::exit(1);
@@ -74,7 +75,7 @@ fn large_books(seed: u64, met: &mut lists::Met, damaged: &mut damage::Met) {
 /// Fails where the events or the damaged books met too little to show anything.
 fn enough(met: &lists::Met, damaged: &damage::Met) -> Result<(), String> {
     let accepted: u64 = (0..KINDS).map(|k| met.accepted(k)).sum();
-    let (r, s) = (&met.reserves, &met.settlements);
+    let (r, s, h) = (&met.reserves, &met.settlements, &damaged.holidays);
     let by = |of: &[u64; KINDS], event: i64| of[event as usize];
     let by_others = |of: &[u64; KINDS]| of.iter().sum::<u64>() - by(of, EVENT_TICK);
     let both = |of: [u64; 2]| of[0].min(of[1]);
@@ -86,6 +87,13 @@ fn enough(met: &lists::Met, damaged: &damage::Met) -> Result<(), String> {
         ("holds ended by a tick", met.holds_ended, 100),
         ("accounts closed", met.closed, 100),
         ("refunds", met.refunds, 50),
+        ("accounts left pending by a Saturday alone", met.closings.waits[SATURDAY], 50),
+        ("accounts left pending by a Sunday alone", met.closings.waits[SUNDAY], 50),
+        ("accounts left pending by a holiday alone", met.closings.waits[HOLIDAY], 50),
+        ("accounts left pending by a holiday on a weekend", met.closings.waits[BOTH], 10),
+        ("accounts with money left pending so and no free row", met.closings.without_room, 10),
+        ("accounts closed after such days alone", met.closings.late, 50),
+        ("accounts closed on their first day", met.closings.at_once, 30),
         ("closed accounts pending again", met.reopened, 10),
         ("top-ups removed", met.removed, 50),
         ("events that left a full journal", met.full, 500),
@@ -126,6 +134,15 @@ fn enough(met: &lists::Met, damaged: &damage::Met) -> Result<(), String> {
         ("books unsound by a reserve without a top-up alone", damaged.reserves_alone, 300),
         ("books sound with another reserve", damaged.reserves_sound, 100),
         ("books sound with money moved from a toll to a fee or reversal, or back", damaged.moved_sound, 40),
+        ("books unsound by too many holidays alone", h.unsound[LONG], 300),
+        ("books unsound by a holiday out of its range alone", h.unsound[OUT], 300),
+        ("books unsound by the order of holidays alone", h.unsound[ORDER], 300),
+        ("books sound with other holidays", h.sound, 300),
+        ("openings refused for too many holidays", h.refused[LONG], 50),
+        ("openings refused for a holiday out of its range", h.refused[OUT], 50),
+        ("openings refused for the order of holidays", h.refused[ORDER], 50),
+        ("openings refused for lengths or schedule before holidays", both(h.beaten), 20),
+        ("openings with as many holidays as fit", h.opened, 50),
         ("damaged lengths", damaged.lengths, 2_000),
         ("odd answer tables", damaged.answer_tables, 2_000),
     ];
@@ -167,6 +184,12 @@ fn main() {
         "results on accounts low only through held debts: {} declined, {} paid",
         met.held_results[0], met.held_results[1]
     );
+    let c = &met.closings;
+    println!(
+        "accounts left pending by Saturdays, Sundays, holidays, holidays on these alone: {:?}, without a free row {}; closed \
+         after such days {}, on the first day {}",
+        c.waits, c.without_room, c.late, c.at_once
+    );
     let r = &met.reserves;
     println!(
         "reserves removed, added, by declines {:?}; pending {:?}, closed once {:?}",
@@ -182,6 +205,12 @@ fn main() {
         "damaged books unsound by a reserve alone: {} out of its range, {} without a top-up; sound with another {}, \
          with moved money {}",
         damaged.reserves_out, damaged.reserves_alone, damaged.reserves_sound, damaged.moved_sound
+    );
+    let h = &damaged.holidays;
+    println!(
+        "holidays too many, out of range, not rising: books unsound by them alone {:?}, sound with others {}; openings refused {:?}, \
+         before them by 1 and 2 {:?}, opened with {MOST_HOLIDAYS} {}",
+        h.unsound, h.sound, h.refused, h.beaten, h.opened
     );
     if let Err(why) = enough(&met, &damaged) {
         println!("{why}");

@@ -101,6 +101,7 @@ impl Pair {
         }
         same("the header", &self.model.header, &self.library.header)?;
         same("the accounts", &self.model.accounts, &self.library.accounts)?;
-        same("the journal", &self.model.journal, &self.library.journal)
+        same("the journal", &self.model.journal, &self.library.journal)?;
+        same("the holidays", &self.model.holidays, &self.library.holidays)
     }
 }

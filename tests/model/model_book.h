@@ -8,6 +8,7 @@
 
 #define HOLD_DAYS 30
 #define CLOSING_DAYS 15
+#define WEEK_DAYS 7
 #define LATEST_PASSAGE_DAYS 60
 #define BARRING_RETURNS 3
 #define LAST_DECLINE 3
@@ -66,7 +67,8 @@ struct book {
     struct header *header;
     struct account *accounts;
     struct row *rows;
-    size_t count, room; /* accounts, and rows in all */
+    const int64_t *holidays;
+    size_t count, room, holiday_count; /* accounts, rows in all, holidays */
 };
 
 struct answer {
@@ -165,6 +167,7 @@ static inline bool has_room(const struct book *b, size_t rows)
 bool lengths_fit(size_t header_words, size_t accounts_words, size_t journal_words);
 bool rates_fit(const int64_t *rates);
 bool schedule_fits(int64_t day, const int64_t *schedule); /* L, fees, rates */
+bool holidays_fit(const int64_t *holidays, size_t count);
 bool is_sound(const struct book *b);                      /* its lengths fit */
 
 /* model_events.c */

@@ -7,23 +7,26 @@
 
 /* The book in tables whose lengths fit. Questions hand in tables that they don't write. */
 static struct book book_in(const int64_t *header, const int64_t *accounts, size_t accounts_words,
-                           const int64_t *journal, size_t journal_words)
+                           const int64_t *journal, size_t journal_words, const int64_t *holidays,
+                           size_t holidays_words)
 {
     return (struct book){.header = (struct header *)header,
                          .accounts = (struct account *)accounts,
                          .rows = (struct row *)journal,
+                         .holidays = holidays,
                          .count = accounts_words / TOLL_LEDGER_ACCOUNT_WORDS,
-                         .room = journal_words / TOLL_LEDGER_ROW_WORDS};
+                         .room = journal_words / TOLL_LEDGER_ROW_WORDS,
+                         .holiday_count = holidays_words};
 }
 
 /* Whether the tables are a sound book; it is put to `book`. */
 static bool take_up(struct book *book, const int64_t *header, size_t header_words,
                     const int64_t *accounts, size_t accounts_words, const int64_t *journal,
-                    size_t journal_words)
+                    size_t journal_words, const int64_t *holidays, size_t holidays_words)
 {
     if (!lengths_fit(header_words, accounts_words, journal_words))
         return false;
-    *book = book_in(header, accounts, accounts_words, journal, journal_words);
+    *book = book_in(header, accounts, accounts_words, journal, journal_words, holidays, holidays_words);
     return is_sound(book);
 }
 
@@ -37,13 +40,15 @@ static void write_answer(int64_t *words, struct answer answer)
 }
 
 int64_t model_open(int64_t *header, size_t header_words, int64_t *accounts, size_t accounts_words,
-                   int64_t *journal, size_t journal_words, const int64_t *schedule,
-                   size_t schedule_words)
+                   int64_t *journal, size_t journal_words, const int64_t *holidays,
+                   size_t holidays_words, const int64_t *schedule, size_t schedule_words)
 {
     if (!lengths_fit(header_words, accounts_words, journal_words))
         return TOLL_LEDGER_UNSOUND;
     if (schedule_words != TOLL_LEDGER_SCHEDULE_WORDS || !schedule_fits(schedule[0], schedule + 1))
         return TOLL_LEDGER_MALFORMED;
+    if (!holidays_fit(holidays, holidays_words))
+        return TOLL_LEDGER_HOLIDAYS;
     memset(accounts, 0, accounts_words * sizeof *accounts);
     memset(journal, 0, journal_words * sizeof *journal);
     header[TOLL_LEDGER_HEADER_DAY] = schedule[0];
@@ -57,12 +62,14 @@ int64_t model_open(int64_t *header, size_t header_words, int64_t *accounts, size
 }
 
 int64_t model_event(int64_t *header, size_t header_words, int64_t *accounts, size_t accounts_words,
-                    int64_t *journal, size_t journal_words, const int64_t *words, size_t event_words,
+                    int64_t *journal, size_t journal_words, const int64_t *holidays,
+                    size_t holidays_words, const int64_t *words, size_t event_words,
                     int64_t *answer, size_t answer_words)
 {
     struct book b;
     struct answer given;
-    if (!take_up(&b, header, header_words, accounts, accounts_words, journal, journal_words))
+    if (!take_up(&b, header, header_words, accounts, accounts_words, journal, journal_words, holidays,
+                 holidays_words))
         given = refused(TOLL_LEDGER_UNSOUND);
     else if (event_words != TOLL_LEDGER_EVENT_WORDS || answer_words < TOLL_LEDGER_ANSWER_WORDS)
         given = refused(TOLL_LEDGER_MALFORMED);
@@ -74,11 +81,13 @@ int64_t model_event(int64_t *header, size_t header_words, int64_t *accounts, siz
 }
 
 int64_t model_batch(int64_t *header, size_t header_words, int64_t *accounts, size_t accounts_words,
-                    int64_t *journal, size_t journal_words, const event *events, size_t count,
-                    int64_t *answers, size_t answers_words)
+                    int64_t *journal, size_t journal_words, const int64_t *holidays,
+                    size_t holidays_words, const event *events, size_t count, int64_t *answers,
+                    size_t answers_words)
 {
     struct book b;
-    if (!take_up(&b, header, header_words, accounts, accounts_words, journal, journal_words))
+    if (!take_up(&b, header, header_words, accounts, accounts_words, journal, journal_words, holidays,
+                 holidays_words))
         return TOLL_LEDGER_UNSOUND;
     if (count > TOLL_LEDGER_MOST_EVENTS || answers_words < count * TOLL_LEDGER_ANSWER_WORDS)
         return TOLL_LEDGER_MALFORMED;
@@ -90,11 +99,13 @@ int64_t model_batch(int64_t *header, size_t header_words, int64_t *accounts, siz
 /* The answer's number to a question on the account; its value by `answer`, 0 where it is refused. */
 static int64_t ask(int64_t (*answer)(const struct book *, int64_t), const int64_t *header,
                    size_t header_words, const int64_t *accounts, size_t accounts_words,
-                   const int64_t *journal, size_t journal_words, int64_t account, int64_t *value)
+                   const int64_t *journal, size_t journal_words, const int64_t *holidays,
+                   size_t holidays_words, int64_t account, int64_t *value)
 {
     struct book b;
     *value = 0;
-    if (!take_up(&b, header, header_words, accounts, accounts_words, journal, journal_words))
+    if (!take_up(&b, header, header_words, accounts, accounts_words, journal, journal_words, holidays,
+                 holidays_words))
         return TOLL_LEDGER_UNSOUND;
     const struct account *x = account_of(&b, account);
     if (x == NULL || x->state == TOLL_LEDGER_STATE_UNUSED)
@@ -110,16 +121,18 @@ static int64_t topup_due_of(const struct book *b, int64_t account)
 
 int64_t model_balance(const int64_t *header, size_t header_words, const int64_t *accounts,
                       size_t accounts_words, const int64_t *journal, size_t journal_words,
-                      int64_t account, int64_t *value)
+                      const int64_t *holidays, size_t holidays_words, int64_t account,
+                      int64_t *value)
 {
     return ask(balance_of, header, header_words, accounts, accounts_words, journal, journal_words,
-               account, value);
+               holidays, holidays_words, account, value);
 }
 
 int64_t model_topup_due(const int64_t *header, size_t header_words, const int64_t *accounts,
                         size_t accounts_words, const int64_t *journal, size_t journal_words,
-                        int64_t account, int64_t *value)
+                        const int64_t *holidays, size_t holidays_words, int64_t account,
+                        int64_t *value)
 {
     return ask(topup_due_of, header, header_words, accounts, accounts_words, journal, journal_words,
-               account, value);
+               holidays, holidays_words, account, value);
 }

@@ -49,6 +49,17 @@ bool schedule_fits(int64_t day, const int64_t *schedule)
     return rates_fit(schedule + 1 + FEES);
 }
 
+/* "At most 400 holidays, strictly rising, each 1 to 36,525." */
+bool holidays_fit(const int64_t *holidays, size_t count)
+{
+    if (count > TOLL_LEDGER_MOST_HOLIDAYS)
+        return false;
+    for (size_t i = 0; i < count; i++)
+        if (!within(1, holidays[i], TOLL_LEDGER_DAYS) || (i > 0 && holidays[i] <= holidays[i - 1]))
+            return false;
+    return true;
+}
+
 static bool all_zero(const void *from, const void *end)
 {
     int64_t any = 0;
@@ -232,6 +243,7 @@ bool is_sound(const struct book *b)
 {
     const struct header *h = b->header;
     if (!schedule_fits(h->day, &h->length) || !lists_fit(h) ||
+        !holidays_fit(b->holidays, b->holiday_count) ||
         !within(0, h->used, (int64_t)b->room) ||
         !all_zero(b->rows + h->used, b->rows + b->room)) /* "later rows are all 0" */
         return false;

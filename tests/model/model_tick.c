@@ -6,7 +6,8 @@
 #define NUMBERS (TOLL_LEDGER_MOST_ACCOUNTS + 1) /* of accounts, with 0 */
 
 struct plan {
-    int64_t today; /* the new day */
+    int64_t today;    /* the new day */
+    bool is_business; /* accounts may close */
     int64_t unused[NUMBERS], unsettled[NUMBERS];
     bool stays_held[NUMBERS]; /* the account has a toll whose hold goes on */
     bool closes[NUMBERS];
@@ -33,6 +34,19 @@ static int64_t fee_of_stage(const struct book *b, int64_t stage)
     return stage < FIRST_FEE_STAGE ? 0 : b->header->fees[stage - FIRST_FEE_STAGE];
 }
 
+/* "Days other than Saturday, Sunday and listed ones; day 1 is a Saturday." */
+static bool is_business_day(const struct book *b, int64_t day)
+{
+    enum { SATURDAY, SUNDAY };
+    const int64_t weekday = (day - 1) % WEEK_DAYS;
+    if (weekday == SATURDAY || weekday == SUNDAY)
+        return false;
+    for (size_t i = 0; i < b->holiday_count; i++)
+        if (b->holidays[i] == day)
+            return false;
+    return true;
+}
+
 /* A toll that the tick frees is due after today, and an account with a rising toll has no unused
  * money: what rises can be told before holds end and settlement runs. */
 static void plan_row(const struct book *b, struct plan *p, const struct row *r)
@@ -52,13 +66,14 @@ static void plan_row(const struct book *b, struct plan *p, const struct row *r)
     }
 }
 
-/* "Each pending account with today at least request + 15 and no unsettled debit, held ones counted,
- * closes": once holds have ended and settlement has run, money covers all that is unsettled. */
+/* "Closes on the first business day that is at least request + 15 and finds no unsettled debit", held
+ * ones counted: once holds have ended and settlement has run, money covers all that is unsettled. */
 static void plan_account(const struct book *b, struct plan *p, size_t n)
 {
     const struct account *x = &b->accounts[n - 1];
-    if (x->state != TOLL_LEDGER_STATE_PENDING || p->today < x->request_day + CLOSING_DAYS ||
-        p->stays_held[n] || p->unsettled[n] > p->unused[n])
+    if (x->state != TOLL_LEDGER_STATE_PENDING || !p->is_business ||
+        p->today < x->request_day + CLOSING_DAYS || p->stays_held[n] ||
+        p->unsettled[n] > p->unused[n])
         return;
     p->closes[n] = true;
     p->refunds += p->unused[n] > p->unsettled[n];
@@ -69,6 +84,7 @@ static struct plan plan_tick(const struct book *b)
 {
     struct plan p = {.today = b->header->day + 1};
     const size_t used = rows_used(b);
+    p.is_business = is_business_day(b, p.today);
     for (size_t i = 0; i < used; i++)
         plan_row(b, &p, &b->rows[i]);
     for (size_t n = 1; n <= b->count; n++)

@@ -4,7 +4,7 @@ use mathlib.Core.Logic.{◌≢◌}
 use mathlib.Core.Bool.{Bool, true, false, cond, true≢false}
 use Prim.Native.Nat.{ℕ, ◌≤◌, ◌<◌}
 use native.Mathlib.Omega.{arith}
-use mathlib.Core.List.{List}
+use mathlib.Core.List.{List, []}
 use lib.Dec.{ltb}
 use lib.IntN.{ℤ}
 use lib.ListN.{length, get_or}
@@ -21,9 +21,10 @@ use Rattle.rules.specs.Settlement.{money}
 use Rattle.rules.specs.Book.{Instruction, Answer, Book}
 use Rattle.rules.specs.Soundness.{sound}
 use Rattle.rules.specs.Posting.{post}
-use Rattle.rules.specs.Tables.{Tables, rows_used, book_of, tables_of, sound_tables}
+use Rattle.rules.specs.Tables.{Tables, tables_with, rows_used, book_of, tables_of, sound_tables}
 use Rattle.rules.proofs.SoundnessLaws.{sound-facts, facts-sound}
 use Rattle.rules.specs.SoundFacts.{Near}
+use Rattle.rules.proofs.HolidayTables.{sound-without}
 use Rattle.rules.proofs.TableLaws.{sound-book, sound-rows, length-sound-rows, used-tables_of, book_of-tables_of, sound_tables-tables_of}
 use Rattle.preservation.proofs.SoundKept.{post-keeps-sound}
 use Rattle.preservation.proofs.RowsKept.{RowKept, post-keeps-rows}
@@ -146,8 +147,16 @@ module _ (t : Tables) (s : sound_tables t ≡ true) (e : Instruction) where
     moneys = moneys-posted i x;
   }
 
--- what update asks of the tables after an event that was posted
-pub update-asked : (t u : Tables) (e : Instruction) (r : Answer) (before : ℕ) → before ≡ rows_used t → sound_tables t ≡ true → Posts t u e r → (i : Index)
+-- what is asked of the tables after an event that was posted
+asked : (t u : Tables) (e : Instruction) (r : Answer) (before : ℕ) → before ≡ rows_used t → sound_tables t ≡ true → Posts t u e r → (i : Index)
     → Indexed t i → (sound_tables u ≡ true) × (before ≤ rows_used u) × IndexedBefore u before e i
-update-asked t u e r before b s p i x =
+asked t u e r before b s p i x =
     rw (p.tables, b) (sound_tables-tables_of (post (book_of t) e).book (after-sound t s e), used-posted t s e, index-posted t s e i x)
+
+-- what update asks: the index is of the three tables that events write, whatever the holidays
+pub update-asked : (hs : List ℤ) (t u : Tables) (e : Instruction) (r : Answer) (before : ℕ) → before ≡ rows_used t → sound_tables (tables_with hs t) ≡ true
+    → Posts (tables_with hs t) (tables_with hs u) e r → (i : Index) → Indexed (tables_with [] t) i
+    → (sound_tables (tables_with [] u) ≡ true) × (before ≤ rows_used u) × IndexedBefore (tables_with [] u) before e i
+update-asked hs t u e r before b s p i x =
+    let a = asked (tables_with hs t) (tables_with hs u) e r before b s p i (record { trees = x.trees; slots-of = x.slots-of }) in
+    (sound-without hs u a.0, a.1, record { trees = a.2.trees; hold = a.2.hold; moneys = a.2.moneys })

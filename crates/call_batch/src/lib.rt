@@ -4,7 +4,7 @@
 
 ghost use Rattle.std.specs.Prelude.{◌≡◌, true, pos};
 ghost use Rattle.records.specs.Outcomes.{number_by, answer_of};
-ghost use Rattle.rules.specs.Tables.{sound_tables};
+ghost use Rattle.rules.specs.Tables.{tables_with, sound_tables};
 ghost use Rattle.rules.specs.Calls.{Gives, batch_call};
 ghost use Rattle.posting.specs.Posts.{Posts};
 ghost use Rattle.batch_index.specs.Index.{Indexed};
@@ -22,47 +22,70 @@ use records::refusals::Refusal;
 use records::{Answer, Event, Instruction, Posting};
 
 // One event of the batch: only where it is admitted is it looked up in the index and posted, and the index brought up to the journal.
-fn post_indexed(t: &mut TablesMut, e: Instruction, index: &mut Index) -> Result<Posting, Refusal>
-    requires { (sound_tables (lent_mut t.old) ≡ true) × Indexed (lent_mut t.old) index.old }
+fn post_indexed(
+    t: &mut TablesMut,
+    holidays: &[i64],
+    e: Instruction,
+    index: &mut Index,
+) -> Result<Posting, Refusal>
+    requires { (sound_tables (tables_with holidays.now (lent_mut t.old)) ≡ true)
+        × Indexed (lent_mut t.old) index.old }
     ensures same { SameTables t.old t.new }
-    ensures posts { Posts (lent_mut t.old) (lent_mut t.new) e (answer_of result) }
+    ensures posts { Posts (tables_with holidays.now (lent_mut t.old))
+        (tables_with holidays.now (lent_mut t.new))
+        e
+        (answer_of result) }
     ensures indexed { Indexed (lent_mut t.new) index.new }
 {
     let x = admit(t, e)?;
     let before = t.used() as usize;
     let k = index.look_up(t, e);
-    let outcome = post_admitted(t, e, x, k);
+    let outcome = post_admitted(t, holidays, e, x, k);
     index.update(t, before, e);
     outcome
 }
 
 // One record of the batch: its event posted, answer i written, and the index brought up to the journal.
-fn post_record(t: &mut TablesMut, answers: &mut [i64], i: usize, x: Event, index: &mut Index)
-    requires { (sound_tables (lent_mut t.old) ≡ true)
+fn post_record(
+    t: &mut TablesMut,
+    holidays: &[i64],
+    answers: &mut [i64],
+    i: usize,
+    x: Event,
+    index: &mut Index,
+)
+    requires { (sound_tables (tables_with holidays.now (lent_mut t.old)) ≡ true)
         × AnswerIn answers.old i
         × Indexed (lent_mut t.old) index.old }
     ensures same { SameTables t.old t.new }
-    ensures posts { RecordPosted (lent_mut t.old) (lent_mut t.new) answers.old answers.new i x }
+    ensures posts { RecordPosted (tables_with holidays.now (lent_mut t.old))
+        (tables_with holidays.now (lent_mut t.new))
+        answers.old answers.new i x }
     ensures indexed { Indexed (lent_mut t.new) index.new }
 {
-    let outcome = post_indexed(t, Instruction::from(x), index);
+    let outcome = post_indexed(t, holidays, Instruction::from(x), index);
     write_answer(answers, i, Answer::from(outcome));
 }
 
 // Posts the events in order, going on after a refusal; a batch that is refused writes nothing.
-pub fn batch_call(t: &mut TablesMut, events: &[Event], answers: &mut [i64]) -> Result<(), Refusal>
+pub fn batch_call(
+    t: &mut TablesMut,
+    holidays: &[i64],
+    events: &[Event],
+    answers: &mut [i64],
+) -> Result<(), Refusal>
     ensures same { SameTables t.old t.new }
     ensures gives { Gives
-        (batch_call (lent_mut t.old) events.now answers.old)
+        (batch_call (tables_with holidays.now (lent_mut t.old)) events.now answers.old)
         (pos (number_by result))
-        (lent_mut t.new)
+        (tables_with holidays.now (lent_mut t.new))
         answers.new }
 {
-    check_batch(t, events.len(), answers)?;
+    check_batch(t, holidays, events.len(), answers)?;
     let mut index = Index::new();
     index.start(t);
     for (i, event) in events.iter().enumerate() {
-        post_record(t, answers, i, *event, &mut index);
+        post_record(t, holidays, answers, i, *event, &mut index);
     }
     Ok(())
 }

@@ -1,29 +1,36 @@
 -- Opening: the tables that it writes are those of the opened book.
 use mathlib.Core.Path.{◌≡◌, refl, sym, ap, ◌∙◌}
-use mathlib.Core.Bool.{true, false}
+use mathlib.Core.Bool.{Bool, true, not}
 use Prim.Native.Nat.{ℕ, zero, suc, ◌+◌, ◌*◌, ◌-◌, ◌≤◌}
 use native.Mathlib.Omega.{arith}
-use mathlib.Core.List.{List, [], ◌∷◌, ◌++◌, append-nil}
+use mathlib.Core.List.{List, [], ◌∷◌, ◌++◌, map, append-nil}
 use lib.IntN.{ℤ, pos}
 use lib.ListN.{length, get_or, set, take, drop, replicate, length-append, length-set, length-drop, replicate-append-replicate, drop_of_length-le}
 use lib.Seq.{length-take-le, paste, length-paste, take_all, take_at, drop-cons, append_snoc, set_at}
+use borrow.Author.Tests.{not-false}
 use borrow.Rule.Slice.PartMut.{put_mid}
 use Rattle.std.proofs.lemmas.Slice.{put_mid-paste}
 use Rattle.records.specs.Layout.{header_width, day_place, used_place, header_schedule, header_first_day, header_lists, later_lists, list_width, account_width, opening_width, first_day_place, opening_schedule, opening_rates}
-use Rattle.records.specs.Encoding.{word, account_words, write_all}
+use Rattle.records.specs.declared.refusals.Refusal.{Refusal}
+use Rattle.records.specs.Outcomes.{number_of}
+use Rattle.records.proofs.OutcomeLaws.{number_of-not_0}
+use Rattle.records.specs.Numbers.{answer_unsound, answer_malformed, answer_holidays}
+use Rattle.records.specs.Encoding.{nat_of, word, account_words, write_all}
 use Rattle.records.proofs.EncodingLaws.{plain}
 use Rattle.lists.specs.Tests.{first}
 use Rattle.lists.specs.Lists.{tabulate}
+use Rattle.lists.proofs.TestLaws.{first-none}
 use Rattle.lists.proofs.ListLaws.{tabulate-get_d}
 use Rattle.records.specs.Limits.{final_day}
 use Rattle.rules.specs.Book.{unused}
+use Rattle.rules.specs.BusinessDays.{holidays_fit}
 use Rattle.rules.specs.Opening.{opening, day_fits}
-use Rattle.rules.specs.Tables.{Tables, accounts_in, room_in, schedule_from, rates_from, schedule_words, rates_words, later_lists_words, header_words, tables_of, lengths_fit}
+use Rattle.rules.specs.Tables.{Tables, tables_at, tables_with, whole_records, accounts_in, room_in, schedule_from, rates_from, schedule_words, rates_words, later_lists_words, header_words, tables_of, lengths_fit}
 use Rattle.rules.specs.Calls.{Gives, opening_fits, opening_refusals, opened_book, open_call}
 use Rattle.rules.proofs.StorableLaws.{between_le, schedule-storable, rates-storable}
 use Rattle.rules.proofs.OpeningLaws.{OpeningWords, opening-words}
-use Rattle.sound_header.specs.Clauses.{tables_at}
-use Rattle.sound_header.proofs.LengthLaws.{lengths-known}
+use Rattle.rules.proofs.HolidayLaws.{holidays-again}
+use Rattle.sound_header.proofs.LengthLaws.{Lengths, lengths-known}
 
 -- ---- the header
 
@@ -143,28 +150,53 @@ accounts-cleared (suc n) =
 
 -- ---- the call, with what its tests came to
 
-module _ (h a j w : List ℤ) where
+module _ (hs : List ℤ) (t : Tables) (w : List ℤ) where
+  abbrev lent-with : Tables
+  lent-with = tables_with hs t
+
+  -- the lengths are those of the three other tables
+  pub refusals-by : (l f y : Bool) → lengths_fit t ≡ l → opening_fits w ≡ f → holidays_fit (map nat_of hs) ≡ y
+      → first ((answer_unsound, not l) ∷ (answer_malformed, not f) ∷ (answer_holidays, not y) ∷ []) ≡ first (opening_refusals lent-with w)
+  unfolding opening_refusals lengths_fit whole_records
+  refusals-by l f y p q r = rw (p, q, r)
+
+  pub opening-refused : (r : Refusal) → number_of r ≡ first (opening_refusals lent-with w) → Gives (open_call lent-with w) (pos (number_of r)) lent-with []
+  unfolding open_call
+  opening-refused r q = rw (← q) (record { number = refl; tables = rw (number_of-not_0 r); answers = refl })
+
+-- what an opening that is not refused has shown
+pub record Taken (h a j hs w : List ℤ) : Type 0 where
+  pub refusal : first (opening_refusals (tables_at h a j hs) w) ≡ 0
+  pub lengths : Lengths h a j
+  pub words : opening_fits w ≡ true
+  pub holidays : holidays_fit (map nat_of hs) ≡ true
+
+module _ (h a j hs w : List ℤ) where
   abbrev t : Tables
-  t = tables_at h a j
+  t = tables_at h a j hs
 
-  pub lengths-refused : lengths_fit t ≡ false → Gives (open_call t w) (pos 1) t []
-  unfolding open_call opening_refusals first
-  lengths-refused l = record { number = rw l; tables = rw l; answers = refl }
+  pub taken : 0 ≡ first (opening_refusals t w) → Taken h a j hs w
+  unfolding opening_refusals lengths_fit whole_records
+  taken q =
+      let x = first-none (answer_unsound, not (lengths_fit t)) _ (omega arith) (sym q) in
+      let y = first-none (answer_malformed, not (opening_fits w)) _ (omega arith) x.1 in
+      let z = first-none (answer_holidays, not (holidays_fit (map nat_of hs))) [] (omega arith) y.1 in
+      record {
+        refusal = sym q;
+        lengths = lengths-known h a j (not-false _ x.0);
+        words = not-false _ y.0;
+        holidays = not-false _ z.0;
+      }
 
-  pub words-refused : lengths_fit t ≡ true → opening_fits w ≡ false → Gives (open_call t w) (pos 2) t []
-  unfolding open_call opening_refusals first
-  words-refused l f = record { number = rw (l, f); tables = rw (l, f); answers = refl }
-
-  pub opened : lengths_fit t ≡ true → opening_fits w ≡ true
+  pub opened : Taken h a j hs w
       → Gives (open_call t w)
       (pos 0)
-      (tables_at (header_words (opened_book t w)) (replicate (length a) (pos 0)) (replicate (length j) (pos 0)))
+      (tables_at (header_words (opened_book t w)) (replicate (length a) (pos 0)) (replicate (length j) (pos 0)) hs)
       []
-  unfolding open_call opening_refusals first
-  opened l f = record { number = rw (l, f); tables = rw (l, f) opened-tables; answers = refl }
+  unfolding open_call
+  opened k = record { number = rw k.refusal; tables = rw k.refusal opened-tables; answers = refl }
     where
-      opened-tables : tables_at (header_words (opened_book t w)) (replicate (length a) (pos 0)) (replicate (length j) (pos 0)) ≡ tables_of (opened_book t w)
+      opened-tables : tables_at (header_words (opened_book t w)) (replicate (length a) (pos 0)) (replicate (length j) (pos 0)) hs ≡ tables_of (opened_book t w)
       opened-tables = unfold tables_of opened_book opening write_all in
-          (let s = lengths-known h a j l in
-          let r : room_in t - 0 ≡ room_in t = omega arith in
-          rw (accounts-cleared (accounts_in t), s.whole_accounts, r, s.whole_rows))
+          (let r : room_in t - 0 ≡ room_in t = omega arith in
+          rw (accounts-cleared (accounts_in t), k.lengths.whole_accounts, r, k.lengths.whole_rows, holidays-again hs k.holidays))

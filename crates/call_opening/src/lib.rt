@@ -1,13 +1,15 @@
-// Opening: lent tables of any contents become the book of a first day, a schedule and six rates, all else 0.
+// Opening: lent tables of any contents become the book of a first day, a schedule and six rates, all else 0; the lent holidays are its own.
 #![tactic(auto)]
 
 ghost use Rattle.std.specs.Prelude.{◌≡◌, true, [], pos, ◌-◌, ◌<◌, length};
 ghost use Rattle.records.specs.Layout.{header_width};
 ghost use Rattle.records.specs.Outcomes.{number_by};
-ghost use Rattle.rules.specs.Tables.{Tables, header_words};
-ghost use Rattle.rules.specs.Calls.{opening_fits, opened_book, open_call, Gives};
+ghost use Rattle.lists.specs.Tests.{first};
+ghost use Rattle.rules.specs.Tables.{Tables, tables_with, header_words};
+ghost use Rattle.rules.specs.Calls.{opening_fits, opening_refusals, opened_book, open_call, Gives};
 ghost use Rattle.lent.specs.Lent.{lent_mut, SameTables};
 
+use holidays::holidays_fit;
 use lent::TablesMut;
 use records::layout::{
     DAY_PLACE, FIRST_DAY_PLACE, HEADER_FIRST_DAY, HEADER_LISTS, HEADER_SCHEDULE, OPENING_RATES,
@@ -41,14 +43,10 @@ fn write_header(header: &mut [i64], schedule: &[i64])
     header[HEADER_LISTS..].fill(0);
 }
 
-// Opens the book; refused, it writes nothing: the lengths are unfit, or the words given are.
-pub fn open_book(t: &mut TablesMut, schedule: &[i64]) -> Result<(), Refusal>
-    ensures same { SameTables t.old t.new }
-    ensures gives { Gives (open_call (lent_mut t.old)
-        schedule.now)
-        (pos (number_by result))
-        (lent_mut t.new)
-        [] }
+// Why an opening is refused, if it is: the lengths are unfit, or the words given are, or the lent list of holidays.
+fn check_opening(t: &TablesMut, holidays: &[i64], schedule: &[i64]) -> Result<(), Refusal>
+    ensures { number_by result ≡ first (opening_refusals (tables_with holidays.now (lent_mut t.now))
+        schedule.now) }
 {
     if !lengths_fit(t.read()) {
         return Err(Refusal::Unsound);
@@ -56,6 +54,22 @@ pub fn open_book(t: &mut TablesMut, schedule: &[i64]) -> Result<(), Refusal>
     if !opening_fits(schedule) {
         return Err(Refusal::Malformed);
     }
+    if !holidays_fit(holidays) {
+        return Err(Refusal::Holidays);
+    }
+    Ok(())
+}
+
+// Opens the book; refused, it writes nothing. The list of holidays is judged, and stays as it was lent.
+pub fn open_book(t: &mut TablesMut, holidays: &[i64], schedule: &[i64]) -> Result<(), Refusal>
+    ensures same { SameTables t.old t.new }
+    ensures gives { Gives (open_call (tables_with holidays.now (lent_mut t.old))
+        schedule.now)
+        (pos (number_by result))
+        (tables_with holidays.now (lent_mut t.new))
+        [] }
+{
+    check_opening(t, holidays, schedule)?;
     write_header(t.header, schedule);
     t.accounts.fill(0);
     t.journal.fill(0);

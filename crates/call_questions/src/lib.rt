@@ -6,7 +6,7 @@ ghost use Rattle.std.specs.Prelude.{◌≡◌, pos, ◌&&◌};
 ghost use Rattle.lists.specs.Tests.{◌from◌to◌, first};
 ghost use Rattle.records.specs.Outcomes.{number_by};
 ghost use Rattle.call_questions.specs.Values.{value_of, flag_of};
-ghost use Rattle.rules.specs.Tables.{rows_used, sound_tables};
+ghost use Rattle.rules.specs.Tables.{tables_with, rows_used, sound_tables};
 ghost use Rattle.rules.specs.Calls.{Replies, question_refusals, balance_call, topup_due_call};
 ghost use Rattle.call_questions.specs.RowParts.{RowPart};
 ghost use Rattle.lent.specs.Lent.{lent};
@@ -21,11 +21,11 @@ use records::words::natural;
 use soundness::sound;
 
 // Why a question about account n is refused, if it is.
-fn check_question(t: Tables, n: u64) -> Result<(), Refusal>
-    ensures { number_by result ≡ first (question_refusals (lent t.entry)
+fn check_question(t: Tables, holidays: &[i64], n: u64) -> Result<(), Refusal>
+    ensures { number_by result ≡ first (question_refusals (tables_with holidays.now (lent t.entry))
         n) }
 {
-    if !sound(t) {
+    if !sound(t, holidays) {
         return Err(Refusal::Unsound);
     }
     let x = t.account(n);
@@ -36,35 +36,35 @@ fn check_question(t: Tables, n: u64) -> Result<(), Refusal>
 }
 
 // The account's balance: its sources less its debits, held ones included.
-pub fn balance(t: Tables, account: i64) -> Result<i64, Refusal>
-    ensures { Replies (balance_call (lent t.entry) account)
+pub fn balance(t: Tables, holidays: &[i64], account: i64) -> Result<i64, Refusal>
+    ensures { Replies (balance_call (tables_with holidays.now (lent t.entry)) account)
         (pos (number_by result))
         (value_of result) }
 {
     let n = natural(account);
-    check_question(t, n)?;
+    check_question(t, holidays, n)?;
     let summable = SummableRows { rows: t.rows() };
     let s = sums_of(summable, n);
     Ok(s.balance())
 }
 
 // Whether the account's top-up is due.
-pub fn topup_due(t: Tables, account: i64) -> Result<bool, Refusal>
-    ensures { Replies (topup_due_call (lent t.entry) account)
+pub fn topup_due(t: Tables, holidays: &[i64], account: i64) -> Result<bool, Refusal>
+    ensures { Replies (topup_due_call (tables_with holidays.now (lent t.entry)) account)
         (pos (number_by result))
         (flag_of result) }
 {
     let n = natural(account);
-    check_question(t, n)?;
+    check_question(t, holidays, n)?;
     Ok(balances::topup_due(t, n))
 }
 
 // Whether the book is sound and row n, counted from 1, is used.
-fn row_used(t: Tables, n: u64) -> bool
-    ensures { result ≡ sound_tables (lent t.entry)
+fn row_used(t: Tables, holidays: &[i64], n: u64) -> bool
+    ensures { result ≡ sound_tables (tables_with holidays.now (lent t.entry))
         && n from 1 to rows_used (lent t.entry) }
 {
-    if !sound(t) {
+    if !sound(t, holidays) {
         return false;
     }
     (1 <= n) & (n <= t.used())
@@ -72,15 +72,15 @@ fn row_used(t: Tables, n: u64) -> bool
 
 // The ten words of a used row: the very part of the lent journal; an empty part where the book is unsound or the row isn't used.
 // Kept: the empty part and no Option, since document 01 gives it as the reply.
-pub fn row<'a>(t: Tables<'a>, number: i64) -> &'a [i64]
-    ensures { RowPart (lent t.entry)
+pub fn row<'a>(t: Tables<'a>, holidays: &[i64], number: i64) -> &'a [i64]
+    ensures { RowPart (tables_with holidays.now (lent t.entry))
         number
         t.entry.journal.ref_ptr
         result.now
         result.ref_ptr }
 {
     let n = natural(number);
-    if !row_used(t, n) {
+    if !row_used(t, holidays, n) {
         return &t.journal[0..0];
     }
     let start = (n - 1) as usize * ROW_WIDTH;

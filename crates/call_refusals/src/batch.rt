@@ -2,6 +2,7 @@
 ghost use Rattle.std.specs.Prelude.{◌≡◌, List, length};
 ghost use Rattle.lists.specs.Tests.{first};
 ghost use Rattle.records.specs.Outcomes.{number_by};
+ghost use Rattle.rules.specs.Tables.{tables_with};
 ghost use Rattle.rules.specs.Calls.{Event, batch_refusals};
 ghost use Rattle.lent.specs.Lent.{lent_mut};
 
@@ -12,11 +13,16 @@ use records::refusals::Refusal;
 use soundness::sound;
 
 // A batch of so many events: the book is not sound, too many events, or fewer than five answer words for each.
-pub fn check_batch(t: &TablesMut, count: usize, answers: &[i64]) -> Result<(), Refusal>
+pub fn check_batch(
+    t: &TablesMut,
+    holidays: &[i64],
+    count: usize,
+    answers: &[i64],
+) -> Result<(), Refusal>
     ensures { (es : List Event) → length es ≡ count → number_by result
-        ≡ first (batch_refusals (lent_mut t.now) es answers.now) }
+        ≡ first (batch_refusals (tables_with holidays.now (lent_mut t.now)) es answers.now) }
 {
-    if !sound(t.read()) {
+    if !sound(t.read(), holidays) {
         return Err(Refusal::Unsound);
     }
     if MOST_EVENTS < count {

@@ -2,6 +2,7 @@
 ghost use Rattle.std.specs.Prelude.{◌≡◌};
 ghost use Rattle.lists.specs.Tests.{first};
 ghost use Rattle.records.specs.Outcomes.{number_by};
+ghost use Rattle.rules.specs.Tables.{tables_with};
 ghost use Rattle.rules.specs.Calls.{event_refusals};
 ghost use Rattle.lent.specs.Lent.{lent_mut};
 
@@ -11,10 +12,17 @@ use records::refusals::Refusal;
 use soundness::sound;
 
 // The book is not sound, another length than nine words, or an answer table of fewer than five.
-pub fn check_event(t: &TablesMut, event: &[i64], answer: &[i64]) -> Result<(), Refusal>
-    ensures { number_by result ≡ first (event_refusals (lent_mut t.now) event.now answer.now) }
+pub fn check_event(
+    t: &TablesMut,
+    holidays: &[i64],
+    event: &[i64],
+    answer: &[i64],
+) -> Result<(), Refusal>
+    ensures { number_by result ≡ first (event_refusals (tables_with holidays.now (lent_mut t.now))
+        event.now
+        answer.now) }
 {
-    if !sound(t.read()) {
+    if !sound(t.read(), holidays) {
         return Err(Refusal::Unsound);
     }
     if (event.len() != EVENT_WIDTH) | (answer.len() < ANSWER_WIDTH) {

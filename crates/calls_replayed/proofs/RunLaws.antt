@@ -1,4 +1,5 @@
--- Demand 3 of the ledger's calls: a run of steps is a list of calls, with the same tables at its end and the same reports.
+-- Demand 3 of the ledger's calls: a run of steps is a list of calls, with the same tables at its end and the same reports; and each call is
+-- lent the opening's holidays.
 use mathlib.Core.Path.{◌≡◌, refl, sym, ap, ◌∙◌}
 use mathlib.Core.List.{List, [], ◌∷◌, ◌++◌}
 use lib.IntN.{ℤ, pos}
@@ -7,7 +8,8 @@ use Rattle.rules.specs.Calls.{Gives, open_call}
 use Rattle.replay.specs.Replay.{Report}
 use Rattle.replay.specs.Demand3.{Call, single, batch, called, tables_after, reports}
 use Rattle.replay.proofs.Claim.{demand-3}
-use Rattle.calls_replayed.specs.Runs.{Step, event-step, batch-step, balance-step, topup-due-step, Run, none, more, step_reports, run_reports, CallsReplayed}
+use Rattle.calls_replayed.specs.Runs.{Step, event-step, batch-step, balance-step, topup-due-step, Run, none, more, step_reports, run_reports, CallsReplayed, HolidaysStay}
+use Rattle.rules.proofs.HolidaysKept.{event_call-keeps-holidays, batch_call-keeps-holidays, open_call-keeps-holidays}
 
 -- ---- a step
 
@@ -59,3 +61,20 @@ pub calls-replayed : CallsReplayed
 calls-replayed t u v w g run =
     let d = demand-3 t w (zero-given t u w g) (run_calls run) in
     rw (← g.tables, tables-run run, reports-run run) at d
+
+-- ---- the holidays
+
+step-keeps : {t u : Tables} → Step t u → u.holidays ≡ t.holidays
+step-keeps {t} (event-step e w v n g) = ap (λ (x : Tables). x.holidays) g.tables ∙ event_call-keeps-holidays t e w
+step-keeps {t} (batch-step es w v n g) = ap (λ (x : Tables). x.holidays) g.tables ∙ batch_call-keeps-holidays t es w
+step-keeps (balance-step account n value g same) = ap (λ (x : Tables). x.holidays) same
+step-keeps (topup-due-step account n value g same) = ap (λ (x : Tables). x.holidays) same
+
+run-keeps : {t u : Tables} → Run t u → u.holidays ≡ t.holidays
+run-keeps none = refl
+run-keeps (more s r) = run-keeps r ∙ step-keeps s
+
+pub holidays-stay : HolidaysStay
+holidays-stay t u v w g run =
+    let o : u.holidays ≡ t.holidays = ap (λ (x : Tables). x.holidays) g.tables ∙ open_call-keeps-holidays t w in
+    (o, run-keeps run ∙ o)

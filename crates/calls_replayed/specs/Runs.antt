@@ -6,15 +6,16 @@ use Rattle.rules.specs.Calls.{Event, Gives, Replies, open_call, event_call, batc
 use Rattle.replay.specs.Replay.{Replay, Report, replay}
 use Rattle.replay.specs.Demand3.{single, batch, reports_at, Demand3, replay_start}
 
--- one call on the tables t that leaves the tables u; n is the number that it gave, w and v its answer table before and after. A question
--- is lent the tables to read, so they stay
+-- one call on the tables t, the fourth of them the holidays, that leaves the tables u; n is the number that it gave, w and v its answer
+-- table before and after. A question is lent the tables to read, so they stay
 pub data Step (t u : Tables) : Type 0 where
   event-step : (e w v : List ℤ) (n : ℤ) → Gives (event_call t e w) n u v → Step t u
   batch-step : (es : List Event) (w v : List ℤ) (n : ℤ) → Gives (batch_call t es w) n u v → Step t u
   balance-step : (account n value : ℤ) → Replies (balance_call t account) n value → u ≡ t → Step t u
   topup-due-step : (account n value : ℤ) → Replies (topup_due_call t account) n value → u ≡ t → Step t u
 
--- calls in order, from the tables t to the tables u, each on the tables as the last one left them
+-- calls in order, from the tables t to the tables u, each on the tables as the last one left them: so each is lent the holidays that the
+-- first was (HolidaysKept)
 pub data Run : Tables → Tables → Type 0 where
   none : {t : Tables} → Run t t
   more : {t u v : Tables} → Step t u → Run u v → Run t v
@@ -38,3 +39,10 @@ CallsReplayed =
     let start : Replay = replay_start t w in
     let hs : List Report = run_reports run in
     Demand3 (book_of v) start hs (replay start hs).entries
+
+-- and each call of such a run was lent the very list of holidays that the opening took: "that list itself stays as the book's fourth table"
+-- (document 02, No. 6)
+abbrev pub HolidaysStay : Type 0
+HolidaysStay =
+    (t u v : Tables) (w : List ℤ) → Gives (open_call t w) (pos 0) u [] → Run u v →
+    (u.holidays ≡ t.holidays) × (v.holidays ≡ t.holidays)

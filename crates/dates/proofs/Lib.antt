@@ -3,3 +3,4 @@ pub mod EstimateLaws
 pub mod GregorianLaws
 pub mod MonthPass
 pub mod MonthPassLaws
+pub mod WeekdayLaws

@@ -24,7 +24,7 @@ use Rattle.rules.specs.Tables.{Tables, rows_used, book_of, sound_tables}
 use Rattle.rules.proofs.RefusalLaws.{own_tests, answer_number-own}
 use Rattle.preservation.proofs.Accepted.{accepted}
 use Rattle.tables.specs.Changes.{AccountChanged}
-use Rattle.posting.specs.Posts.{tables_at, acceptance_of, Posts}
+use Rattle.posting.specs.Posts.{tables_over, acceptance_of, PostsAny}
 use Rattle.records.specs.Updates.{of_kind}
 use Rattle.posting_laws.proofs.RefusalLaws.{at-kind}
 use Rattle.posting_laws.proofs.AccountEventLaws.{rows_fit, never-full, never-above, account-posts}
@@ -73,7 +73,7 @@ module _ (t : Tables) (s : sound_tables t ≡ true) (e : Instruction) (k : e.kin
       (storable-set _ state_place state_open (omega arith) (storable-zeros account_width)))
 
   pub open-posts : (acc : List ℤ) → AccountChanged t.accounts acc (e.account - 1) new_account
-      → Posts t (tables_at t.header acc t.journal) e (acceptance_of (rows_used t) 0 0 0)
+      → PostsAny t (tables_over t t.header acc t.journal) e (acceptance_of (rows_used t) 0 0 0)
   open-posts acc w =
       let p = account-posts t s e (rw k) q new_account changed acc w in
       rw keeps-topup at p

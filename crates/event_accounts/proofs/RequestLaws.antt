@@ -22,7 +22,7 @@ use Rattle.rules.proofs.RefusalLaws.{own_tests, answer_number-own}
 use Rattle.rules.proofs.StorableLaws.{day-le}
 use Rattle.rules.proofs.TableLaws.{sound-book}
 use Rattle.tables.specs.Changes.{AccountChanged}
-use Rattle.posting.specs.Posts.{tables_at, acceptance_of, Posts}
+use Rattle.posting.specs.Posts.{tables_over, acceptance_of, PostsAny}
 use Rattle.posting.proofs.BookLaws.{account-holds}
 use Rattle.records.specs.Updates.{of_kind}
 use Rattle.posting_laws.proofs.RefusalLaws.{at-kind}
@@ -68,7 +68,7 @@ module _ (t : Tables) (s : sound_tables t ≡ true) (e : Instruction) where
         at-kind (λ x. change_of x.kind (book_of t) x ≡ put_account x.account (close_requested_on (book_of t).day (account (book_of t) x.account)) (book_of t)) e 8 k refl
 
     pub request-posts : (acc : List ℤ) → AccountChanged t.accounts acc (e.account - 1) pending_account
-        → Posts t (tables_at t.header acc t.journal) e (acceptance_of (rows_used t) 0 0 0)
+        → PostsAny t (tables_over t t.header acc t.journal) e (acceptance_of (rows_used t) 0 0 0)
     request-posts acc w =
         let p = account-posts t s e (rw k) q pending_account changed acc w in
         rw keeps-topup at p

@@ -6,7 +6,7 @@ ghost use Rattle.records.specs.Outcomes.{answer_of, number_by};
 ghost use Rattle.lists.specs.Tests.{first};
 ghost use Rattle.rules.specs.Book.{Book, account};
 ghost use Rattle.rules.specs.Tables.{sound_tables};
-ghost use Rattle.posting.specs.Posts.{Posts};
+ghost use Rattle.posting.specs.Posts.{PostsAny};
 ghost use Rattle.event_refusals.specs.Admissions.{Admitted, Names};
 ghost use Rattle.records.specs.Codes.{event_open, event_close_request, event_reserve};
 ghost use Rattle.event_accounts.specs.AccountEvents.{reserve_refusals};
@@ -25,7 +25,7 @@ pub fn open_account(t: &mut TablesMut, e: Instruction) -> Posting
         × (e.kind ≡ event_open)
         × Admitted (lent_mut t.old) e }
     ensures same { SameTables t.old t.new }
-    ensures posts { Posts (lent_mut t.old) (lent_mut t.new) e (answer_of (Ok result)) }
+    ensures posts { PostsAny (lent_mut t.old) (lent_mut t.new) e (answer_of (Ok result)) }
 {
     write_account(
         t.accounts,
@@ -42,7 +42,7 @@ pub fn request_close(t: &mut TablesMut, e: Instruction, x: Account) -> Result<Po
         × Admitted (lent_mut t.old) e
         × Names (lent_mut t.old) e x }
     ensures same { SameTables t.old t.new }
-    ensures posts { Posts (lent_mut t.old) (lent_mut t.new) e (answer_of result) }
+    ensures posts { PostsAny (lent_mut t.old) (lent_mut t.new) e (answer_of result) }
 {
     if x.state == STATE_PENDING {
         return Err(Refusal::Untimely);
@@ -72,7 +72,7 @@ pub fn set_reserve(t: &mut TablesMut, e: Instruction, x: Account) -> Result<Post
         × Admitted (lent_mut t.old) e
         × Names (lent_mut t.old) e x }
     ensures same { SameTables t.old t.new }
-    ensures posts { Posts (lent_mut t.old) (lent_mut t.new) e (answer_of result) }
+    ensures posts { PostsAny (lent_mut t.old) (lent_mut t.new) e (answer_of result) }
 {
     check_reserve(e, x)?;
     let reserved = x.set_reserve(e.a);

@@ -30,7 +30,7 @@ use Rattle.settlement.specs.Settling.{Journal, Begun, Settled}
 use Rattle.event_lookups.specs.declared.Lookup.{Lookup}
 use Rattle.event_lookups.specs.Lookups.{LooksUp}
 use Rattle.event_lookups.proofs.LookupLaws.{still_before, still-whole, still-mapped, still-add, begun-still}
-use Rattle.posting.specs.Posts.{tables_at, acceptance_of, Posts}
+use Rattle.posting.specs.Posts.{tables_over, acceptance_of, Posts}
 use Rattle.posting.proofs.BookLaws.{row_read, day-read, used-read, room-read, used-small, row-holds, journal-summable}
 use Rattle.posting_laws.proofs.RefusalLaws.{at-kind}
 use Rattle.posting_laws.proofs.AddedLaws.{acceptance-plain, posts-accepted}
@@ -213,10 +213,10 @@ module _ (t : Tables) (s : sound_tables t ≡ true) (e : Instruction) (k : e.kin
       after-upheld =
           after-named b e (sound-book t s) (λ z. omega arith) acc inside.0 inside.1 (rw (upheld-change b e k v)) ∙ rw (upheld-change b e k v)
 
-      pub upheld-posts : (j'' : List ℤ) → Settled j j'' (rows_used t + 1) e.account → Posts t (tables_at h t.accounts j'') e (acceptance_of (rows_used t) 1 0 0)
+      pub upheld-posts : (j'' : List ℤ) → Settled j j'' (rows_used t + 1) e.account → Posts t (tables_over t h t.accounts j'') e (acceptance_of (rows_used t) 1 0 0)
       unfolding removes_topup
       upheld-posts j'' d =
-          posts-accepted t (tables_at h t.accounts j'') s e (acceptance_of (rows_used t) 1 0 0) q
+          posts-accepted t (tables_over t h t.accounts j'') s e (acceptance_of (rows_used t) 1 0 0) q
           (rw (used-read t s) (acceptance-plain b e 1 (upheld-length b e k v) (rw k) (rw k)))
           (rw after-upheld
           (rows_written t h j'' (settle e.account rows) (rows-settle t h j j'' rows upheld-used e.account (rw length-rows d))

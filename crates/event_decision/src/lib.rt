@@ -9,7 +9,7 @@ ghost use Rattle.records.specs.Outcomes.{number_by, answer_of};
 ghost use Rattle.rules.specs.Tables.{book_of, sound_tables};
 ghost use Rattle.table_rows.specs.UsedRows.{rows_in};
 ghost use Rattle.event_lookups.specs.Lookups.{LooksUp};
-ghost use Rattle.posting.specs.Posts.{Posts};
+ghost use Rattle.posting.specs.Posts.{PostsAny};
 ghost use Rattle.event_refusals.specs.Admissions.{Admitted};
 ghost use Rattle.event_decision.specs.Decision.{upheld_toll, credit_for, Upholdable, UpheldRows, Releasable, freed_row};
 ghost use Rattle.records.specs.Codes.{event_decision};
@@ -103,7 +103,7 @@ pub fn decide(t: &mut TablesMut, e: Instruction, k: Lookup) -> Result<Posting, R
         × LooksUp (lent_mut t.old) e k
         × Admitted (lent_mut t.old) e }
     ensures same { SameTables t.old t.new }
-    ensures posts { Posts (lent_mut t.old) (lent_mut t.new) e (answer_of result) }
+    ensures posts { PostsAny (lent_mut t.old) (lent_mut t.new) e (answer_of result) }
 {
     check_decision(t, e)?;
     if e.b == CODE_YES {

@@ -8,7 +8,7 @@ ghost use Rattle.rules.specs.Refusals.{answer_number};
 ghost use Rattle.records.specs.Outcomes.{number_by, answer_of};
 ghost use Rattle.rules.specs.Tables.{book_of, sound_tables};
 ghost use Rattle.event_lookups.specs.Lookups.{LooksUp};
-ghost use Rattle.posting.specs.Posts.{Posts};
+ghost use Rattle.posting.specs.Posts.{PostsAny};
 ghost use Rattle.event_refusals.specs.Admissions.{Admitted};
 ghost use Rattle.records.specs.Codes.{event_dispute};
 ghost use Rattle.lent.specs.Lent.{lent_mut, SameTables};
@@ -64,7 +64,7 @@ pub fn hold_toll(t: &mut TablesMut, e: Instruction, k: Lookup) -> Result<Posting
         × LooksUp (lent_mut t.old) e k
         × Admitted (lent_mut t.old) e }
     ensures same { SameTables t.old t.new }
-    ensures posts { Posts (lent_mut t.old) (lent_mut t.new) e (answer_of result) }
+    ensures posts { PostsAny (lent_mut t.old) (lent_mut t.new) e (answer_of result) }
 {
     check_dispute(t, e)?;
     let held = held_row(t, e);

@@ -6,7 +6,7 @@ ghost use Rattle.records.specs.Outcomes.{answer_of};
 ghost use Rattle.records.specs.Layout.{used_place};
 ghost use Rattle.records.specs.Encoding.{word};
 ghost use Rattle.rules.specs.Tables.{sound_tables};
-ghost use Rattle.posting.specs.Posts.{acceptance_of, Posts};
+ghost use Rattle.posting.specs.Posts.{acceptance_of, PostsAny};
 ghost use Rattle.event_lookups.specs.Lookups.{LooksUp};
 ghost use Rattle.event_ends.specs.Ends.{AddSettles, AddedSettled, payment_today, sources_from_next, Puts};
 ghost use Rattle.lent.specs.Lent.{lent_mut, SameTables};
@@ -62,7 +62,7 @@ pub fn put_and_settle(t: &mut TablesMut, e: Instruction, r: Row, k: Lookup) -> P
         × LooksUp (lent_mut t.old) e k
         × Puts (lent_mut t.old) e r }
     ensures same { SameTables t.old t.new }
-    ensures posts { Posts (lent_mut t.old) (lent_mut t.new) e (answer_of (Ok result)) }
+    ensures posts { PostsAny (lent_mut t.old) (lent_mut t.new) e (answer_of (Ok result)) }
 {
     let used = t.used();
     write_row(t.journal, (e.a - 1) as usize, r);

@@ -23,7 +23,7 @@ use Rattle.rules.specs.Book.{Instruction, Book, with_lists}
 use Rattle.rules.specs.Events.{add_list}
 use Rattle.rules.specs.Refusals.{change_of, after, list_form, form_of, well_formed, list_refused, answer_number, own_refusals}
 use Rattle.rules.specs.Posting.{removes_topup}
-use Rattle.rules.specs.Tables.{Tables, rows_used, later_list_at, lists_used, lists_in, book_of, list_words, header_words, tables_of, sound_tables}
+use Rattle.rules.specs.Tables.{Tables, tables_at, rows_used, later_list_at, lists_used, lists_in, book_of, list_words, header_words, tables_of, sound_tables}
 use Rattle.rules.proofs.RefusalLaws.{own_tests, answer_number-own}
 use Rattle.rules.proofs.StorableLaws.{list-storable}
 use Rattle.rules.proofs.TableLaws.{sound-book, header-length, tables_of-book_of, header-more}
@@ -31,7 +31,7 @@ use Rattle.preservation.proofs.Accepted.{Accepted, accepted}
 use Rattle.preservation.proofs.NamedLaws.{settled-unmoved}
 use Rattle.tables.specs.Changes.{put_all}
 use Rattle.tables.proofs.ChangeLaws.{put_all-sets}
-use Rattle.posting.specs.Posts.{tables_at, acceptance_of, Posts}
+use Rattle.posting.specs.Posts.{tables_over, acceptance_of, Posts}
 use Rattle.posting_laws.proofs.RefusalLaws.{at-kind}
 use Rattle.posting_laws.proofs.AccountEventLaws.{rows_fit, never-full, never-above, acceptance-rowless}
 use Rattle.posting_laws.proofs.AddedLaws.{posts-after}
@@ -100,9 +100,9 @@ module _ (t : Tables) (s : sound_tables t ≡ true) (e : Instruction) (k : e.kin
 
   -- event 10 changes exactly seven words of the header
   pub list-posts : (h : List ℤ) → h ≡ put_all t.header (header_lists + lists_used t.header * list_width) 0 (list_words (list_of e))
-      → Posts t (tables_at h t.accounts t.journal) e (acceptance_of (rows_used t) 0 0 0)
+      → Posts t (tables_over t h t.accounts t.journal) e (acceptance_of (rows_used t) 0 0 0)
   list-posts h w =
-      posts-after t (tables_at h t.accounts t.journal) e (acceptance_of (rows_used t) 0 0 0) q
+      posts-after t (tables_over t h t.accounts t.journal) e (acceptance_of (rows_used t) 0 0 0) q
       (rw keeps-topup at (acceptance-rowless b e (rw changed) no-tick))
       (rw after_list tables_more)
     where
@@ -127,6 +127,6 @@ module _ (t : Tables) (s : sound_tables t ≡ true) (e : Instruction) (k : e.kin
           ∙ ap (λ (x : List ℤ). sets x (header_lists + (length b.lists - 1) * list_width) (list_words (list_of e))) (sym o)
           ∙ header-more b (sound-book t s).near (list_of e) few
 
-      tables_more : tables_at h t.accounts t.journal ≡ tables_of (with_lists (b.lists ++ (list_of e ∷ [])) b)
+      tables_more : tables_over t h t.accounts t.journal ≡ tables_of (with_lists (b.lists ++ (list_of e ∷ [])) b)
       tables_more = unfold tables_of in
-          (rw (header-now) (ap (λ (u : Tables). tables_at (header_words (with_lists (b.lists ++ (list_of e ∷ [])) b)) u.accounts u.journal) (sym again)))
+          (rw (header-now) (ap (λ (u : Tables). tables_at (header_words (with_lists (b.lists ++ (list_of e ∷ [])) b)) u.accounts u.journal u.holidays) (sym again)))

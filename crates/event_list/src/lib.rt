@@ -5,7 +5,7 @@ ghost use Rattle.std.specs.Prelude.{◌≡◌, true, ◌+◌, Ok};
 ghost use Rattle.records.specs.Codes.{event_rate_list};
 ghost use Rattle.records.specs.Outcomes.{answer_of};
 ghost use Rattle.rules.specs.Tables.{sound_tables};
-ghost use Rattle.posting.specs.Posts.{Posts};
+ghost use Rattle.posting.specs.Posts.{PostsAny};
 ghost use Rattle.event_refusals.specs.Admissions.{Admitted};
 ghost use Rattle.lent.specs.Lent.{lent_mut, SameTables};
 
@@ -22,7 +22,7 @@ pub fn add_list(t: &mut TablesMut, e: Instruction) -> Posting
         × (e.kind ≡ event_rate_list)
         × Admitted (lent_mut t.old) e }
     ensures same { SameTables t.old t.new }
-    ensures posts { Posts (lent_mut t.old) (lent_mut t.new) e (answer_of (Ok result)) }
+    ensures posts { PostsAny (lent_mut t.old) (lent_mut t.new) e (answer_of (Ok result)) }
 {
     let used = t.used();
     let lists = Header {

@@ -29,7 +29,7 @@ use Rattle.rules.proofs.TableLaws.{sound-book}
 use Rattle.preservation.proofs.Accepted.{Accepted, accepted}
 use Rattle.preservation.proofs.NamedLaws.{after-named}
 use Rattle.settlement.specs.Settling.{Settled}
-use Rattle.posting.specs.Posts.{tables_at, acceptance_of, RowAdded, Posts}
+use Rattle.posting.specs.Posts.{tables_over, acceptance_of, RowAdded, Posts}
 use Rattle.posting.proofs.BookLaws.{used-read, room-read}
 use Rattle.records.specs.Updates.{of_kind}
 use Rattle.posting_laws.proofs.RefusalLaws.{at-kind, length-after, no-ceiling}
@@ -124,9 +124,9 @@ module _ (t : Tables) (s : sound_tables t ≡ true) (e : Instruction) (k : e.kin
       after-named b e (sound-book t s) not-tick acc payment-inside.0 payment-inside.1 (rw changed) ∙ rw changed
 
   pub payment-posts : (h j j'' : List ℤ) → RowAdded t.header h t.journal j (payment_row b e) → Settled j j'' (rows_used t + 1) e.account
-      → rows_used t < room_in t → Posts t (tables_at h t.accounts j'') e (acceptance_of (rows_used t) 1 0 0)
+      → rows_used t < room_in t → Posts t (tables_over t h t.accounts j'') e (acceptance_of (rows_used t) 1 0 0)
   payment-posts h j j'' w d l =
-      posts-accepted t (tables_at h t.accounts j'') s e (acceptance_of (rows_used t) 1 0 0) q
+      posts-accepted t (tables_over t h t.accounts j'') s e (acceptance_of (rows_used t) 1 0 0) q
       (rw (used-read t s) (acceptance-plain b e 1 (length-after b e b.rows (payment_row b e ∷ []) (ap (λ (x : Book). x.rows) changed) refl) names-account keeps-topup))
       (rw after-payment (row_written t s h j j'' t.accounts (payment_row b e) e.account b.accounts w d l refl same-accounts))
     where

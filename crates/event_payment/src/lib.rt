@@ -6,7 +6,7 @@ ghost use Rattle.rules.specs.Refusals.{answer_number};
 ghost use Rattle.records.specs.Outcomes.{number_by, answer_of};
 ghost use Rattle.rules.specs.Tables.{book_of, sound_tables};
 ghost use Rattle.event_lookups.specs.Lookups.{LooksUp};
-ghost use Rattle.posting.specs.Posts.{Posts};
+ghost use Rattle.posting.specs.Posts.{PostsAny};
 ghost use Rattle.event_refusals.specs.Admissions.{Admitted, Names};
 ghost use Rattle.records.specs.Codes.{event_payment};
 ghost use Rattle.lent.specs.Lent.{lent_mut, SameTables};
@@ -49,7 +49,7 @@ pub fn post_payment(
         × Admitted (lent_mut t.old) e
         × Names (lent_mut t.old) e x }
     ensures same { SameTables t.old t.new }
-    ensures posts { Posts (lent_mut t.old) (lent_mut t.new) e (answer_of result) }
+    ensures posts { PostsAny (lent_mut t.old) (lent_mut t.new) e (answer_of result) }
 {
     check_payment(t, e, x)?;
     Ok(pay_and_settle(t, e.account, e.a, e.b, k))

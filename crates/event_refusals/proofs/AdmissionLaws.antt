@@ -1,23 +1,25 @@
 -- What the tests of the shared refusals come to, and what an admission says of the answer.
-use mathlib.Core.Path.{◌≡◌, refl, sym, ◌∙◌}
+use mathlib.Core.Path.{◌≡◌, refl, sym, ap, ◌∙◌}
 use mathlib.Core.Bool.{Bool, true, false, not, cond, ◌&&◌}
-use mathlib.Core.List.{List, [], ◌∷◌}
+use mathlib.Core.List.{List, [], ◌∷◌, map}
 use Rattle.records.specs.Numbers.{answer_malformed, answer_unknown, answer_taken, answer_closed, answer_list_refused}
 use Rattle.lists.specs.Tests.{first}
 use Rattle.rules.specs.Book.{Account, Instruction, Book}
 use Rattle.rules.specs.Refusals.{well_formed, list_refused, unknown, taken, on_closed, shared_count, refusals, answer_number, shared_refusals}
-use Rattle.rules.specs.Tables.{Tables, later_list_at, lists_used, lists_in, book_of}
+use Rattle.rules.specs.Tables.{Tables, tables_with, later_list_at, lists_used, lists_in, book_of}
 use Rattle.lists.proofs.ListLaws.{length-tabulate}
 use native.Mathlib.Omega.{arith}
 use Prim.Native.Nat.{◌+◌}
 use lib.ListN.{length}
 use lib.IntN.{ℤ}
 use Rattle.rules.proofs.RefusalLaws.{answer_number-shared}
-use Rattle.std.specs.Prelude.{Ok, Err}
+use Rattle.rules.proofs.HolidayFrame.{shared-with_holidays}
+use Rattle.records.specs.Encoding.{nat_of}
+use Rattle.std.specs.Prelude.{Result, Err}
 use Rattle.records.specs.declared.refusals.Refusal.{Refusal}
 use Rattle.records.specs.Outcomes.{number_of}
 use Rattle.records.proofs.OutcomeLaws.{number_of-not_0}
-use Rattle.event_refusals.specs.Admissions.{Admits, Admitted, Names}
+use Rattle.event_refusals.specs.Admissions.{Admits}
 
 -- a test that holds of one value only, without a branch
 pub cond-not : (t u : Bool) → not t && u ≡ cond t false u
@@ -38,3 +40,8 @@ lists-counted h = omega (arith, length-tabulate (later_list_at h) (lists_used h)
 -- a shared refusal that applies is the answer
 pub admits-refused : (t : Tables) (e : Instruction) (r : Refusal) → Admits t e (Err r) → number_of r ≡ answer_number (book_of t) e
 admits-refused t e r a = a.number ∙ answer_number-shared (book_of t) e (rw a.number at (number_of-not_0 r))
+
+-- what is admitted of the three tables that events write is admitted with any holidays
+pub admits-with : (hs : List ℤ) (t : Tables) (e : Instruction) (m : Result Account Refusal) → Admits t e m → Admits (tables_with hs t) e m
+unfolding book_of
+admits-with hs t e m a = record { number = a.number ∙ sym (ap first (shared-with_holidays (map nat_of hs) (book_of t) e)); account = a.account }

@@ -41,7 +41,7 @@ use Rattle.settlement.specs.Settling.{Journal, Begun, Settled}
 use Rattle.event_lookups.specs.declared.Lookup.{Lookup}
 use Rattle.event_lookups.specs.Lookups.{LooksUp}
 use Rattle.event_lookups.proofs.LookupLaws.{still_before, still-put, still-add, begun-still, row-at}
-use Rattle.posting.specs.Posts.{tables_at, acceptance_of, RowRoom, RowAdded, Posts}
+use Rattle.posting.specs.Posts.{tables_over, acceptance_of, RowRoom, RowAdded, Posts}
 use Rattle.posting.proofs.BookLaws.{row_read, row-read-in, day-read, used-read, room-read, count-read, used-small, used-room, row-holds, account-holds}
 use Rattle.posting_laws.proofs.EventLaws.{known-inside}
 use Rattle.records.specs.Updates.{of_kind}
@@ -313,9 +313,9 @@ module _ (t : Tables) (s : sound_tables t ≡ true) (e : Instruction) (k : e.kin
         header-size = returned-used.header-size
 
         pub return-posts : (xs j''' : List ℤ) → AccountChanged t.accounts xs (e.account - 1) (check_returned (account b e.account))
-            → Settled j'' j''' (rows_used t + 2) e.account → Posts t (tables_at h'' xs j''') e (acceptance_of (rows_used t) 2 0 0)
+            → Settled j'' j''' (rows_used t + 2) e.account → Posts t (tables_over t h'' xs j''') e (acceptance_of (rows_used t) 2 0 0)
         return-posts xs j''' c d =
-            posts-accepted t (tables_at h'' xs j''') s e (acceptance_of (rows_used t) 2 0 0) q
+            posts-accepted t (tables_over t h'' xs j''') s e (acceptance_of (rows_used t) 2 0 0) q
             (rw (used-read t s) (acceptance-plain b e 2 grows names-account keeps-topup))
             (rw after-return
             (rows_written t h'' j''' (settle e.account (returned_rows b e))

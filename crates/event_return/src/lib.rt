@@ -9,7 +9,7 @@ ghost use Rattle.rules.specs.Refusals.{answer_number};
 ghost use Rattle.records.specs.Outcomes.{number_by, answer_of};
 ghost use Rattle.rules.specs.Tables.{book_of, sound_tables};
 ghost use Rattle.event_lookups.specs.Lookups.{LooksUp};
-ghost use Rattle.posting.specs.Posts.{RowRoom, RowAdded, Posts};
+ghost use Rattle.posting.specs.Posts.{RowRoom, RowAdded, PostsAny};
 ghost use Rattle.event_refusals.specs.Admissions.{Admitted, Names};
 ghost use Rattle.event_return.specs.Return.{Counts, ReturnCounted, Marks, Marked};
 ghost use Rattle.records.specs.Codes.{event_returned_check};
@@ -94,7 +94,7 @@ pub fn return_check(
         × Admitted (lent_mut t.old) e
         × Names (lent_mut t.old) e x }
     ensures same { SameTables t.old t.new }
-    ensures posts { Posts (lent_mut t.old) (lent_mut t.new) e (answer_of result) }
+    ensures posts { PostsAny (lent_mut t.old) (lent_mut t.new) e (answer_of result) }
 {
     check_return(t, e)?;
     let used = t.used();

@@ -1,2 +1,3 @@
 pub mod TickLaws
 pub mod StepLaws
+pub mod AnyHolidays

@@ -14,11 +14,12 @@ use Rattle.records.specs.Encoding.{word}
 use Rattle.lists.specs.Tests.{◌is◌}
 use Rattle.lists.specs.Lists.{count}
 use Rattle.records.specs.Limits.{final_day}
+use Rattle.rules.specs.BusinessDays.{business_day}
 use Rattle.rules.specs.Book.{unused, Instruction, Book, settled}
 use Rattle.rules.specs.Tick.{next_day, end_holds, before_raising, rises, raise_tolls, raised_by, closes, close_accounts}
 use Rattle.rules.specs.Refusals.{after, last_day, full, answer_number}
 use Rattle.rules.specs.Posting.{new_rows, removes_topup, acceptance}
-use Rattle.rules.specs.Tables.{Tables, room_in, rows_used, book_of, sound_tables}
+use Rattle.rules.specs.Tables.{Tables, room_in, rows_used, holidays_in, book_of, sound_tables}
 use Rattle.rules.proofs.TableLaws.{sound-book, header-length}
 use Rattle.tables.proofs.ChangeLaws.{word_same, word-other}
 use Rattle.preservation.proofs.Accepted.{Accepted, accepted}
@@ -29,7 +30,7 @@ use Rattle.tick_rules.proofs.LateLaws.{late}
 use Rattle.tick_rules.proofs.RefundLaws.{none-closing}
 use Rattle.tick_rules.proofs.QuietLaws.{near-late, after-tick}
 use Rattle.tick_rules.proofs.CountLaws.{rows-after, late-fits}
-use Rattle.posting.specs.Posts.{tables_at, acceptance_of, Posts}
+use Rattle.posting.specs.Posts.{tables_over, acceptance_of, Posts}
 use Rattle.posting.proofs.BookLaws.{day-read, used-read, room-read}
 use Rattle.posting_laws.proofs.AddedLaws.{posts-accepted}
 use Rattle.posting_laws.proofs.WrittenLaws.{written-book}
@@ -74,7 +75,7 @@ module _ (t : Tables) (s : sound_tables t ≡ true) (e : Instruction) (k : e.kin
     header₁ = set t.header day_place (pos (word t.header day_place + 1))
 
     abbrev pub unraised-tables : Tables
-    unraised-tables = tables_at header₁ t.accounts j
+    unraised-tables = tables_over t header₁ t.accounts j
 
     unraised-rows-length : length (before_raising b).rows ≡ rows_used t
     unraised-rows-length = unraised-length b ∙ sym (used-read t s)
@@ -90,6 +91,8 @@ module _ (t : Tables) (s : sound_tables t ≡ true) (e : Instruction) (k : e.kin
       fixed = λ i l. word-other t.header day_place _ i (λ z. omega arith);
       schedule = refl;
       lists = refl;
+      holidays = refl;
+      same-holidays = refl;
       accounts = unfold book_of in refl;
       rows = rw unraised-rows-length d.rows;
       room = sym (room-read t s);
@@ -137,10 +140,13 @@ module _ (t : Tables) (s : sound_tables t ≡ true) (e : Instruction) (k : e.kin
 
       -- no account closes that was not to
       pub late-closing : (p : Plan) → Planned b p → Closes u p
-      late-closing p w = record { ready = record { midway = late-midway; room = closing-room }; quiet = λ e. rw late-book (quiet e) }
+      late-closing p w = record { midway = late-midway; room = closing-room; business = business; quiet = λ e. rw late-book (quiet e) }
         where
           same-accounts : (raise_tolls (before_raising b)).accounts ≡ b.accounts
           same-accounts = unfold raise_tolls before_raising settled end_holds next_day in refl
+
+          business : p.closing ≡ true → business_day (holidays_in u) (word u.header day_place) ≡ true
+          business e = rw (late-written.same-holidays, late-day) (unfold before_raising settled end_holds next_day book_of in (w.business e))
 
           quiet : p.closing ≡ false → (n : ℕ) → n < length (raise_tolls (before_raising b)).accounts → closes (raise_tolls (before_raising b)) (suc n) (get_or (raise_tolls (before_raising b)).accounts n unused) ≡ false
           quiet e n h =

@@ -8,6 +8,7 @@ use mathlib.Core.List.{[], ◌∷◌}
 use lib.ListN.{length}
 use lib.Dec.{ltb}
 use borrow.Author.Tests.{eqb-false, ltb-false, lt-ltb, le-leb, le-ltb}
+use Rattle.std.specs.Prelude.{Ok}
 use Rattle.records.specs.Numbers.{answer_last_day, answer_full, answer_ceiling}
 use Rattle.records.specs.Codes.{event_tick}
 use Rattle.lists.specs.Tests.{◌is◌, first}
@@ -25,7 +26,9 @@ use Rattle.posting_laws.proofs.RefusalLaws.{at-kind}
 use Rattle.posting.specs.Written.{Written}
 use Rattle.posting_laws.proofs.WrittenLaws.{written-book}
 use Rattle.tick_base.specs.Midway.{Midway}
-use Rattle.event_tick.specs.TickEvent.{tick_refusals}
+use Rattle.tick_plan.specs.declared.Plan.{Plan}
+use Rattle.tick_close.specs.Closing.{ReadyToClose}
+use Rattle.event_tick.specs.TickEvent.{tick_refusals, Judges, Accepts, Closes}
 
 -- ---- the number
 
@@ -83,3 +86,11 @@ module _ (t : Tables) (s : sound_tables t ≡ true) (n : ℕ) (e : n ≡ fees_ad
 
   pub tick-fits : rows_used t + n ≤ room_in t → ltb (book_of t).room (length (book_of t).rows + fees_added (book_of t) + refunds_added (book_of t)) ≡ false
   tick-fits h = le-ltb (book_of t).room _ (omega (arith, room-read t s, used-read t s))
+
+-- ---- closings as planned
+
+pub ready : (t : Tables) (p : Plan) → Closes t p → p.closing ≡ true → ReadyToClose t
+ready t p c e = record { midway = c.midway; business = c.business e; room = c.room }
+
+pub accepts-planned : (t : Tables) → sound_tables t ≡ true → (e : Instruction) → e.kind ≡ event_tick → (p : Plan) → Judges (book_of t) e (Ok p) → Accepts t e p
+accepts-planned t s e k p j = record { sound = s; kind = k; taken = j.number; plan = j.plan }

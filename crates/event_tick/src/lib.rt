@@ -1,14 +1,14 @@
 // Event 9, the day tick: it refuses before it writes anything.
 #![tactic(auto)]
 
-ghost use Rattle.std.specs.Prelude.{◌≡◌, true, Ok};
+ghost use Rattle.std.specs.Prelude.{◌≡◌, true, List, ℤ, Ok};
 ghost use Rattle.records.specs.Outcomes.{answer_of};
 ghost use Rattle.rules.specs.Tick.{close_accounts};
-ghost use Rattle.rules.specs.Tables.{book_of, sound_tables};
+ghost use Rattle.rules.specs.Tables.{tables_with, book_of, sound_tables};
 ghost use Rattle.posting.specs.Posts.{Posts};
 ghost use Rattle.posting.specs.Written.{Written};
 ghost use Rattle.event_refusals.specs.Admissions.{Admitted};
-ghost use Rattle.tick_plan.specs.Plans.{Planned};
+ghost use Rattle.tick_plan.specs.Plans.{PlansHolds};
 ghost use Rattle.tick_holds.specs.Holds.{UnraisedRows};
 ghost use Rattle.event_tick.specs.TickEvent.{Judges, Accepts, Closes};
 ghost use Rattle.records.specs.Codes.{event_tick};
@@ -28,16 +28,16 @@ use tick_raise::raise_tolls;
 
 // The plan of an admitted event 9, or why it is refused. The tests in checking order. 14 never is the reason: 8,192 sources of at most
 // 1,300,000 each do not pass the ceiling.
-fn judge_tick(t: &TablesMut, e: Instruction) -> Result<Plan, Refusal>
-    requires { (sound_tables (lent_mut t.now) ≡ true)
+fn judge_tick(t: &TablesMut, holidays: &[i64], e: Instruction) -> Result<Plan, Refusal>
+    requires { (sound_tables (tables_with holidays.now (lent_mut t.now)) ≡ true)
         × (e.kind ≡ event_tick)
         × Admitted (lent_mut t.now) e }
-    ensures { Judges (book_of (lent_mut t.now)) e result }
+    ensures { Judges (book_of (tables_with holidays.now (lent_mut t.now))) e result }
 {
     if t.day() == FINAL_DAY {
         return Err(Refusal::LastDay);
     }
-    let plan = plan_tick(t);
+    let plan = plan_tick(t, holidays);
     if !t.has_room(plan.added) {
         return Err(Refusal::Full);
     }
@@ -46,7 +46,7 @@ fn judge_tick(t: &TablesMut, e: Instruction) -> Result<Plan, Refusal>
 
 // Holds end and their accounts are settled, where the plan has a hold that ends. On most days none does, and nothing changes.
 fn end_holds(t: &mut TablesMut, plan: Plan)
-    requires { (sound_tables (lent_mut t.old) ≡ true) × Planned (book_of (lent_mut t.old)) plan }
+    requires { (sound_tables (lent_mut t.old) ≡ true) × PlansHolds (book_of (lent_mut t.old)) plan }
     ensures same { SameTables t.old t.new }
     ensures header { t.new.header.now ≡ t.old.header.now }
     ensures accounts { t.new.accounts.now ≡ t.old.accounts.now }
@@ -59,21 +59,26 @@ fn end_holds(t: &mut TablesMut, plan: Plan)
 
 // Accounts close, where the plan has one that does. On most days none does, and nothing changes.
 fn close_due(t: &mut TablesMut, plan: Plan)
-    requires { Closes (lent_mut t.old) plan }
+    requires { (hs : List ℤ) × Closes (tables_with hs (lent_mut t.old)) plan }
     ensures same { SameTables t.old t.new }
-    ensures written { Written (lent_mut t.old) (lent_mut t.new)
-        (close_accounts (book_of (lent_mut t.old))) }
+    ensures written { (hs : List ℤ)
+        → Closes (tables_with hs (lent_mut t.old)) plan
+        → Written (tables_with hs (lent_mut t.old))
+        (tables_with hs (lent_mut t.new))
+        (close_accounts (book_of (tables_with hs (lent_mut t.old)))) }
 {
     if plan.closing {
         close_accounts(t);
     }
 }
 
-// A tick as planned: holds end, settlement, the day rises, tolls rise, accounts close.
+// A tick as planned: holds end, settlement, the day rises, tolls rise, accounts close. Whatever the holidays, the plan has read them.
 fn carry_out(t: &mut TablesMut, e: Instruction, plan: Plan) -> Posting
-    requires { Accepts (lent_mut t.old) e plan }
+    requires { (hs : List ℤ) × Accepts (tables_with hs (lent_mut t.old)) e plan }
     ensures same { SameTables t.old t.new }
-    ensures posts { Posts (lent_mut t.old) (lent_mut t.new) e (answer_of (Ok result)) }
+    ensures posts { (hs : List ℤ)
+        → Accepts (tables_with hs (lent_mut t.old)) e plan
+        → Posts (tables_with hs (lent_mut t.old)) (tables_with hs (lent_mut t.new)) e (answer_of (Ok result)) }
 {
     let used = t.used();
     end_holds(t, plan);
@@ -85,13 +90,16 @@ fn carry_out(t: &mut TablesMut, e: Instruction, plan: Plan) -> Posting
 }
 
 // Event 9, the day tick.
-pub fn tick(t: &mut TablesMut, e: Instruction) -> Result<Posting, Refusal>
-    requires { (sound_tables (lent_mut t.old) ≡ true)
+pub fn tick(t: &mut TablesMut, holidays: &[i64], e: Instruction) -> Result<Posting, Refusal>
+    requires { (sound_tables (tables_with holidays.now (lent_mut t.old)) ≡ true)
         × (e.kind ≡ event_tick)
         × Admitted (lent_mut t.old) e }
     ensures same { SameTables t.old t.new }
-    ensures posts { Posts (lent_mut t.old) (lent_mut t.new) e (answer_of result) }
+    ensures posts { Posts (tables_with holidays.now (lent_mut t.old))
+        (tables_with holidays.now (lent_mut t.new))
+        e
+        (answer_of result) }
 {
-    let plan = judge_tick(t, e)?;
+    let plan = judge_tick(t, holidays, e)?;
     Ok(carry_out(t, e, plan))
 }

@@ -34,7 +34,7 @@ use Rattle.preservation.proofs.Accepted.{Accepted, accepted}
 use Rattle.preservation.proofs.FeeLaws.{class-le, rate-fits}
 use Rattle.preservation.proofs.NamedLaws.{after-named}
 use Rattle.settlement.specs.Settling.{Settled}
-use Rattle.posting.specs.Posts.{tables_at, acceptance_of, RowAdded, Posts}
+use Rattle.posting.specs.Posts.{tables_over, acceptance_of, RowAdded, Posts}
 use Rattle.posting.proofs.BookLaws.{used-read, room-read}
 use Rattle.posting_laws.proofs.EventLaws.{known-inside}
 use Rattle.records.specs.Updates.{of_kind}
@@ -194,9 +194,9 @@ module _ (t : Tables) (s : sound_tables t ≡ true) (e : Instruction) (k : e.kin
       after-named b e (sound-book t s) not-tick acc inside.0 inside.1 (rw changed) ∙ rw changed
 
   pub toll-posts : (h j j'' : List ℤ) → RowAdded t.header h t.journal j (toll_row b e) → Settled j j'' (rows_used t + 1) e.account
-      → Posts t (tables_at h t.accounts j'') e (acceptance_of (rows_used t) 1 0 0)
+      → Posts t (tables_over t h t.accounts j'') e (acceptance_of (rows_used t) 1 0 0)
   toll-posts h j j'' w d =
-      posts-accepted t (tables_at h t.accounts j'') s e (acceptance_of (rows_used t) 1 0 0) q
+      posts-accepted t (tables_over t h t.accounts j'') s e (acceptance_of (rows_used t) 1 0 0) q
       (rw (used-read t s) (acceptance-plain b e 1 grows names-account keeps-topup))
       (rw after-toll (row_written t s h j j'' t.accounts (toll_row b e) e.account b.accounts w d toll-fits refl same-accounts))
     where

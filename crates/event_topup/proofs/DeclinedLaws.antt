@@ -25,7 +25,7 @@ use Rattle.rules.proofs.StorableLaws.{day-le}
 use Rattle.rules.proofs.TableLaws.{sound-book}
 use Rattle.preservation.proofs.Accepted.{accepted}
 use Rattle.tables.specs.Changes.{AccountChanged}
-use Rattle.posting.specs.Posts.{tables_at, acceptance_of, Posts}
+use Rattle.posting.specs.Posts.{tables_over, acceptance_of, PostsAny}
 use Rattle.posting.proofs.BookLaws.{account-holds}
 use Rattle.posting_laws.proofs.RefusalLaws.{at-kind}
 use Rattle.posting_laws.proofs.AccountEventLaws.{account-posts}
@@ -72,5 +72,5 @@ module _ (t : Tables) (s : sound_tables t ≡ true) (e : Instruction) where
     removed = rw (k, result-0)
 
     pub declined-posts : (acc : List ℤ) → AccountChanged t.accounts acc (e.account - 1) declined_account
-        → Posts t (tables_at t.header acc t.journal) e (acceptance_of (rows_used t) 0 0 (cond (last_decline named) 1 0))
+        → PostsAny t (tables_over t t.header acc t.journal) e (acceptance_of (rows_used t) 0 0 (cond (last_decline named) 1 0))
     declined-posts acc w = rw (← removed) (account-posts t s e (rw k) q declined_account changed acc w)

@@ -24,7 +24,7 @@ use Rattle.preservation.proofs.NamedLaws.{after-named}
 use Rattle.tables.specs.Changes.{AccountIn, AccountChanged}
 use Rattle.tables.proofs.ChangeLaws.{changed-accounts}
 use Rattle.settlement.specs.Settling.{Settled}
-use Rattle.posting.specs.Posts.{tables_at, acceptance_of, RowAdded, Posts}
+use Rattle.posting.specs.Posts.{tables_over, acceptance_of, RowAdded, Posts}
 use Rattle.posting.proofs.BookLaws.{used-read, room-read, count-read, account-holds}
 use Rattle.posting_laws.proofs.RefusalLaws.{length-after}
 use Rattle.posting_laws.proofs.AddedLaws.{acceptance-plain, posts-accepted, row_written}
@@ -98,9 +98,9 @@ module _ (t : Tables) (e : Instruction) (p : PaidResult t e) where
       ∙ rw changed
 
   pub paid-posts : (acc h j j'' : List ℤ) → AccountChanged t.accounts acc (n - 1) paid_account → RowAdded t.header h t.journal j (topup_row b e)
-      → Settled j j'' (rows_used t + 1) n → Posts t (tables_at h acc j'') e (acceptance_of (rows_used t) 1 0 0)
+      → Settled j j'' (rows_used t + 1) n → Posts t (tables_over t h acc j'') e (acceptance_of (rows_used t) 1 0 0)
   paid-posts acc h j j'' v w d =
-      posts-accepted t (tables_at h acc j'') p.sound e (acceptance_of (rows_used t) 1 0 0) p.accepted
+      posts-accepted t (tables_over t h acc j'') p.sound e (acceptance_of (rows_used t) 1 0 0) p.accepted
       (rw (used-read t p.sound) (acceptance-plain b e 1 length-paid names-account keeps-topup))
       (rw after-paid
       (row_written t p.sound h j j'' acc (topup_row b e) n (set b.accounts (n - 1) paid_account) w d paid-fits v.size account-put))

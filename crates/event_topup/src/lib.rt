@@ -6,7 +6,7 @@ ghost use Rattle.rules.specs.Refusals.{answer_number};
 ghost use Rattle.records.specs.Outcomes.{number_by, answer_of};
 ghost use Rattle.rules.specs.Tables.{book_of, sound_tables};
 ghost use Rattle.event_lookups.specs.Lookups.{LooksUp};
-ghost use Rattle.posting.specs.Posts.{Posts};
+ghost use Rattle.posting.specs.Posts.{Posts, PostsAny};
 ghost use Rattle.event_refusals.specs.Admissions.{Admitted, Names};
 ghost use Rattle.event_topup.specs.TopupResult.{PaidResult};
 ghost use Rattle.records.specs.Codes.{event_topup_result};
@@ -65,7 +65,7 @@ pub fn topup_result(
         × Admitted (lent_mut t.old) e
         × Names (lent_mut t.old) e x }
     ensures same { SameTables t.old t.new }
-    ensures posts { Posts (lent_mut t.old) (lent_mut t.new) e (answer_of result) }
+    ensures posts { PostsAny (lent_mut t.old) (lent_mut t.new) e (answer_of result) }
 {
     check_result(t, e, k)?;
     if e.b == CODE_YES {

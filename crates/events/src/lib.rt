@@ -2,11 +2,13 @@
 // function posts it.
 #![tactic(auto)]
 
-ghost use Rattle.std.specs.Prelude.{◌≡◌, true};
+ghost use Rattle.std.specs.Prelude.{◌≡◌, true, false};
+ghost use Rattle.records.specs.Codes.{event_tick};
 ghost use Rattle.records.specs.Outcomes.{answer_of};
-ghost use Rattle.rules.specs.Tables.{sound_tables};
+ghost use Rattle.rules.specs.Tables.{tables_with, sound_tables};
 ghost use Rattle.event_lookups.specs.Lookups.{LooksUp};
-ghost use Rattle.posting.specs.Posts.{Posts};
+ghost use Rattle.lists.specs.Tests.{◌is◌};
+ghost use Rattle.posting.specs.Posts.{Posts, PostsAny};
 ghost use Rattle.event_refusals.specs.Admissions.{Admitted, Names};
 ghost use Rattle.lent.specs.Lent.{lent_mut, SameTables};
 
@@ -29,21 +31,23 @@ use records::codes::{
 use records::refusals::Refusal;
 use records::{Account, Instruction, Posting};
 
-// An admitted event, of the account x and with what has been looked up for it. No other kind is admitted.
-// Kept: the three go on one by one, since three of the eleven functions take them all, and each asks for no more than it uses; so do the
+// An admitted event but a tick, of the account x and with what has been looked up for it. No other kind is admitted. It never reads the
+// holidays.
+// Kept: the three go on one by one, since three of the ten functions take them all, and each asks for no more than it uses; so do the
 // facts of them (Admitted, Names, LooksUp), which are about the tables too.
-pub fn post_admitted(
+fn post_within_day(
     t: &mut TablesMut,
     e: Instruction,
     x: Account,
     k: Lookup,
 ) -> Result<Posting, Refusal>
     requires { (sound_tables (lent_mut t.old) ≡ true)
+        × (e.kind is event_tick ≡ false)
         × LooksUp (lent_mut t.old) e k
         × Admitted (lent_mut t.old) e
         × Names (lent_mut t.old) e x }
     ensures same { SameTables t.old t.new }
-    ensures posts { Posts (lent_mut t.old) (lent_mut t.new) e (answer_of result) }
+    ensures posts { PostsAny (lent_mut t.old) (lent_mut t.new) e (answer_of result) }
 {
     let kind = e.kind;
     // Kept: a switch, since the functions take different parameters.
@@ -56,20 +60,46 @@ pub fn post_admitted(
         EVENT_DECISION => decide(t, e, k),
         EVENT_TOPUP_RESULT => topup_result(t, e, x, k),
         EVENT_CLOSE_REQUEST => request_close(t, e, x),
-        EVENT_TICK => tick(t, e),
         EVENT_RATE_LIST => Ok(add_list(t, e)),
         EVENT_RESERVE => set_reserve(t, e, x),
         _ => Err(Refusal::Malformed),
     }
 }
 
-// One event by itself: only where it is admitted is the journal searched for it.
-pub fn post_event(t: &mut TablesMut, e: Instruction) -> Result<Posting, Refusal>
-    requires { sound_tables (lent_mut t.old) ≡ true }
+// An admitted event, of the account x and with what has been looked up for it. The tick alone reads the holidays.
+pub fn post_admitted(
+    t: &mut TablesMut,
+    holidays: &[i64],
+    e: Instruction,
+    x: Account,
+    k: Lookup,
+) -> Result<Posting, Refusal>
+    requires { (sound_tables (tables_with holidays.now (lent_mut t.old)) ≡ true)
+        × LooksUp (lent_mut t.old) e k
+        × Admitted (lent_mut t.old) e
+        × Names (lent_mut t.old) e x }
     ensures same { SameTables t.old t.new }
-    ensures posts { Posts (lent_mut t.old) (lent_mut t.new) e (answer_of result) }
+    ensures posts { Posts (tables_with holidays.now (lent_mut t.old))
+        (tables_with holidays.now (lent_mut t.new))
+        e
+        (answer_of result) }
+{
+    if e.kind == EVENT_TICK {
+        return tick(t, holidays, e);
+    }
+    post_within_day(t, e, x, k)
+}
+
+// One event by itself: only where it is admitted is the journal searched for it.
+pub fn post_event(t: &mut TablesMut, holidays: &[i64], e: Instruction) -> Result<Posting, Refusal>
+    requires { sound_tables (tables_with holidays.now (lent_mut t.old)) ≡ true }
+    ensures same { SameTables t.old t.new }
+    ensures posts { Posts (tables_with holidays.now (lent_mut t.old))
+        (tables_with holidays.now (lent_mut t.new))
+        e
+        (answer_of result) }
 {
     let x = admit(t, e)?;
     let k = look_up(t, e);
-    post_admitted(t, e, x, k)
+    post_admitted(t, holidays, e, x, k)
 }

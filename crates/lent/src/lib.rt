@@ -1,5 +1,5 @@
-// The three tables of a book as a caller lends them: to be read, or to be written; and what is asked of them: the day, the used rows, an
-// account, the room.
+// The three tables of a book that events write, as a caller lends them: to be read, or to be written; and what is asked of them: the day,
+// the used rows, an account, the room. The holidays, which no call writes, are lent beside them.
 #![tactic(auto)]
 
 ghost use Rattle.std.specs.Prelude.{◌≡◌, ◌+◌, ◌*◌, ◌^◌, ◌≤◌, ◌<◌, length, leb};

@@ -25,7 +25,7 @@ use Rattle.listing_rules.specs.Texts.{bad_line, same, opening_names, event_names
 use Rattle.listing_rules.specs.Listing.{listed_accounts, listed_rows, listing_tables, opens, is_good, posted, book_by, good_text}
 use Rattle.listing_rules.specs.Sizes.{most_answer_bytes, most_bad_line_bytes}
 use Rattle.listing_lines.specs.Lines.{Sized, Ready, Verdict, answer_names, line_text, Judged, Carried, Taken}
-use Rattle.std.specs.Prelude.{◌≢◌, Result, Ok, Err, is_ok, is_err, IsErr}
+use Rattle.std.specs.Prelude.{◌≢◌, Result, Ok, Err, is_ok, IsErr}
 use Rattle.records.specs.declared.refusals.Refusal.{Refusal}
 use Rattle.records.specs.Outcomes.{number_by}
 use Rattle.records.proofs.OutcomeLaws.{number_of-not_0}
@@ -162,16 +162,16 @@ module _ (t : Tables) (l b : List ℕ) (r : Verdict) where
 -- the listing's tables have its sizes
 listing-sized : Sized listing_tables
 unfolding listing_tables
-listing-sized = record { header = length-replicate header_width (pos 0); accounts = length-replicate (listed_accounts * account_width) (pos 0); journal = length-replicate (listed_rows * row_width) (pos 0) }
+listing-sized = record { header = length-replicate header_width (pos 0); accounts = length-replicate (listed_accounts * account_width) (pos 0); journal = length-replicate (listed_rows * row_width) (pos 0); holidays = refl }
 
--- opening reads nothing of the tables but their lengths
+-- opening reads nothing of the tables but their lengths and the holidays
 refusals-sized : (t u : Tables) (w : List ℤ) → Sized t → Sized u → opening_refusals t w ≡ opening_refusals u w
 unfolding opening_refusals lengths_fit whole_records
-refusals-sized t u w p q = rw (p.header, p.accounts, p.journal, q.header, q.accounts, q.journal) refl
+refusals-sized t u w p q = rw (p.header, p.accounts, p.journal, q.header, q.accounts, q.journal, p.holidays, q.holidays) refl
 
 opened-sized : (t u : Tables) (w : List ℤ) → Sized t → Sized u → opened_book t w ≡ opened_book u w
 unfolding opened_book
-opened-sized t u w p q = rw (p.accounts, p.journal, q.accounts, q.journal) refl
+opened-sized t u w p q = rw (p.accounts, p.journal, q.accounts, q.journal, p.holidays, q.holidays) refl
 
 -- not as many numbers
 pub second-unread : (l : List ℕ) → false ≡ is_numbers opening_width l → is_good 1 l ≡ false

@@ -8,11 +8,12 @@ use Rattle.listing_rules.specs.Listing.{listed_accounts, listed_rows, is_good, g
 use Rattle.listing_rules.specs.Sizes.{most_answer_bytes}
 use Rattle.listing_lines.specs.declared.BadLine.{BadLine}
 
--- "It holds 64 accounts and 512 rows"
+-- "It holds 64 accounts and 512 rows"; and the list of holidays is "empty for the listing" (document 02, No. 6)
 pub record Sized (t : Tables) : Type 0 where
   pub header : length t.header ≡ header_width
   pub accounts : length t.accounts ≡ listed_accounts * account_width
   pub journal : length t.journal ≡ listed_rows * row_width
+  pub holidays : t.holidays ≡ []
 
 -- the tables when n lines are taken: the book is sound once line 2 has opened it
 pub record Ready (n : ℕ) (t : Tables) : Type 0 where

@@ -47,7 +47,7 @@ fn second_line(t: &mut TablesMut, line: &[u8]) -> Result<(), BadLine>
         line.now result }
 {
     let values = read_numbers::<OPENING_WIDTH>(line).ok_or(BadLine)?;
-    open_book(t, &values).map_err(|_| BadLine)
+    open_book(t, &[], &values).map_err(|_| BadLine)
 }
 
 // Line 3: the names of an event's words. The answers' names are printed for it.
@@ -75,7 +75,7 @@ fn event_line(t: &mut TablesMut, line: &[u8], n: u64, out: &mut Text) -> Result<
         line.now out.old out.new result }
 {
     let values = read_numbers::<EVENT_WIDTH>(line).ok_or(BadLine)?;
-    let outcome = post_event(t, read_event(&values));
+    let outcome = post_event(t, &[], read_event(&values));
     write_answer(out, n - 2, Answer::from(outcome));
     Ok(())
 }

@@ -21,12 +21,13 @@ listed_rows = 512
 abbrev pub most_lines : ℕ
 most_lines = 18_446_744_073_709_551_615
 
--- the tables before line 2
+-- the tables before line 2; the list of holidays is "empty for the listing" (document 02, No. 6)
 unfoldable pub listing_tables : Tables
 listing_tables = record {
   header = replicate header_width (pos 0);
   accounts = replicate (listed_accounts * account_width) (pos 0);
   journal = replicate (listed_rows * row_width) (pos 0);
+  holidays = [];
 }
 
 -- ---- a line, n of them before it

@@ -1,5 +1,5 @@
 -- What posting an event leaves of the tables and answers.
-use Rattle.std.specs.Prelude.{ℕ, ◌+◌, ◌*◌, ◌≤◌, ◌<◌, ◌≡◌, cond, List, ℤ, pos, length, set}
+use Rattle.std.specs.Prelude.{ℕ, ◌+◌, ◌*◌, ◌≤◌, ◌<◌, ◌≡◌, true, cond, List, ℤ, pos, length, set}
 use Rattle.std.specs.Fn.{Shared}
 use Rattle.records.specs.Layout.{header_width, used_place, row_width}
 use Rattle.records.specs.Encoding.{word, row_at}
@@ -8,8 +8,8 @@ use Rattle.records.specs.Limits.{most_rows, highest_refund}
 use Rattle.rules.specs.Rows.{Row}
 use Rattle.rules.specs.Book.{Instruction, Answer}
 use Rattle.rules.specs.Posting.{post}
-pub use Rattle.rules.specs.Tables.{tables_at}
-use Rattle.rules.specs.Tables.{Tables, book_of, tables_of}
+pub use Rattle.rules.specs.Tables.{three_tables, tables_over}
+use Rattle.rules.specs.Tables.{Tables, tables_with, book_of, tables_of, sound_tables}
 use Rattle.tables.specs.Changes.{RowIn, RowChanged}
 
 -- used rows whose amounts can be summed
@@ -48,3 +48,7 @@ pub record RowAdded (h h' j j' : List ℤ) (r : Row) : Type 0 where
 pub record Posts (t u : Tables) (e : Instruction) (r : Answer) : Type 0 where
   pub answer : r ≡ (post (book_of t) e).answer
   pub tables : u ≡ tables_of (post (book_of t) e).book
+
+-- so it is with any holidays that the book may have: an event but a tick never reads them (document 02, No. 6)
+abbrev pub PostsAny : Tables → Tables → Instruction → Answer → Type 0
+PostsAny t u e r = (hs : List ℤ) → sound_tables (tables_with hs t) ≡ true → Posts (tables_with hs t) (tables_with hs u) e r

@@ -10,7 +10,7 @@ use Rattle.rules.specs.Tables.{Tables, accounts_in, room_in, rows_used, book_of}
 abbrev pub Fixed : List ℤ → List ℤ → Type 0
 Fixed h h' = (k : ℕ) → header_schedule ≤ k → word h' k ≡ word h k
 
--- u holds the book b where t held a book of no more rows, with the same schedule and rate lists
+-- u holds the book b where t held a book of no more rows, with the same schedule, rate lists and holidays
 pub record Written (t u : Tables) (b : Book) : Type 0 where
   pub header-size : length u.header ≡ length t.header
   pub accounts-size : length u.accounts ≡ length t.accounts
@@ -20,6 +20,8 @@ pub record Written (t u : Tables) (b : Book) : Type 0 where
   pub fixed : Fixed t.header u.header
   pub schedule : b.schedule ≡ (book_of t).schedule
   pub lists : b.lists ≡ (book_of t).lists
+  pub holidays : b.holidays ≡ (book_of t).holidays
+  pub same-holidays : u.holidays ≡ t.holidays
   pub accounts : accounts_of u.accounts (accounts_in t) ≡ b.accounts
   pub rows : rows_of u.journal (length b.rows) ≡ b.rows
   pub room : b.room ≡ room_in t

@@ -18,10 +18,11 @@ use Rattle.rules.proofs.StorableLaws.{rows-le}
 use Rattle.rules.proofs.TableLaws.{sound-book, accounts-length}
 use Rattle.preservation.proofs.Accepted.{accepted}
 use Rattle.tables.specs.Changes.{AccountIn, AccountChanged}
-use Rattle.posting.specs.Posts.{tables_at, acceptance_of, Posts}
+use Rattle.posting.specs.Posts.{tables_over, acceptance_of, PostsAny}
 use Rattle.posting.proofs.BookLaws.{count-read}
 use Rattle.posting_laws.proofs.RefusalLaws.{length-after, no-ceiling}
 use Rattle.posting_laws.proofs.AddedLaws.{posts-accepted}
+use Rattle.posting_laws.proofs.AnyHolidays.{posts-any}
 use Rattle.posting_laws.proofs.EventLaws.{known-inside, named-no-tick, account-written, after-account}
 
 -- ---- 13 and 14: no row is added
@@ -63,7 +64,9 @@ module _ (t : Tables) (s : sound_tables t ≡ true) (e : Instruction) (k : whole
   -- it becomes x, and nothing else changes
   pub account-posts : (x : Account) → change_of e.kind (book_of t) e ≡ put_account e.account x (book_of t)
       → (acc : List ℤ) → AccountChanged t.accounts acc (e.account - 1) x
-      → Posts t (tables_at t.header acc t.journal) e (acceptance_of (rows_used t) 0 0 (cond (removes_topup (book_of t) e) 1 0))
+      → PostsAny t (tables_over t t.header acc t.journal) e (acceptance_of (rows_used t) 0 0 (cond (removes_topup (book_of t) e) 1 0))
   account-posts x c acc w =
-      posts-accepted t (tables_at t.header acc t.journal) s e _ q (acceptance-rowless (book_of t) e (rw c) (named-no-tick e k))
-      (rw (after-account t s e e.account x c) (account-written t s acc e.account x w (omega (arith, named-inside.0, named-inside.1))))
+      let n = named-no-tick e k in
+      posts-any t (tables_over t t.header acc t.journal) e _ n
+      (posts-accepted t (tables_over t t.header acc t.journal) s e _ q (acceptance-rowless (book_of t) e (rw c) n)
+      (rw (after-account t s e e.account x c) (account-written t s acc e.account x w (omega (arith, named-inside.0, named-inside.1)))))

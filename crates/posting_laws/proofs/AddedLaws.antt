@@ -27,7 +27,7 @@ use Rattle.rules.proofs.TableLaws.{sound-book, sound-rows, tables_of-book_of, he
 use Rattle.preservation.proofs.SoundKept.{after-keeps-sound}
 use Rattle.tables.proofs.ChangeLaws.{changed-append, word_same, word-other}
 use Rattle.settlement.specs.Settling.{Journal, Settled}
-use Rattle.posting.specs.Posts.{tables_at, acceptance_of, RowAdded, Posts}
+use Rattle.posting.specs.Posts.{tables_over, acceptance_of, RowAdded, Posts}
 use Rattle.posting.proofs.BookLaws.{day-read, used-read, room-read, journal-settles}
 use Rattle.posting.specs.Written.{Written}
 use Rattle.posting_laws.proofs.EventLaws.{named-no-tick}
@@ -74,6 +74,7 @@ module _ (t : Tables) (s : sound_tables t ≡ true) (h j j'' acc : List ℤ) (r 
     accounts = xs;
     rows = settle a ((book_of t).rows ++ (r ∷ []));
     room = (book_of t).room;
+    holidays = (book_of t).holidays;
   }
 
   rows_grown : rows_of j (rows_used t + 1) ≡ (book_of t).rows ++ (r ∷ [])
@@ -88,7 +89,7 @@ module _ (t : Tables) (s : sound_tables t ≡ true) (h j j'' acc : List ℤ) (r 
   used-word : word h used_place ≡ rows_used t + 1
   used-word = rw w.header (word_same t.header used_place _ (omega (arith, header-length t s)))
 
-  pub row_written : Written t (tables_at h acc j'') grown
+  pub row_written : Written t (tables_over t h acc j'') grown
   row_written = record {
     header-size = rw w.header (length-set t.header used_place _);
     accounts-size = size;
@@ -98,6 +99,8 @@ module _ (t : Tables) (s : sound_tables t ≡ true) (h j j'' acc : List ℤ) (r 
     fixed = λ k q. other_word k (λ z. omega arith);
     schedule = refl;
     lists = refl;
+    holidays = refl;
+    same-holidays = refl;
     accounts = held;
     rows = rw length-grown (d.rows ∙ rw rows_grown);
     room = sym (room-read t s);

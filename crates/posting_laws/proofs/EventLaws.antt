@@ -18,7 +18,7 @@ use Rattle.rules.proofs.TableLaws.{sound-book, sound-rows}
 use Rattle.preservation.proofs.NamedLaws.{settled-unmoved}
 use Rattle.tables.specs.Changes.{AccountChanged}
 use Rattle.tables.proofs.ChangeLaws.{changed-accounts}
-use Rattle.posting.specs.Posts.{tables_at}
+use Rattle.posting.specs.Posts.{tables_over}
 use Rattle.posting.proofs.BookLaws.{day-read, used-read, room-read}
 use Rattle.posting.specs.Written.{Written}
 
@@ -41,7 +41,7 @@ named-no-tick e k = or_left (e.kind is event_tick) (e.kind is event_rate_list) k
 
 module _ (t : Tables) (s : sound_tables t ≡ true) where
   pub account-written : (acc : List ℤ) (n : ℕ) (x : Account) → AccountChanged t.accounts acc (n - 1) x → n - 1 < accounts_in t
-      → Written t (tables_at t.header acc t.journal) (put_account n x (book_of t))
+      → Written t (tables_over t t.header acc t.journal) (put_account n x (book_of t))
   account-written acc n x w l = record {
     header-size = refl;
     accounts-size = w.size;
@@ -51,6 +51,8 @@ module _ (t : Tables) (s : sound_tables t ≡ true) where
     fixed = λ k q. refl;
     schedule = refl;
     lists = refl;
+    holidays = refl;
+    same-holidays = refl;
     accounts = changed-accounts t.accounts acc (n - 1) x w (accounts_in t) l ∙ (unfold book_of in refl);
     rows = rw (← used-read t s) (sym (sound-rows t s));
     room = sym (room-read t s);

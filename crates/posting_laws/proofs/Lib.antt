@@ -6,3 +6,4 @@ pub mod PutRowLaws
 pub mod EventLaws
 pub mod AccountEventLaws
 pub mod RefusalLaws
+pub mod AnyHolidays

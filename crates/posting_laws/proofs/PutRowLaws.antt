@@ -9,9 +9,8 @@ use lib.ListN.{length, set, length-set}
 use lib.IntN.{ℤ}
 use borrow.Author.Tests.{eqb-false, ne_eqb}
 use Rattle.records.specs.Codes.{event_topup_result, event_tick}
-use Rattle.records.specs.Encoding.{rows_of}
 use Rattle.lists.specs.Lists.{sum_by, count}
-use Rattle.rules.specs.Rows.{Row, row_no}
+use Rattle.rules.specs.Rows.{Row}
 use Rattle.rules.specs.Settlement.{settle}
 use Rattle.rules.specs.Book.{Instruction, Book, with_rows, row, put_row}
 use Rattle.rules.specs.Refusals.{whole_book, change_of, after, ceiling, answer_number}
@@ -23,8 +22,8 @@ use Rattle.preservation.proofs.LookupLaws.{there}
 use Rattle.preservation.proofs.NamedLaws.{after-named}
 use Rattle.tables.specs.Changes.{RowChanged}
 use Rattle.settlement.specs.Settling.{Journal, Settled}
-use Rattle.posting.specs.Posts.{tables_at, acceptance_of, Posts}
-use Rattle.posting.proofs.BookLaws.{row_read, used-read}
+use Rattle.posting.specs.Posts.{tables_over, acceptance_of, Posts}
+use Rattle.posting.proofs.BookLaws.{used-read}
 use Rattle.posting_laws.proofs.RefusalLaws.{length-after, no-ceiling}
 use Rattle.posting_laws.proofs.AddedLaws.{acceptance-plain, posts-accepted}
 use Rattle.posting_laws.proofs.EventLaws.{known-inside, named-no-tick}
@@ -36,8 +35,6 @@ use Rattle.posting_laws.proofs.UsedRowsLaws.{used-rows-before, rows-put, rows-se
 pub row-used : (t : Tables) → sound_tables t ≡ true → (n : ℕ) → 0 < (row (book_of t) n).kind → (1 ≤ n) × (n ≤ rows_used t)
 row-used t s zero h = absurd (omega arith)
 row-used t s (suc k) h = (omega arith, omega (arith, there (book_of t).day (book_of t) (sound-book t s).near k h, used-read t s))
-
--- ---- the row of a number, read among as many rows as the header says
 
 -- ---- refusals 13 and 14: none where one row is put and none added
 
@@ -85,10 +82,10 @@ module _ (t : Tables) (s : sound_tables t ≡ true) (e : Instruction) (q : 0 ≡
         let i = known-inside b e names acc.known in
         after-named b e (sound-book t s) (eqb-false e.kind event_tick (named-no-tick e names)) acc i.0 i.1 (rw c) ∙ rw c
 
-    pub put-posts : (j'' : List ℤ) → Settled j j'' (rows_used t) e.account → Posts t (tables_at t.header t.accounts j'') e (acceptance_of (rows_used t) 0 0 0)
+    pub put-posts : (j'' : List ℤ) → Settled j j'' (rows_used t) e.account → Posts t (tables_over t t.header t.accounts j'') e (acceptance_of (rows_used t) 0 0 0)
     unfolding removes_topup
     put-posts j'' d =
-        posts-accepted t (tables_at t.header t.accounts j'') s e (acceptance_of (rows_used t) 0 0 0) q
+        posts-accepted t (tables_over t t.header t.accounts j'') s e (acceptance_of (rows_used t) 0 0 0) q
         (acceptance-plain b e 0 (length-put b e e.a r c) names (rw (ne_eqb e.kind 7 kind-7)))
         (rw after-put
         (rows_written t t.header j'' (settle e.account rows) (rows-settle t t.header j j'' rows put-used e.account (rw length-rows d))

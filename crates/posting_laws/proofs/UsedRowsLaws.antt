@@ -22,7 +22,7 @@ use Rattle.rules.proofs.TableLaws.{sound-rows, header-length, journal-length}
 use Rattle.tables.specs.Changes.{RowChanged, RowsMapped}
 use Rattle.tables.proofs.ChangeLaws.{changed-rows, changed-append, mapped-all, word_same, word-other}
 use Rattle.settlement.specs.Settling.{Journal, Settled}
-use Rattle.posting.specs.Posts.{tables_at, RowRoom, RowAdded}
+use Rattle.posting.specs.Posts.{tables_over, RowRoom, RowAdded}
 use Rattle.posting.proofs.BookLaws.{row-holds}
 use Rattle.posting_laws.proofs.HeaderLaws.{schedule-same}
 use Rattle.posting.specs.Written.{Fixed, Written, UsedRows}
@@ -102,7 +102,7 @@ module _ (t : Tables) (h j j' : List ℤ) (rows : List Row) (u : UsedRows t h j 
       other k q = rw w.header (word-other h used_place _ k q)
 
   -- rows used one after the other
-  pub rows_then : (acc h' : List ℤ) (rows' : List Row) → UsedRows (tables_at h acc j) h' j' rows' → UsedRows t h' j' rows'
+  pub rows_then : (acc h' : List ℤ) (rows' : List Row) → UsedRows (tables_over t h acc j) h' j' rows' → UsedRows t h' j' rows'
   rows_then acc h' rows' v = record {
     header-size = v.header-size ∙ u.header-size;
     used = v.used;
@@ -148,7 +148,7 @@ module _ (t : Tables) (h j : List ℤ) (rows : List Row) (u : UsedRows t h j row
   rows-day = u.words day_place (λ z. omega arith)
 
   pub rows_written : (acc : List ℤ) (xs : List Account) → length acc ≡ length t.accounts → accounts_of acc (accounts_in t) ≡ xs
-      → Written t (tables_at h acc j) (with_rows rows (with_accounts xs (book_of t)))
+      → Written t (tables_over t h acc j) (with_rows rows (with_accounts xs (book_of t)))
   unfolding book_of
   rows_written acc xs size held = record {
     header-size = u.header-size;
@@ -159,6 +159,8 @@ module _ (t : Tables) (h j : List ℤ) (rows : List Row) (u : UsedRows t h j row
     fixed = rows-fixed;
     schedule = refl;
     lists = refl;
+    holidays = refl;
+    same-holidays = refl;
     accounts = held;
     rows = u.rows;
     room = refl;

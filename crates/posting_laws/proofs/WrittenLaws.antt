@@ -3,20 +3,20 @@ use mathlib.Core.Path.{◌≡◌, refl, sym, ap, ◌∙◌}
 use mathlib.Core.Bool.{true}
 use Prim.Native.Nat.{ℕ, zero, suc, ◌+◌, ◌*◌, ◌-◌, ◌/◌, ◌%◌, ◌≤◌, ◌<◌, min}
 use native.Mathlib.Omega.{arith}
-use mathlib.Core.List.{List}
+use mathlib.Core.List.{List, map}
 use lib.ListN.{length, drop, length-drop}
 use lib.Seq.{get_or-drop}
 use lib.IntN.{ℤ, pos}
 use borrow.Author.Tests.{le-leb, eq-eqb, eqb-true}
 use Rattle.records.specs.Layout.{header_schedule, header_lists, list_width, row_width}
-use Rattle.records.specs.Encoding.{word, row_from, row_at}
+use Rattle.records.specs.Encoding.{nat_of, word, row_from, row_at}
 use Rattle.lists.specs.Tests.{all_of}
 use Rattle.lists.specs.Lists.{every_from}
 use Rattle.lists.proofs.ListLaws.{every-at, every-all}
 use Rattle.rules.specs.Rows.{Row}
 use Rattle.rules.specs.Book.{Book}
 use Rattle.rules.specs.Soundness.{sound}
-use Rattle.rules.specs.Tables.{Tables, room_in, rows_used, schedule_from, lists_used, lists_in, book_of, tables_of, whole_records, lengths_fit, used_fits, zero_word, later_rows_zero, unused_lists_zero, sound_tables}
+use Rattle.rules.specs.Tables.{Tables, room_in, rows_used, holidays_in, schedule_from, lists_used, lists_in, book_of, tables_of, whole_records, lengths_fit, used_fits, zero_word, later_rows_zero, unused_lists_zero, sound_tables}
 use Rattle.rules.proofs.SoundnessLaws.{sound-facts}
 use Rattle.rules.proofs.StorableLaws.{rows-le}
 use Rattle.rules.proofs.TableLaws.{tables_of-book_of, sound-part}
@@ -61,7 +61,8 @@ written-book t u b w l =
     let m : min (length b.rows) (room_in t) ≡ length b.rows = omega arith in
     let s : schedule_from u.header header_schedule ≡ b.schedule = schedule-same t.header u.header w.fixed ∙ sym w.schedule in
     let r : lists_in u.header ≡ b.lists = lists-same t.header u.header w.fixed ∙ sym w.lists in
-    rw (w.used, w.accounts-size, w.journal-size, m, w.day, s, r, w.accounts, w.rows, ← w.room)
+    let d : holidays_in u ≡ b.holidays = ap (map nat_of) w.same-holidays ∙ sym w.holidays in
+    rw (d, w.used, w.accounts-size, w.journal-size, m, w.day, s, r, w.accounts, w.rows, ← w.room)
 
 -- ---- the law
 

@@ -133,6 +133,7 @@ module _ (b : Book) where
         day = n.day;
         schedule = n.schedule;
         lists = n.lists;
+        holidays = n.holidays;
         sizes = rw la n.sizes;
         fits = le-leb (length (rows' b)) b.room room;
         shape = λ k h. grown-each (use_up b) blank (up-blank b) b.rows (refunds b) k (λ x. Shape b.day accounts' (rows' b) (suc k) x) h

@@ -16,6 +16,7 @@ use Rattle.lists.proofs.TestLaws.{and_left, and_right, and_both, cond-zero}
 use Rattle.lists.proofs.SumLaws.{sum_by-ext, sum_by-zero}
 use Rattle.lists.proofs.GatherLaws.{gather_none, gather-only, sum_by-grown}
 use Rattle.records.specs.Limits.{closing_days}
+use Rattle.rules.specs.BusinessDays.{business_day}
 use Rattle.rules.specs.Rows.{Row, Test, kind_refund, blank, new_row, with_settled, remaining, settle_whole, source, debit, unsettled, source_of, debit_of}
 use Rattle.rules.specs.Settlement.{money, used, paid, owed}
 use Rattle.rules.specs.Book.{Account, unused, Book, account}
@@ -238,8 +239,10 @@ module _ (b : Book) where
     closing e =
         let x : Account = get_or b.accounts k unused in
         let a1 : Bool = eqb x.state 2 in
-        let a2 : Bool = leb (x.request + closing_days) b.day in
-        (eqb-true x.state 2 (and_left a1 a2 (and_left (a1 && a2) _ e)), none-owed n b.rows (and_right (a1 && a2) _ e))
+        let a2 : Bool = business_day b.holidays b.day in
+        let a3 : Bool = leb (x.request + closing_days) b.day in
+        let pending : a1 ≡ true = and_left a1 a2 (and_left (a1 && a2) a3 (and_left (a1 && a2 && a3) _ e)) in
+        (eqb-true x.state 2 pending, none-owed n b.rows (and_right (a1 && a2 && a3) _ e))
 
     pub counted-closed : SumsFit b.rows n (get_or b.accounts k unused) → SumsFit rows' n (close_if b n (get_or b.accounts k unused))
     unfolding close_if returned_fits used_is_paid closed_clear returned_of count

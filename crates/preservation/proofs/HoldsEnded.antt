@@ -139,7 +139,7 @@ end_holds-near b s ne =
     framed-near b.day (end_holds (next_day b))
     (framed-map b.day (next_day b) f refl
     (λ r. record { kind = ap (λ (x : Row). x.kind) (same r); account = ap (λ (x : Row). x.account) (same r); reference = ap (λ (x : Row). x.reference) (same r) })
-    (and_both _ _ (le-leb 1 (b.day + 1) (omega arith)) (le-leb (b.day + 1) final_day (omega arith))) s.schedule s.lists s.sizes s.fits
+    (and_both _ _ (le-leb 1 (b.day + 1) (omega arith)) (le-leb (b.day + 1) final_day (omega arith))) s.schedule s.lists s.holidays s.sizes s.fits
     (λ k l. shape-end_hold (b.day + 1) b.accounts b.rows (suc k) (get_or b.rows k blank) (shape-later b.day b.accounts b.rows (suc k) (get_or b.rows k blank) (s.shape k l)))
     (λ k l. live-end_hold b.day b.schedule.stage (get_or b.rows k blank) (s.live k l))
     (λ k h. standing-later b.day (get_or b.accounts k unused) (s.standing k h)))

@@ -16,6 +16,7 @@ use Rattle.lists.proofs.TestLaws.{cond-zero}
 use Rattle.lists.proofs.SumLaws.{sum_by-snoc, sum_by-set-same, sum_by-map, sum_by-ext}
 use Rattle.rules.specs.Schedule.{schedule_fits}
 use Rattle.rules.specs.RateLists.{lists_fit}
+use Rattle.rules.specs.BusinessDays.{holidays_fit}
 use Rattle.rules.specs.Rows.{Row, Test, blank, toll, remaining, with_due, with_dispute, with_hold_start, fee_naming, source_of, debit_of}
 use Rattle.rules.specs.Settlement.{money, used, paid, owed}
 use Rattle.rules.specs.Book.{Account, unused, Book, with_rows, with_accounts, add_row, account_no}
@@ -31,6 +32,7 @@ pub record Framed (past : ℕ) (b : Book) : Type 0 where
   pub day : day_fits b.day ≡ true
   pub schedule : schedule_fits b.schedule ≡ true
   pub lists : lists_fit b.lists ≡ true
+  pub holidays : holidays_fit b.holidays ≡ true
   pub sizes : sizes_fit (length b.accounts) b.room ≡ true
   pub fits : leb (length b.rows) b.room ≡ true
   pub shape : (k : ℕ) → k < length b.rows → Shape b.day b.accounts b.rows (suc k) (get_or b.rows k blank)
@@ -42,6 +44,7 @@ near-framed past b s = record {
   day = s.day;
   schedule = s.schedule;
   lists = s.lists;
+  holidays = s.holidays;
   sizes = s.sizes;
   fits = s.fits;
   shape = s.shape;
@@ -54,6 +57,7 @@ framed-near past b s c = record {
   day = s.day;
   schedule = s.schedule;
   lists = s.lists;
+  holidays = s.holidays;
   sizes = s.sizes;
   fits = s.fits;
   shape = s.shape;
@@ -120,6 +124,7 @@ framed-add past b r s h p w v =
       day = s.day;
       schedule = s.schedule;
       lists = s.lists;
+      holidays = s.holidays;
       sizes = s.sizes;
       fits = le-leb (length (grown rows r)) b.room (rw (length-append rows (r ∷ [])) (omega arith));
       shape = λ k l. grown-row rows r k (λ x. Shape b.day b.accounts (grown b.rows r) (suc k) x) l
@@ -215,6 +220,7 @@ near-accounts past b xs n m c = record {
   day = n.day;
   schedule = n.schedule;
   lists = n.lists;
+  holidays = n.holidays;
   sizes = rw m.size n.sizes;
   fits = n.fits;
   shape = λ i h. shape-accounts b.day b.accounts xs b.rows (suc i) (get_or b.rows i blank) m (n.shape i h);
@@ -275,6 +281,7 @@ framed-put past b xs j r s h same m w v =
       day = s.day;
       schedule = s.schedule;
       lists = s.lists;
+      holidays = s.holidays;
       sizes = rw m.size s.sizes;
       fits = rw (length-set rows j r) s.fits;
       shape = λ k l. set-row rows j r h k (λ x. Shape b.day xs (set b.rows j r) (suc k) x)
@@ -314,16 +321,18 @@ near-put-core past b j r s h same w v =
 
 -- the law where the changed rows' own shape is given against the rows before
 pub framed-map : (past : ℕ) (b : Book) (f : Row → Row) → f blank ≡ blank → ((r : Row) → Same (f r) r)
-    → day_fits b.day ≡ true → schedule_fits b.schedule ≡ true → lists_fit b.lists ≡ true → sizes_fit (length b.accounts) b.room ≡ true → leb (length b.rows) b.room ≡ true
+    → day_fits b.day ≡ true → schedule_fits b.schedule ≡ true → lists_fit b.lists ≡ true
+    → holidays_fit b.holidays ≡ true → sizes_fit (length b.accounts) b.room ≡ true → leb (length b.rows) b.room ≡ true
     → ((k : ℕ) → k < length b.rows → Shape b.day b.accounts b.rows (suc k) (f (get_or b.rows k blank)))
     → ((k : ℕ) → k < length b.rows → Live past b.day b.schedule.stage (f (get_or b.rows k blank)))
     → ((k : ℕ) → k < length b.accounts → Standing b.day (get_or b.accounts k unused)) → Framed past (with_rows (map f b.rows) b)
-framed-map past b f rest same d c l z n w v st =
+framed-map past b f rest same d c l y z n w v st =
     let rows : List Row = b.rows in
     record {
       day = d;
       schedule = c;
       lists = l;
+      holidays = y;
       sizes = z;
       fits = rw (length-map rows f) n;
       shape = λ k h.

@@ -41,6 +41,7 @@ module _ (b : Book) (i : Instruction) (s : Near b.day b) (q : Accepted b (of_kin
     day = s.day;
     schedule = s.schedule;
     lists = lists-fit;
+    holidays = s.holidays;
     sizes = s.sizes;
     fits = s.fits;
     shape = s.shape;

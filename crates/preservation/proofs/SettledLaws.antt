@@ -145,6 +145,7 @@ near-settle past b a s = record {
   day = s.day;
   schedule = s.schedule;
   lists = s.lists;
+  holidays = s.holidays;
   sizes = s.sizes;
   fits = rw (length-settle a b.rows) s.fits;
   shape = λ k h.

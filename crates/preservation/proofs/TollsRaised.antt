@@ -297,6 +297,7 @@ raise_tolls-near past b n t room =
       day = n.day;
       schedule = n.schedule;
       lists = n.lists;
+      holidays = n.holidays;
       sizes = n.sizes;
       fits = le-leb _ b.room room;
       shape = λ k h. grown-each (raise s b.day) blank (raise-blank s b.day) rows (added s b.day rows) k

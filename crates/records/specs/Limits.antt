@@ -97,6 +97,14 @@ most_held_days = 29
 abbrev pub low_height : ℕ
 low_height = 90
 
+-- the days of a week
+abbrev pub week_days : ℕ
+week_days = 7
+
+-- "a lent list of at most 400 holidays" (document 02, No. 6)
+abbrev pub most_holidays : ℕ
+most_holidays = 400
+
 -- an array by account number has a slot for each number from 0 to most_accounts
 abbrev pub slot_count : ℕ
 slot_count = 257

@@ -65,3 +65,7 @@ answer_list_refused = 15
 -- document 02, No. 4: "16 "reserve" for adding one that exists or removing one that doesn't"
 abbrev pub answer_reserve : ℕ
 answer_reserve = 16
+
+-- document 02, No. 6: "17 "holidays" at opening for a list that is too long, out of range or not rising"
+abbrev pub answer_holidays : ℕ
+answer_holidays = 17

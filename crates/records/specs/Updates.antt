@@ -13,7 +13,8 @@ blank = record { kind = 0; account = 0; day = 0; amount = 0; settled = 0; mark =
 
 -- "New rows carry today and start unsettled": kind, account, day and amount; "words without a use in a kind are 0"
 abbrev pub new_row : ℕ → ℕ → ℕ → ℕ → Row
-new_row k a d n = record { kind = k; account = a; day = d; amount = n; settled = 0; mark = 0; due = 0; dispute = 0; hold = 0; reference = 0 }
+new_row k a d n =
+    record { kind = k; account = a; day = d; amount = n; settled = 0; mark = 0; due = 0; dispute = 0; hold = 0; reference = 0 }
 
 abbrev pub with_settled : ℕ → Row → Row
 with_settled v r = record {

@@ -48,4 +48,8 @@ pub const MOST_HELD_DAYS: u64 = 29;
 
 pub const LOW_HEIGHT: u64 = 90;
 
+pub const WEEK_DAYS: u64 = 7;
+
+pub const MOST_HOLIDAYS: usize = 400;
+
 pub const SLOT_COUNT: usize = MOST_ACCOUNTS + 1;

@@ -23,6 +23,7 @@ pub enum Refusal {
     Ceiling = 14,
     List = 15,
     Reserve = 16,
+    Holidays = 17,
 }
 
 // The number of its answer, as the answer's words are numbers.

@@ -153,7 +153,7 @@ module _ (t : Tables) (w : List ℤ) (z : (open_call t w).number ≡ 0) where
   unfolding replay_start begin opened_book opening
   start-underway = record {
     is-sound = opened_book-sound t w z;
-    alike = record { day = refl; schedule = refl; lists = refl; rows = none; notes = notes-noted (accounts_in t) };
+    alike = record { day = refl; schedule = refl; lists = refl; holidays = refl; rows = none; notes = notes-noted (accounts_in t) };
     fees = start-fees;
   }
 

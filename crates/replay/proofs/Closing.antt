@@ -1,6 +1,6 @@
 -- A tick's last step: the book and the replay close the same accounts, with the same refunds, and use up the same money. An account that is
 -- closed already may close again in the replay, to no effect.
-use mathlib.Core.Path.{◌≡◌, refl, sym, ◌∙◌}
+use mathlib.Core.Path.{◌≡◌, refl, sym, ap, ◌∙◌}
 use mathlib.Core.Bool.{Bool, true, false, not, cond, ◌&&◌, false≢true, and_assoc}
 use Prim.Native.Nat.{ℕ, zero, suc, ◌+◌, ◌≤◌, ◌<◌}
 use native.Mathlib.Omega.{arith}
@@ -16,6 +16,7 @@ use Rattle.lists.proofs.SumLaws.{sum_by-some}
 use Rattle.lists.proofs.PairLaws.{Pairs, pairs-to, pairs-sum}
 use Rattle.records.specs.Limits.{closing_days}
 use Rattle.records.specs.Layout.{request_place}
+use Rattle.rules.specs.BusinessDays.{business_day}
 use Rattle.rules.specs.Rows.{Row, blank, unsettled, debit_of, remaining}
 use Rattle.rules.specs.Settlement.{money, used, paid, owed}
 use Rattle.rules.specs.Book.{Account, state_unused, state_open, state_pending, state_closed, unused, Book, settled, account}
@@ -117,7 +118,7 @@ module _ (b : Book) (p : Replay) (sound : Sound b) (a : Agrees b p) where
   closes_now c = closes raised_book c (account b c)
 
   abbrev pub closing_now : ℕ → Bool
-  closing_now c = closing now raised_entries c (note_of c)
+  closing_now c = closing p.holidays now raised_entries c (note_of c)
 
   -- the book and the replay judge alike, or the account is closed and has nothing
   pub data Judged (c : ℕ) : Type 0 where
@@ -162,10 +163,14 @@ module _ (b : Book) (p : Replay) (sound : Sound b) (a : Agrees b p) where
     pending e =
         let n = noted-no b p a c in
         let r : 1 ≤ (account b c).request = request-some b.day (account b c) (sound.near.standing j h).request e in
+        let day : business_day b.holidays now ≡ business_day p.holidays now = ap (λ (hs : List ℕ). business_day hs now) a.holidays in
+        let over : Bool = leb ((account b c).request + closing_days) now in
+        let unheld : Bool = not (exists (λ y. y.account is c && (is_toll y && y.hold)) raised_entries) in
+        let covered : Bool = leb (money_out c raised_entries) (money_in c raised_entries) in
         let t : closes_now c ≡ closing_now c = rw (e, ← n.request, lt-ltb 0 (account b c).request r, clear-same)
-        (sym (and_assoc (leb ((account b c).request + closing_days) now) (not (exists (λ y. y.account is c && (is_toll y && y.hold)) raised_entries)) (leb (money_out c raised_entries) (money_in c raised_entries)))) in
+        (sym (and_assoc (business_day b.holidays now && over) unheld covered) ∙ ap (λ (v : Bool). v && over && unheld && covered) day) in
         same t (λ v.
-        let o : owed c (after_raising b p sound a) ≡ 0 = eqb-true _ _ (sym (unsettled-owed c (after_raising b p sound a)) ∙ and_right ((account b c).state is state_pending && leb ((account b c).request + closing_days) now) _ (t ∙ v)) in
+        let o : owed c (after_raising b p sound a) ≡ 0 = eqb-true _ _ (sym (unsettled-owed c (after_raising b p sound a)) ∙ and_right ((account b c).state is state_pending && business_day b.holidays now && leb ((account b c).request + closing_days) now) _ (t ∙ v)) in
         omega (arith, sums-in, sums-out, after_raising-used-is-paid b p sound a j h))
 
     closed-idle : (account b c).state ≡ state_closed → Judged c

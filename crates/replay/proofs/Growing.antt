@@ -131,6 +131,7 @@ settled-agrees b p a = record {
   day = a.day;
   schedule = a.schedule;
   lists = a.lists;
+  holidays = a.holidays;
   rows = rw (← (pairs-length a.notes))
       (settle_all-pairs (Match 0 b.day b.schedule.stage) (λ r x m. m.line) (match-keep 0 b.day b.schedule.stage) (length b.accounts) a.rows);
   notes = a.notes;

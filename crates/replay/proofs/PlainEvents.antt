@@ -35,19 +35,19 @@ noted-no b p a n = pairs-at unused no_note q (more q a.notes) n
 
 -- an account and its note change
 note-agrees : (b : Book) (p : Replay) → Agrees b p → (n : ℕ) (x : Account) (y : Note) → Noted x y → Agrees (put_account n x b) (put_note n y p)
-note-agrees b p a n x y q = record { day = a.day; schedule = a.schedule; lists = a.lists; rows = a.rows; notes = pairs_set (n - 1) x y q a.notes }
+note-agrees b p a n x y q = record { day = a.day; schedule = a.schedule; lists = a.lists; holidays = a.holidays; rows = a.rows; notes = pairs_set (n - 1) x y q a.notes }
 
 -- an account changes
 pub account-agrees : (b : Book) (p : Replay) → Agrees b p → (n : ℕ) → 1 ≤ n → (x : Account) → Noted x (note_no p.notes n) → Agrees (put_account n x b) p
 account-agrees b p a zero h x q = absurd (omega arith)
 account-agrees b p a (suc n) h x q =
     let z : suc n - 1 ≡ n = omega arith in
-    record { day = a.day; schedule = a.schedule; lists = a.lists; rows = a.rows; notes = rw z (pairs-set-left n x no_note q a.notes) }
+    record { day = a.day; schedule = a.schedule; lists = a.lists; holidays = a.holidays; rows = a.rows; notes = rw z (pairs-set-left n x no_note q a.notes) }
 
 -- a rate list more
 pub add_list-agrees : (b : Book) (p : Replay) (e : Instruction) → Agrees b p → Agrees (add_list b e) (note_list p e)
 unfolding add_list note_list
-add_list-agrees b p e a = record { day = a.day; schedule = a.schedule; lists = rw a.lists; rows = a.rows; notes = a.notes }
+add_list-agrees b p e a = record { day = a.day; schedule = a.schedule; lists = rw a.lists; holidays = a.holidays; rows = a.rows; notes = a.notes }
 
 -- a reserve added or removed: the replay keeps none
 pub set_reserve-agrees : (b : Book) (p : Replay) (e : Instruction) → Agrees b p → 1 ≤ e.account → Agrees (set_reserve b e) p
@@ -72,6 +72,7 @@ add-agrees b p f a r x m t = record {
   day = a.day;
   schedule = a.schedule;
   lists = a.lists;
+  holidays = a.holidays;
   rows = grow b.rows p.entries f a.rows b.rows p.entries
       (pairs-self kept_self b.rows) (pairs-self (λ y. refl) p.entries) (pairs-to (λ s y n. n.is) a.rows)
       (r ∷ []) (x ∷ []) (more (record { is = m; toll = t }) none);

@@ -54,6 +54,7 @@ pub record Agrees (b : Book) (p : Replay) : Type 0 where
   pub day : b.day ≡ p.day
   pub schedule : b.schedule ≡ p.schedule
   pub lists : b.lists ≡ p.lists
+  pub holidays : b.holidays ≡ p.holidays
   pub rows : Rows (Match 0 b.day b.schedule.stage) b.rows p.entries
   pub notes : Pairs Noted b.accounts p.notes
 

@@ -58,7 +58,7 @@ abbrev book : Book
 book = book_after opened listed
 
 abbrev start : Replay
-start = begin 1 schedule rates 2
+start = begin 1 schedule rates [] 2
 
 abbrev reported : List Report
 reported = reports_of opened listed

@@ -36,6 +36,7 @@ change-agrees b p f a n h r x k t m = record {
   day = a.day;
   schedule = a.schedule;
   lists = a.lists;
+  holidays = a.holidays;
   rows = regrow b.rows p.entries f a.rows (set b.rows (n - 1) r) (set p.entries (n - 1) x)
       (pairs-set-self kept_self b.rows (n - 1) r blank (rw (number_at b.rows n blank h) k))
       (pairs-set-self (λ y. refl) p.entries (n - 1) x no_entry (rw (number_at p.entries n no_entry h) t))
@@ -193,6 +194,7 @@ module _ (b : Book) (p : Replay) (e : Instruction) (near : Near b.day b) (a : Ag
         day = a.day;
         schedule = a.schedule;
         lists = a.lists;
+        holidays = a.holidays;
         notes = a.notes;
         rows = grow b.rows p.entries (referring b near) a.rows _ _
             (pairs-map-right fee-settled (λ s t q. kept-fee s t q) (pairs-set-self kept_self b.rows i r blank (rw (number_at b.rows n blank low) (record { kind = refl; reference = refl }))))
@@ -276,6 +278,7 @@ return_check-agrees b p e near a h k =
       day = a.day;
       schedule = a.schedule;
       lists = a.lists;
+      holidays = a.holidays;
       notes = ac.notes;
       rows = grow b.rows p.entries (referring b near) a.rows olds p.entries keeps (pairs-self (λ y. refl) p.entries)
           (pairs-set-left (n - 1) r no_entry new (pairs-to (λ s y q. q.is) a.rows))

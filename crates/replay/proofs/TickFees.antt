@@ -119,10 +119,10 @@ module _ (p : Replay) (e : Instruction) where
   close-steady : Steady after_raising (tick_replay p e).entries
   unfolding tick_replay close_all use_money add_refund
   close-steady =
-      steady_then (steady-still (pairs-map-self (use_money today p.notes after_raising)
-      (λ x. cond_either (λ (y : Entry). Still x y) (is_money x && closing today after_raising x.account (note_no p.notes x.account)) (cover_whole x) x (record { kind = refl; toll = refl; amount = refl; day = refl; opened = refl }) (still-self x)) after_raising))
-      (steady-append _ _ (pairs-gather (add_refund today after_raising) (add_refund today after_raising) no_note no_note 1 p.notes p.notes refl
-      (λ k n q l. pairs-one (closing today after_raising n (get_or p.notes k no_note) && ltb (money_out n after_raising) (money_in n after_raising)) _ _ (λ v. record { toll = refl; opened = refl }))))
+      steady_then (steady-still (pairs-map-self (use_money p.holidays today p.notes after_raising)
+      (λ x. cond_either (λ (y : Entry). Still x y) (is_money x && closing p.holidays today after_raising x.account (note_no p.notes x.account)) (cover_whole x) x (record { kind = refl; toll = refl; amount = refl; day = refl; opened = refl }) (still-self x)) after_raising))
+      (steady-append _ _ (pairs-gather (add_refund p.holidays today after_raising) (add_refund p.holidays today after_raising) no_note no_note 1 p.notes p.notes refl
+      (λ k n q l. pairs-one (closing p.holidays today after_raising n (get_or p.notes k no_note) && ltb (money_out n after_raising) (money_in n after_raising)) _ _ (λ v. record { toll = refl; opened = refl }))))
 
   pub tick-fees : (n : ℕ) → 1 ≤ n → collect (fee_share n) (tick_replay p e).entries ≡ collect (fee_share n) xs ++ fees_at p.schedule (λ k. reaches p.schedule.stage k (entry_no xs n)) (λ k. today)
   tick-fees n h = close-steady.fees n h ∙ after_raising-fees n h

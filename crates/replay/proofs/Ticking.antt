@@ -138,7 +138,7 @@ module _ (b : Book) (p : Replay) (sound : Sound b) (a : Agrees b p) where
   -- ---- money used up
 
   use-match : (k : ℕ) → k < length rows_now → Match 0 today stage (get_or rows_now k blank) (get_or entries_now k no_entry)
-      → Match 0 today stage (use_up book_now (get_or rows_now k blank)) (use_money today p.notes entries_now (get_or entries_now k no_entry))
+      → Match 0 today stage (use_up book_now (get_or rows_now k blank)) (use_money p.holidays today p.notes entries_now (get_or entries_now k no_entry))
   unfolding use_up use_money
   use-match k h m = by (judge b p sound a y-account)
     where
@@ -166,7 +166,7 @@ module _ (b : Book) (p : Replay) (sound : Sound b) (a : Agrees b p) where
   -- ---- refunds
 
   refund-pairs : (rows : List Row) (k n : ℕ) → n ≡ 1 + k → k < length b.accounts
-      → Pairs (Named (Match 0 today stage) rows) (refund_row book_now n (get_or b.accounts k unused)) (add_refund today entries_now n (get_or p.notes k no_note))
+      → Pairs (Named (Match 0 today stage) rows) (refund_row book_now n (get_or b.accounts k unused)) (add_refund p.holidays today entries_now n (get_or p.notes k no_note))
   unfolding refund_row add_refund toll_named
   refund-pairs rows k n e h = let z : n ≡ suc k = omega arith in rw z (by (judge b p sound a (suc k)))
     where
@@ -200,21 +200,21 @@ module _ (b : Book) (p : Replay) (sound : Sound b) (a : Agrees b p) where
   unfolding use_up
   use_kept r = cond_either (λ (s : Row). Kept r s) (source r && closes book_now r.account (account book_now r.account)) (settle_whole r) r (record { kind = refl; reference = refl }) (record { kind = refl; reference = refl })
 
-  use-toll : (y : Entry) → SameToll y (use_money today p.notes entries_now y)
+  use-toll : (y : Entry) → SameToll y (use_money p.holidays today p.notes entries_now y)
   unfolding use_money
-  use-toll y = cond_either (λ (z : Entry). SameToll y z) (is_money y && closing today entries_now y.account (note_no p.notes y.account)) (cover_whole y) y refl refl
+  use-toll y = cond_either (λ (z : Entry). SameToll y z) (is_money y && closing p.holidays today entries_now y.account (note_no p.notes y.account)) (cover_whole y) y refl refl
 
   close-noted : (n : ℕ) (x : Account) (y : Note) → Noted x y → Noted (close_if book_now n x) y
   unfolding close_if
   close-noted n x y q = cond_either (λ (z : Account). Noted z y) (closes book_now n x) (closed x) x (record { request = q.request; topup = q.topup }) q
 
   close-rows : Rows (Match 0 today stage) (map (use_up book_now) rows_now ++ gather (refund_row book_now) b.accounts)
-      (map (use_money today p.notes entries_now) entries_now ++ gather (add_refund today entries_now) p.notes)
+      (map (use_money p.holidays today p.notes entries_now) entries_now ++ gather (add_refund p.holidays today entries_now) p.notes)
   close-rows =
       grow rows_now entries_now after_raising-referring (rows b p sound a) _ _
-      (pairs-map-self (use_up book_now) use_kept rows_now) (pairs-map-self (use_money today p.notes entries_now) use-toll entries_now)
-      (pairs-map-in (use_up book_now) (use_money today p.notes entries_now) blank no_entry (rows b p sound a) (λ k h m. use-match k h m.is))
-      _ _ (pairs-gather (refund_row book_now) (add_refund today entries_now) unused no_note 1 b.accounts p.notes (pairs-length a.notes) (refund-pairs _))
+      (pairs-map-self (use_up book_now) use_kept rows_now) (pairs-map-self (use_money p.holidays today p.notes entries_now) use-toll entries_now)
+      (pairs-map-in (use_up book_now) (use_money p.holidays today p.notes entries_now) blank no_entry (rows b p sound a) (λ k h m. use-match k h m.is))
+      _ _ (pairs-gather (refund_row book_now) (add_refund p.holidays today entries_now) unused no_note 1 b.accounts p.notes (pairs-length a.notes) (refund-pairs _))
 
   pub tick-agrees : (e : Instruction) → Agrees (tick b e) (tick_replay p e)
   unfolding tick close_accounts raise_tolls before_raising settled end_holds next_day tick_replay close_all
@@ -222,6 +222,7 @@ module _ (b : Book) (p : Replay) (sound : Sound b) (a : Agrees b p) where
     day = ap (λ (n : ℕ). n + 1) a.day;
     schedule = a.schedule;
     lists = a.lists;
+    holidays = a.holidays;
     rows = rw (← a.day) (rw (← a.day) at close-rows);
     notes = pairs-change-left (close_if book_now) close-noted 1 a.notes;
   }

@@ -10,7 +10,7 @@ use Rattle.rules.specs.Rows.{Row, kind_toll, kind_fee, row_no, held_toll, fee_na
 use Rattle.rules.specs.Book.{Instruction, Book, row, balance}
 use Rattle.rules.specs.Refusals.{answer_number}
 use Rattle.rules.specs.Posting.{post}
-use Rattle.rules.specs.Tables.{Tables, accounts_in, schedule_from, rates_from, book_of}
+use Rattle.rules.specs.Tables.{Tables, accounts_in, holidays_in, schedule_from, rates_from, book_of}
 use Rattle.rules.specs.Calls.{Event, Called, open_call, event_call, batch_call, event_refusals, batch_refusals}
 use Rattle.replay.specs.Entries.{Entry, entry_no, is_money, is_debt, is_toll, covered_whole, on_hold, balance_of}
 use Rattle.replay.specs.Replay.{Replay, Report, replay_one, replay, begin}
@@ -115,7 +115,8 @@ pub record Demand3 (b : Book) (start : Replay) (hs : List Report) (xs : List Ent
 
 -- "It starts where opening gave 0": w is the opening's words, t the tables it was given
 unfoldable pub replay_start : Tables → List ℤ → Replay
-replay_start t w = begin (word w first_day_place) (schedule_from w opening_schedule) (rates_from w opening_rates) (accounts_in t)
+replay_start t w =
+    begin (word w first_day_place) (schedule_from w opening_schedule) (rates_from w opening_rates) (holidays_in t) (accounts_in t)
 
 -- the claim over any tables and words for which opening gives 0, and any list of calls
 abbrev pub Claim3 : Type 0

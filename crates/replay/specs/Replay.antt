@@ -7,6 +7,7 @@ use Rattle.lists.specs.Lists.{sum_by, only, exists, one, gather}
 use Rattle.records.specs.Limits.{return_fee, hold_days, closing_days}
 use Rattle.rules.specs.Schedule.{Rates, Schedule, class, rate, stage_fee}
 use Rattle.rules.specs.RateLists.{RateList, in_force, list_of}
+use Rattle.rules.specs.BusinessDays.{business_day}
 use Rattle.replay.specs.Entries.{Entry, EntryTest, kind_toll, kind_fee, kind_reversal, kind_payment, kind_credit, kind_refund, new_entry, with_covered, with_hold, with_ticks, with_open_days, with_toll, entry_no, is_money, is_toll, uncovered, covered_whole, cover_whole, fee_of, money_in, money_out, settle_all_entries}
 
 -- "per account the top-up amount and request day"
@@ -19,17 +20,25 @@ abbrev pub no_note : Note
 no_note = record { topup = 0; request = 0 }
 
 -- "It keeps the day, per account the top-up amount and request day, and entries"; the schedule is the opening's, the rate lists are those
--- added so far (document 02, No. 1)
+-- added so far (document 02, No. 1), the holidays those lent with the opening (No. 6)
 pub record Replay : Type 0 where
   pub day : ℕ
   pub schedule : Schedule
   pub lists : List RateList
+  pub holidays : List ℕ
   pub notes : List Note
   pub entries : List Entry
 
 -- the replay with other entries
 abbrev pub with_entries : List Entry → Replay → Replay
-with_entries xs p = record { day = p.day; schedule = p.schedule; lists = p.lists; notes = p.notes; entries = xs }
+with_entries xs p = record {
+  day = p.day;
+  schedule = p.schedule;
+  lists = p.lists;
+  holidays = p.holidays;
+  notes = p.notes;
+  entries = xs;
+}
 
 -- the note of account n, counted from 1
 abbrev pub note_no : List Note → ℕ → Note
@@ -37,7 +46,14 @@ note_no ns n = get_or (no_note ∷ ns) n no_note
 
 -- the note of account n, written
 abbrev pub put_note : ℕ → Note → Replay → Replay
-put_note n x p = record { day = p.day; schedule = p.schedule; lists = p.lists; notes = set p.notes (n - 1) x; entries = p.entries }
+put_note n x p = record {
+  day = p.day;
+  schedule = p.schedule;
+  lists = p.lists;
+  holidays = p.holidays;
+  notes = set p.notes (n - 1) x;
+  entries = p.entries;
+}
 
 -- an entry more
 abbrev pub add_entry : Entry → Replay → Replay
@@ -136,27 +152,29 @@ add_fee s today n x k =
 unfoldable pub add_fees : Schedule → ℕ → ℕ → Entry → List Entry
 add_fees s today n x = add_fee s today n x 2 ++ add_fee s today n x 3 ++ add_fee s today n x 4
 
--- "each requested account at or past request + 15, with no toll held and a balance by demand 3's formula of at least 0, closes"
-unfoldable pub closing : ℕ → List Entry → ℕ → Note → Bool
-closing today xs a x =
-    ltb 0 x.request && leb (x.request + closing_days) today
+-- "each requested account at or past request + 15, with no toll held and a balance by demand 3's formula of at least 0, closes"; "The
+-- replay closes on such days only" (document 02, No. 6)
+unfoldable pub closing : List ℕ → ℕ → List Entry → ℕ → Note → Bool
+closing hs today xs a x =
+    ltb 0 x.request && business_day hs today && leb (x.request + closing_days) today
     && not (exists (λ y. y.account is a && (is_toll y && y.hold)) xs)
     && leb (money_out a xs) (money_in a xs)
 
 -- "that balance, if not 0, is added as a refund covered whole"
-unfoldable pub add_refund : ℕ → List Entry → ℕ → Note → List Entry
-add_refund today xs a x =
-    one (closing today xs a x && ltb (money_out a xs) (money_in a xs))
+unfoldable pub add_refund : List ℕ → ℕ → List Entry → ℕ → Note → List Entry
+add_refund hs today xs a x =
+    one (closing hs today xs a x && ltb (money_out a xs) (money_in a xs))
     (cover_whole (new_entry kind_refund a today (money_in a xs - money_out a xs)))
 
 -- "all its money used"
-unfoldable pub use_money : ℕ → List Note → List Entry → Entry → Entry
-use_money today ns xs y = cond (is_money y && closing today xs y.account (note_no ns y.account)) (cover_whole y) y
+unfoldable pub use_money : List ℕ → ℕ → List Note → List Entry → Entry → Entry
+use_money hs today ns xs y = cond (is_money y && closing hs today xs y.account (note_no ns y.account)) (cover_whole y) y
 
 -- all closings of a tick, judged on the entries before them
 unfoldable pub close_all : Replay → Replay
 close_all p =
-    with_entries (map (use_money p.day p.notes p.entries) p.entries ++ gather (add_refund p.day p.entries) p.notes) p
+    with_entries
+    (map (use_money p.holidays p.day p.notes p.entries) p.entries ++ gather (add_refund p.holidays p.day p.entries) p.notes) p
 
 -- "9: the day rises; .. settlement; .. adds fee k ..; by number, each requested account .. closes"
 unfoldable pub tick_replay : Step
@@ -167,6 +185,7 @@ tick_replay p e =
       day = today;
       schedule = p.schedule;
       lists = p.lists;
+      holidays = p.holidays;
       notes = p.notes;
       entries = xs ++ gather (add_fees p.schedule today) p.entries;
     })
@@ -175,7 +194,14 @@ tick_replay p e =
 
 -- "adds one list"
 unfoldable pub note_list : Step
-note_list p e = record { day = p.day; schedule = p.schedule; lists = p.lists ++ (list_of e ∷ []); notes = p.notes; entries = p.entries }
+note_list p e = record {
+  day = p.day;
+  schedule = p.schedule;
+  lists = p.lists ++ (list_of e ∷ []);
+  holidays = p.holidays;
+  notes = p.notes;
+  entries = p.entries;
+}
 
 -- ---- any event
 
@@ -202,13 +228,14 @@ unfoldable pub replay : Replay → List Report → Replay
 replay p [] = p
 replay p (h ∷ hs) = replay (replay_one p h) hs
 
--- the replay at the opening: its day, its schedule and rates, and how many accounts its table has; "The opening's list has the opening day
--- as its first day"
-unfoldable pub begin : ℕ → Schedule → Rates → ℕ → Replay
-begin day s r accounts = record {
+-- the replay at the opening: its day, its schedule and rates, its holidays, and how many accounts its table has; "The opening's list has
+-- the opening day as its first day"
+unfoldable pub begin : ℕ → Schedule → Rates → List ℕ → ℕ → Replay
+begin day s r hs accounts = record {
   day = day;
   schedule = s;
   lists = record { first_day = day; rates = r } ∷ [];
+  holidays = hs;
   notes = replicate accounts no_note;
   entries = [];
 }

@@ -13,6 +13,8 @@ pub record RowLeft (t u : List ℤ) (used i : ℕ) : Type 0 where
   pub same : row_at u i ≡ row_at t i
 
 -- from the journal t on, the step may be called at each used row, and makes of it what f gives
-pub record MapsRows {F : Type 0} (g : Shared F (MutBor (List ℤ) × (ℕ × Unit {0})) (Unit {0} × (MutBor (List ℤ) × Unit {0}))) (step : F) (f : Row → Row) (t : List ℤ) (used : ℕ) : Type 0 where
+pub record MapsRows {F : Type 0} (g : Shared F (MutBor (List ℤ) × (ℕ × Unit {0})) (Unit {0} × (MutBor (List ℤ) × Unit {0})))
+    (step : F) (f : Row → Row) (t : List ℤ) (used : ℕ) : Type 0 where
   pub takes : (p : MutBor (List ℤ)) (i : ℕ) → RowLeft t p.now used i → g.pre step (p, (i, tt))
-  pub gives : (p q : MutBor (List ℤ)) (i : ℕ) → RowLeft t p.now used i → g.post step (p, (i, tt)) (tt, (q, tt)) → RowChanged p.now q.now i (f (row_at p.now i))
+  pub gives : (p q : MutBor (List ℤ)) (i : ℕ) → RowLeft t p.now used i → g.post step (p, (i, tt)) (tt, (q, tt))
+      → RowChanged p.now q.now i (f (row_at p.now i))

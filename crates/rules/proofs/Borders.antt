@@ -17,7 +17,7 @@ use Rattle.rules.specs.Refusals.{well_formed, answer_number}
 use Rattle.rules.specs.Posting.{book_after}
 use Rattle.rules.specs.Opening.{opening, day_fits, sizes_fit}
 use Rattle.rules.specs.Soundness.{kind_fits, amount_fits, settled_fits, mark_fits, toll_words_fit, no_reference, row_day_fits, due_fits, hold_fits, account_used, reference_fits, passage_once, fees_fit, state_fits, unused_zero, request_fits, topup_fits, decline_fits, returned_fits, used_is_paid, no_idle_money, closed_clear}
-use Rattle.rules.specs.Tables.{Tables, sound_tables}
+use Rattle.rules.specs.Tables.{Tables, tables_at, sound_tables}
 use Rattle.rules.specs.Calls.{batch_refusals, open_call, event_call, batch_call, topup_due_call}
 use Rattle.rules.proofs.Computing.{computing}
 use Rattle.rules.proofs.Examples.{Case, ◌gives◌, ◌amounts-to◌, event, ticks, schedule, rates, small, numbers}
@@ -77,9 +77,9 @@ topped_up t a n d = an_account 1 0 0 t a n d
 abbrev open_one : Instruction
 open_one = event 1 1 0 0 0 0 0
 
--- opened on day 1, closed on day 16
+-- opened on day 1, closed on day 17, a Monday, as day 16 is a Sunday
 abbrev closed_one : List Instruction
-closed_one = open_one ∷ event 3 1 100 3 0 0 0 ∷ event 8 1 0 0 0 0 0 ∷ ticks 15
+closed_one = open_one ∷ event 3 1 100 3 0 0 0 ∷ event 8 1 0 0 0 0 0 ∷ ticks 16
 
 -- stages of one day: an unpaid toll after n ticks
 abbrev daily : ℕ → Book
@@ -101,11 +101,11 @@ batch_of n = first (batch_refusals opened (replicate n (sent 9 0 0 0)) (replicat
 
 -- the posted book of two rows in three with one word of the header changed
 abbrev header_word : ℕ → ℕ → Tables
-header_word k n = record { header = set posted.header k (pos n); accounts = posted.accounts; journal = posted.journal }
+header_word k n = tables_at (set posted.header k (pos n)) posted.accounts posted.journal []
 
 -- the tables with other lengths
 abbrev lengths_of : ℕ → ℕ → ℕ → Tables
-lengths_of h a j = record { header = replicate h (pos 9); accounts = replicate a (pos 9); journal = replicate j (pos 9) }
+lengths_of h a j = tables_at (replicate h (pos 9)) (replicate a (pos 9)) (replicate j (pos 9)) []
 
 -- as many words of a schedule
 abbrev opened_by : List ℤ → ℕ
@@ -121,7 +121,7 @@ low_on2 = (batch_call opened (sent 1 2 100 2_000 ∷ []) (replicate 5 (pos 7))).
 
 -- a pending account whose days are over, with so much unused money
 abbrev leaving : ℕ → Book
-leaving n = record { day = 20; schedule = schedule; lists = (small 1).lists; accounts = an_account 2 5 0 0 0 0 0 ∷ []; rows = a_row 4 n ∷ []; room = 9 }
+leaving n = record { day = 20; schedule = schedule; lists = (small 1).lists; accounts = an_account 2 5 0 0 0 0 0 ∷ []; rows = a_row 4 n ∷ []; room = 9; holidays = [] }
 
 -- a toll of day 1, disputed at once and decided three days later
 abbrev decided : ℕ → Row
@@ -262,7 +262,7 @@ cases =
     ∷ (numbers (small 1)
     (closed_one ++ event 2 1 41 16 2 60 2 ∷ event 3 1 1 1 0 0 0 ∷ event 7 1 0 1 0 0 0 ∷ event 8 1 0 0 0 0 0
     ∷ event 5 1 1 0 0 0 0 ∷ event 6 1 1 0 0 0 0 ∷ event 4 1 1 7 0 0 0 ∷ event 8 1 0 0 0 0 0 ∷ [])
-    gives replicate 18 0 ++ 5 ∷ 5 ∷ 5 ∷ 5 ∷ 10 ∷ 10 ∷ 0 ∷ 11 ∷ [])
+    gives replicate 19 0 ++ 5 ∷ 5 ∷ 5 ∷ 5 ∷ 10 ∷ 10 ∷ 0 ∷ 11 ∷ [])
     ∷ ((account (book_after (small 1) (closed_one ++ event 4 1 1 7 0 0 0 ∷ [])) 1).state
     ∷ (account (book_after (small 1) (closed_one ++ event 4 1 1 7 0 0 0 ∷ [])) 1).request
     ∷ (row (book_after (small 1) (closed_one ++ event 4 1 1 7 0 0 0 ∷ [])) 4).amount ∷ [] gives 2 ∷ 1 ∷ 507 ∷ [])
@@ -293,8 +293,8 @@ cases =
     gives 34 ∷ 2 ∷ 0 ∷ 31 ∷ 3 ∷ 0 ∷ [])
     ∷ (map (λ r. r.settled) upheld_with_fee.rows ++ (row upheld_with_fee 3).amount ∷ [] gives 500 ∷ 20 ∷ 520 ∷ 520 ∷ [])
     -- closing: no refund of nothing; a held toll keeps the account pending
-    ∷ (length (book_after (small 1) (open_one ∷ event 8 1 0 0 0 0 0 ∷ ticks 15)).rows
-    ∷ (account (book_after (small 1) (open_one ∷ event 2 1 41 1 2 60 2 ∷ event 5 1 1 0 0 0 0 ∷ event 8 1 0 0 0 0 0 ∷ ticks 15)) 1).state ∷ []
+    ∷ (length (book_after (small 1) (open_one ∷ event 8 1 0 0 0 0 0 ∷ ticks 16)).rows
+    ∷ (account (book_after (small 1) (open_one ∷ event 2 1 41 1 2 60 2 ∷ event 5 1 1 0 0 0 0 ∷ event 8 1 0 0 0 0 0 ∷ ticks 16)) 1).state ∷ []
     gives 0 ∷ 2 ∷ [])
     -- stages of one day: each fee with its stage, none before stage 2 and none after stage 4
     ∷ (stage_and_fees (daily 1) ++ stage_and_fees (daily 2) ++ stage_and_fees (daily 3) ++ stage_and_fees (daily 5) gives

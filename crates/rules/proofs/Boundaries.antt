@@ -66,7 +66,7 @@ abbrev three_declines : List Instruction
 three_declines = open_topup ∷ result 0 ∷ result 0 ∷ ticks 1 ++ result 0 ∷ ticks 1 ++ result 0 ∷ []
 
 abbrev closing : List Instruction → Book
-closing es = from 1 (open_one ∷ pay 700 1 ∷ es ++ event 8 1 0 0 0 0 0 ∷ ticks 15)
+closing es = from 1 (open_one ∷ pay 700 1 ∷ es ++ event 8 1 0 0 0 0 0 ∷ ticks 16)
 
 pub cases : List Case
 cases =

@@ -4,7 +4,7 @@ use Prim.Native.Nat.{ℕ}
 use mathlib.Core.List.{List, [], ◌∷◌, map}
 use lib.ListN.{length, replicate, set}
 use lib.IntN.{ℤ, pos, negsuc}
-use Rattle.rules.specs.Tables.{Tables}
+use Rattle.rules.specs.Tables.{Tables, tables_at}
 use Rattle.rules.specs.Calls.{Event, open_call, event_call, batch_call, balance_call, topup_due_call, row_call}
 use Rattle.rules.proofs.Computing.{computing}
 use Rattle.rules.proofs.Examples.{Case, ◌gives◌, ◌amounts-to◌}
@@ -13,7 +13,7 @@ use Rattle.rules.proofs.Examples.{Case, ◌gives◌, ◌amounts-to◌}
 
 -- as a host may hand them over, full of other numbers
 abbrev pub lent : Tables
-lent = record { header = replicate 62 (pos 9); accounts = replicate 16 (pos 9); journal = replicate 30 (pos 9) }
+lent = tables_at (replicate 62 (pos 9)) (replicate 16 (pos 9)) (replicate 30 (pos 9)) []
 
 abbrev pub schedule_words : List ℤ
 schedule_words = pos 1 ∷ pos 30 ∷ pos 500 ∷ pos 2500 ∷ pos 3000 ∷ pos 250 ∷ pos 500 ∷ pos 600 ∷ pos 900 ∷ pos 1200 ∷ pos 1600 ∷ []
@@ -42,14 +42,14 @@ posted = (batch_call opened day (replicate 20 (pos 7))).tables
 
 -- a book that is sound but for one word: row 1 of kind 7
 abbrev damaged : Tables
-damaged = record { header = posted.header; accounts = posted.accounts; journal = set posted.journal 0 (pos 7) }
+damaged = tables_at posted.header posted.accounts (set posted.journal 0 (pos 7)) []
 
 pub cases : List Case
 cases =
     -- opening: 0; lengths unfit: 1; schedule out of range or too short: 2
     ((open_call lent schedule_words).number
-    ∷ (open_call (record { header = lent.header; accounts = replicate 15 (pos 9); journal = lent.journal }) schedule_words).number
-    ∷ (open_call (record { header = lent.header; accounts = []; journal = lent.journal }) schedule_words).number
+    ∷ (open_call (tables_at lent.header (replicate 15 (pos 9)) lent.journal []) schedule_words).number
+    ∷ (open_call (tables_at lent.header [] lent.journal []) schedule_words).number
     ∷ (open_call lent (set schedule_words 1 (pos 366))).number
     ∷ (open_call lent (set schedule_words 0 (negsuc 0))).number
     ∷ (open_call lent []).number ∷ [] gives 0 ∷ 1 ∷ 1 ∷ 2 ∷ 2 ∷ 2 ∷ [])

@@ -8,7 +8,7 @@ use lib.ListN.{length, length-replicate}
 use lib.IntN.{ℤ}
 use lib.Dec.{leb}
 use borrow.Author.Tests.{le-leb, lt-ltb, leb-true, not-false, eq-eqb, eqb-true}
-use Rattle.records.specs.Numbers.{answer_unsound, answer_malformed}
+use Rattle.records.specs.Numbers.{answer_unsound, answer_malformed, answer_holidays}
 use Rattle.records.specs.Layout.{opening_width, first_day_place, opening_schedule, opening_rates}
 use Rattle.records.specs.Encoding.{word}
 use Rattle.records.specs.Limits.{final_day}
@@ -22,9 +22,11 @@ use Rattle.rules.specs.Settlement.{money, debt, used, paid, owed}
 use Rattle.rules.specs.Book.{unused}
 use Rattle.rules.specs.Opening.{opening, day_fits, sizes_fit}
 use Rattle.rules.specs.Soundness.{sound, account_sound, state_fits, unused_zero, request_fits, topup_fits, decline_fits, returned_fits, returned_of, used_is_paid, no_idle_money, closed_clear}
-use Rattle.rules.specs.Tables.{Tables, accounts_in, room_in, schedule_from, rates_from, book_of, tables_of, whole_records, lengths_fit, sound_tables}
+use Rattle.rules.specs.BusinessDays.{holidays_fit}
+use Rattle.rules.specs.Tables.{Tables, accounts_in, room_in, holidays_in, schedule_from, rates_from, book_of, tables_of, whole_records, lengths_fit, sound_tables}
 use Rattle.rules.specs.Calls.{opening_fits, opening_refusals, opened_book, open_call}
 use Rattle.rules.proofs.SoundnessLaws.{sound-facts}
+use Rattle.rules.proofs.HolidayLaws.{sound-with_holidays}
 use Rattle.rules.proofs.TableLaws.{book_of-tables_of, sound_tables-tables_of}
 
 unused-sound : (day : ℕ) (s : Schedule) (r : Rates) (accounts room n : ℕ) → account_sound (opening day s r accounts room) n unused ≡ true
@@ -40,7 +42,7 @@ opening-lists day r d f =
 
 pub opening-sound : (day : ℕ) (s : Schedule) (r : Rates) (accounts room : ℕ) → day_fits day ≡ true → schedule_fits s ≡ true → rates_fit r ≡ true → sizes_fit accounts room ≡ true
     → sound (opening day s r accounts room) ≡ true
-unfolding opening sound all_of every_from
+unfolding opening sound all_of every_from holidays_fit
 opening-sound day s r accounts room d f g n =
     rw (
       d,
@@ -86,12 +88,17 @@ module _ (t : Tables) (w : List ℤ) (e : (open_call t w).number ≡ 0) where
   unfolding opening_refusals case_of
   words = opening-words w (not-false (opening_fits w) (refusals-fail answer_malformed))
 
+  pub holidays-fit : holidays_fit (holidays_in t) ≡ true
+  unfolding opening_refusals case_of
+  holidays-fit = not-false (holidays_fit (holidays_in t)) (refusals-fail answer_holidays)
+
   pub opened_book-sound : sound (opened_book t w) ≡ true
   unfolding opened_book lengths_fit
   opened_book-sound =
-      opening-sound (word w first_day_place) (schedule_from w opening_schedule) (rates_from w opening_rates) (accounts_in t) (room_in t)
+      sound-with_holidays (holidays_in t) _ holidays-fit
+      (opening-sound (word w first_day_place) (schedule_from w opening_schedule) (rates_from w opening_rates) (accounts_in t) (room_in t)
       words.day words.schedule words.rates
-      (and_right (whole_records t) (sizes_fit (accounts_in t) (room_in t)) lengths-fit)
+      (and_right (whole_records t) (sizes_fit (accounts_in t) (room_in t)) lengths-fit))
 
   pub open_call-tables : (open_call t w).tables ≡ tables_of (opened_book t w)
   unfolding open_call

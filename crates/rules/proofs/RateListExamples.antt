@@ -8,7 +8,7 @@ use lib.IntN.{ℤ, pos, negsuc}
 use Rattle.rules.specs.RateLists.{RateList}
 use Rattle.rules.specs.Book.{Instruction, Book, row}
 use Rattle.rules.specs.Posting.{book_after}
-use Rattle.rules.specs.Tables.{Tables, book_of, sound_tables}
+use Rattle.rules.specs.Tables.{Tables, tables_at, book_of, sound_tables}
 use Rattle.rules.specs.Calls.{Event, batch_call}
 use Rattle.rules.proofs.Computing.{computing}
 use Rattle.rules.proofs.Examples.{Case, ◌gives◌, event, ticks, small, numbers}
@@ -49,7 +49,7 @@ abbrev listed : Tables
 listed = (batch_call opened (sent10 5 ∷ sent10 9 ∷ []) (replicate 10 (pos 7))).tables
 
 abbrev word : ℕ → ℤ → Tables
-word k z = record { header = set listed.header k z; accounts = listed.accounts; journal = listed.journal }
+word k z = tables_at (set listed.header k z) listed.accounts listed.journal []
 
 pub cases : List Case
 cases =

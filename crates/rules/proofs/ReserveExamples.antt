@@ -52,7 +52,7 @@ abbrev pending : List Instruction
 pending = opened ∷ event 3 1 700 3 0 0 0 ∷ event 8 1 0 0 0 0 0 ∷ []
 
 abbrev closed : Book
-closed = book_after (small 1) (pending ++ ticks 15)
+closed = book_after (small 1) (pending ++ ticks 16)
 
 pub cases : List Case
 cases =
@@ -78,7 +78,7 @@ cases =
     ∷ (left_by (reserved_then (once ++ ticks 1 ++ result 1 ∷ event 2 1 41 2 5 60 2 ∷ event 2 1 42 2 5 60 2 ∷ once)) 0
     gives 100 ∷ 2_000 ∷ 2 ∷ 5 ∷ 1 ∷ 0 ∷ 0 ∷ [])
     -- a closed account keeps its words
-    ∷ (topup_words (book_after (small 1) (opened ∷ reserve 1 ∷ event 8 1 0 0 0 0 0 ∷ ticks 15)) gives 100 ∷ 2_000 ∷ 0 ∷ 0 ∷ 1 ∷ [])
+    ∷ (topup_words (book_after (small 1) (opened ∷ reserve 1 ∷ event 8 1 0 0 0 0 0 ∷ ticks 16)) gives 100 ∷ 2_000 ∷ 0 ∷ 0 ∷ 1 ∷ [])
     -- sound: 0 or 1, and 0 without a primary
     ∷ (map (λ n. sound (put_account 1 (with_reserve n (account closed 1)) closed)) (0 ∷ 1 ∷ 2 ∷ []) are 1 ∷ 1 ∷ 0 ∷ [])
     ∷ (map (λ n. sound (put_account 1 (with_reserve n (account plain 1)) plain)) (0 ∷ 1 ∷ []) are 1 ∷ 0 ∷ [])

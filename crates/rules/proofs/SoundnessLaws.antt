@@ -13,6 +13,7 @@ use Rattle.lists.proofs.TestLaws.{all_of-at}
 use Rattle.lists.proofs.ListLaws.{every-at, every-all}
 use Rattle.rules.specs.Schedule.{schedule_fits}
 use Rattle.rules.specs.RateLists.{lists_fit}
+use Rattle.rules.specs.BusinessDays.{holidays_fit}
 use Rattle.rules.specs.Rows.{blank}
 use Rattle.rules.specs.Book.{unused, Book}
 use Rattle.rules.specs.Opening.{day_fits, sizes_fit}
@@ -23,7 +24,7 @@ use Rattle.rules.specs.SoundFacts.{Sound}
 
 module _ (b : Book) (e : sound b ≡ true) where
   part : (k : ℕ) → get_or (day_fits b.day ∷ schedule_fits b.schedule ∷ lists_fit b.lists ∷ sizes_fit (length b.accounts) b.room ∷ leb (length b.rows) b.room
-      ∷ every (row_sound b) b.rows ∷ every (account_sound b) b.accounts ∷ []) k true ≡ true
+      ∷ every (row_sound b) b.rows ∷ every (account_sound b) b.accounts ∷ holidays_fit b.holidays ∷ []) k true ≡ true
   unfolding sound
   part = all_of-at _ e
 
@@ -57,6 +58,7 @@ module _ (b : Book) (e : sound b ≡ true) where
       live = λ k h. let p = all_of-at _ (row-sound k h) in record { settled = p 2; due = p 7; hold = p 8 };
       standing = λ k h. let p = all_of-at _ (account-sound k h) in record { state = p 0; zero = p 1; request = p 2; topup = p 3; decline = p 4 };
       counted = λ k h. let p = all_of-at _ (account-sound k h) in record { returned = p 5; used-is-paid = p 6; clear = p 8 };
+      holidays = part 7;
     };
     no-idle-money = λ k h. all_of-at _ (account-sound k h) 7;
   }
@@ -76,4 +78,4 @@ facts-sound b s =
     let v = s.near.standing k h in
     let w = s.near.counted k h in
     rw (z, v.state, v.zero, v.request, v.topup, v.decline, w.returned, w.used-is-paid, s.no-idle-money k h, w.clear)) in
-    rw (s.near.day, s.near.schedule, s.near.lists, s.near.sizes, s.near.fits, p, q)
+    rw (s.near.day, s.near.schedule, s.near.lists, s.near.sizes, s.near.fits, p, q, s.near.holidays)

@@ -21,11 +21,13 @@ use Rattle.rules.specs.Book.{unused, Book, with_lists}
 use Rattle.rules.specs.Opening.{sizes_fit}
 use Rattle.rules.specs.Soundness.{sound}
 use Rattle.rules.specs.RateLists.{RateList, no_list, list_no, list_in_range}
-use Rattle.rules.specs.Tables.{Tables, accounts_in, room_in, rows_used, schedule_from, rates_from, first_list_in, list_from, later_list_at, lists_used, lists_in, book_of, schedule_words, rates_words, list_words, later_lists_words, header_words, tables_of, whole_records, lengths_fit, used_fits, zero_word, later_rows_zero, unused_lists_zero, sound_tables}
+use Rattle.rules.specs.BusinessDays.{holidays_fit}
+use Rattle.rules.specs.Tables.{Tables, accounts_in, room_in, rows_used, holidays_in, schedule_from, rates_from, first_list_in, list_from, later_list_at, lists_used, lists_in, book_of, schedule_words, rates_words, list_words, later_lists_words, header_words, tables_of, whole_records, lengths_fit, used_fits, zero_word, later_rows_zero, unused_lists_zero, sound_tables}
 use Rattle.rules.specs.SoundFacts.{Near, Sound}
 use Rattle.rules.proofs.SoundnessLaws.{sound-facts}
 use Rattle.rules.proofs.RateListLaws.{some-list, few-lists, list-in-range}
 use Rattle.rules.proofs.StorableLaws.{StorableList, day-le, room-le, rows-le, row-storable, account-storable, schedule-storable, list-at-storable}
+use Rattle.rules.proofs.HolidayLaws.{days-again, holidays-again}
 use Rattle.rules.proofs.HeaderLaws.{list-codec, used-written, lists-written, length-later_lists_words, list_put, lists-again}
 
 -- ---- a book's tables, read back
@@ -136,6 +138,7 @@ module _ {past : ℕ} (b : Book) (n : Near past b) where
         day-again,
         schedule-again,
         lists-tables_of,
+        days-again b.holidays,
         read-write_all row_width row_from row_words StorableRow row-codec b.rows z blank,
         read-write_all-whole account_width account_from account_words StorableAccount account-codec b.accounts unused,
       )
@@ -308,7 +311,9 @@ module _ (t : Tables) (h : sound_tables t ≡ true) where
   unfolding tables_of
   tables_of-book_of =
       let room : (book_of t).room ≡ room_in t = unfold book_of in refl in
-      rw (header-again, accounts-again, rows-again, length-sound-rows, room, rest-again, take-append-drop)
+      let days : (book_of t).holidays ≡ holidays_in t = unfold book_of in refl in
+      let fits : holidays_fit (holidays_in t) ≡ true = rw days at near.holidays in
+      rw (header-again, accounts-again, rows-again, length-sound-rows, room, rest-again, take-append-drop, days, holidays-again t.holidays fits)
 
 -- ---- a sound book's tables are sound
 

@@ -1,5 +1,5 @@
--- The book (document 01, "The book"): a day, a schedule, rate lists (document 02, No. 1), accounts, the used rows, and how many rows the
--- journal has room for.
+-- The book (document 01, "The book"): a day, a schedule, rate lists (document 02, No. 1), accounts, the used rows, how many rows the
+-- journal has room for, and the holidays (No. 6).
 use Rattle.std.specs.Prelude.{Bool, not, ◌&&◌, ℕ, ◌+◌, ◌-◌, List, [], ◌∷◌, ◌++◌, length, get_or, set, ℤ, pos, ◌-ℤ◌, leb, ltb}
 pub use Rattle.records.specs.declared.Account.{Account}
 pub use Rattle.records.specs.declared.Instruction.{Instruction}
@@ -20,22 +20,67 @@ pub record Book : Type 0 where
   pub accounts : List Account
   pub rows : List Row
   pub room : ℕ
+  pub holidays : List ℕ
 
 -- the book with another day
 abbrev pub with_day : ℕ → Book → Book
-with_day d b = record { day = d; schedule = b.schedule; lists = b.lists; accounts = b.accounts; rows = b.rows; room = b.room }
+with_day d b = record {
+  day = d;
+  schedule = b.schedule;
+  lists = b.lists;
+  accounts = b.accounts;
+  rows = b.rows;
+  room = b.room;
+  holidays = b.holidays;
+}
 
 -- the book with other rate lists
 abbrev pub with_lists : List RateList → Book → Book
-with_lists ls b = record { day = b.day; schedule = b.schedule; lists = ls; accounts = b.accounts; rows = b.rows; room = b.room }
+with_lists ls b = record {
+  day = b.day;
+  schedule = b.schedule;
+  lists = ls;
+  accounts = b.accounts;
+  rows = b.rows;
+  room = b.room;
+  holidays = b.holidays;
+}
 
 -- the book with other accounts
 abbrev pub with_accounts : List Account → Book → Book
-with_accounts xs b = record { day = b.day; schedule = b.schedule; lists = b.lists; accounts = xs; rows = b.rows; room = b.room }
+with_accounts xs b = record {
+  day = b.day;
+  schedule = b.schedule;
+  lists = b.lists;
+  accounts = xs;
+  rows = b.rows;
+  room = b.room;
+  holidays = b.holidays;
+}
 
 -- the book with other rows
 abbrev pub with_rows : List Row → Book → Book
-with_rows rs b = record { day = b.day; schedule = b.schedule; lists = b.lists; accounts = b.accounts; rows = rs; room = b.room }
+with_rows rs b = record {
+  day = b.day;
+  schedule = b.schedule;
+  lists = b.lists;
+  accounts = b.accounts;
+  rows = rs;
+  room = b.room;
+  holidays = b.holidays;
+}
+
+-- the book with other holidays
+abbrev pub with_holidays : List ℕ → Book → Book
+with_holidays hs b = record {
+  day = b.day;
+  schedule = b.schedule;
+  lists = b.lists;
+  accounts = b.accounts;
+  rows = b.rows;
+  room = b.room;
+  holidays = hs;
+}
 
 -- ---- accounts and rows by their numbers, "numbered from 1"; all 0 where there is none
 

@@ -1,17 +1,18 @@
 -- The calls, on any tables and lengths: every answer word, value, part and table word afterwards (document 01, "Events" and
 -- "Questions, dates, listing").
 use Rattle.std.specs.Prelude.{◌≡◌, Bool, not, cond, ◌&&◌, ◌||◌, ℕ, ◌*◌, ◌-◌, List, [], ◌∷◌, ◌++◌, map, length, drop, take, leb, ltb, ℤ, pos}
-use Rattle.records.specs.Numbers.{answer_unsound, answer_malformed, answer_unknown}
+use Rattle.records.specs.Numbers.{answer_unsound, answer_malformed, answer_unknown, answer_holidays}
 pub use Rattle.records.specs.declared.Event.{Event}
 use Rattle.records.specs.Layout
 use Rattle.records.specs.Encoding.{nat_of, word, instruction_of, instruction_from, answer_words, write_all}
 use Rattle.lists.specs.Tests.{◌is◌, ◌from◌to◌, Cases, first}
 use Rattle.records.specs.Limits.{most_events}
 use Rattle.rules.specs.Schedule.{rates_fit, schedule_fits}
-use Rattle.rules.specs.Book.{Instruction, Answer, state_unused, Book, account, balance, topup_due}
+use Rattle.rules.specs.BusinessDays.{holidays_fit}
+use Rattle.rules.specs.Book.{Instruction, Answer, state_unused, Book, with_holidays, account, balance, topup_due}
 use Rattle.rules.specs.Posting.{post, Posted, refusal_by, book_after, answers_to}
 use Rattle.rules.specs.Opening.{opening, day_fits}
-use Rattle.rules.specs.Tables.{Tables, accounts_in, room_in, rows_used, schedule_from, rates_from, book_of, tables_of, lengths_fit, sound_tables}
+use Rattle.rules.specs.Tables.{Tables, accounts_in, room_in, rows_used, holidays_in, schedule_from, rates_from, book_of, tables_of, lengths_fit, sound_tables}
 
 -- what a call leaves: the number that it returns, the book's tables and the answer table
 pub record Called : Type 0 where
@@ -37,15 +38,22 @@ opening_fits w =
     length w is Layout.opening_width && day_fits (word w Layout.first_day_place)
     && schedule_fits (schedule_from w Layout.opening_schedule) && rates_fit (rates_from w Layout.opening_rates)
 
--- "1: opening: lengths unfit", "2: opening: first day or schedule out of range"
+-- "1: opening: lengths unfit", "2: opening: first day or schedule out of range"; 17 "at opening for a list that is too long, out of range
+-- or not rising, checked after 2" (document 02, No. 6)
 unfoldable pub opening_refusals : Tables → List ℤ → Cases
-opening_refusals t w = (answer_unsound, not (lengths_fit t)) ∷ (answer_malformed, not (opening_fits w)) ∷ []
+opening_refusals t w =
+    (answer_unsound, not (lengths_fit t))
+    ∷ (answer_malformed, not (opening_fits w))
+    ∷ (answer_holidays, not (holidays_fit (holidays_in t)))
+    ∷ []
 
--- the book that opening makes: first day, schedule and rates from its words, sizes from the tables
+-- the book that opening makes: first day, schedule and rates from its words, sizes from the tables, and the holidays: "Opening takes a lent
+-- list of .. holidays .. ; that list itself stays" (document 02, No. 6)
 unfoldable pub opened_book : Tables → List ℤ → Book
 opened_book t w =
-    opening (word w Layout.first_day_place) (schedule_from w Layout.opening_schedule) (rates_from w Layout.opening_rates)
-    (accounts_in t) (room_in t)
+    with_holidays (holidays_in t)
+    (opening (word w Layout.first_day_place) (schedule_from w Layout.opening_schedule) (rates_from w Layout.opening_rates)
+    (accounts_in t) (room_in t))
 
 -- "a refused batch or opening writes nothing"
 unfoldable pub open_call : Tables → List ℤ → Called
@@ -58,7 +66,9 @@ open_call t w =
 -- "1: book not sound"; "2: kind, range, length, batch or answer table wrong"
 unfoldable pub event_refusals : Tables → List ℤ → List ℤ → Cases
 event_refusals t e answers =
-    (answer_unsound, not (sound_tables t)) ∷ (answer_malformed, not (length e is Layout.event_width) || ltb (length answers) Layout.answer_width) ∷ []
+    (answer_unsound, not (sound_tables t))
+    ∷ (answer_malformed, not (length e is Layout.event_width) || ltb (length answers) Layout.answer_width)
+    ∷ []
 
 -- a refusal is an answer too, and is written where there is room for one
 unfoldable pub answered : Answer → List ℤ → List ℤ
@@ -76,7 +86,9 @@ event_call t e answers =
 
 unfoldable pub batch_refusals : Tables → List Event → List ℤ → Cases
 batch_refusals t es answers =
-    (answer_unsound, not (sound_tables t)) ∷ (answer_malformed, ltb most_events (length es) || ltb (length answers) (length es * Layout.answer_width)) ∷ []
+    (answer_unsound, not (sound_tables t))
+    ∷ (answer_malformed, ltb most_events (length es) || ltb (length answers) (length es * Layout.answer_width))
+    ∷ []
 
 -- "it goes on after a refusal"; "a refused batch .. writes nothing"
 unfoldable pub batch_call : Tables → List Event → List ℤ → Called

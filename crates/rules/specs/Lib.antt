@@ -1,6 +1,7 @@
 pub mod Schedule
 pub mod ClassCases
 pub mod RateLists
+pub mod BusinessDays
 pub mod Rows
 pub mod Settlement
 pub mod SettlementSteps

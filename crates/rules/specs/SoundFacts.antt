@@ -3,6 +3,7 @@
 use Rattle.std.specs.Prelude.{◌≡◌, true, ℕ, suc, ◌+◌, ◌<◌, List, length, get_or, leb}
 use Rattle.rules.specs.Schedule.{schedule_fits}
 use Rattle.rules.specs.RateLists.{lists_fit}
+use Rattle.rules.specs.BusinessDays.{holidays_fit}
 use Rattle.rules.specs.Rows.{Row, blank}
 use Rattle.rules.specs.Book.{Account, unused, Book}
 use Rattle.rules.specs.Opening.{day_fits, sizes_fit}
@@ -52,6 +53,7 @@ pub record Near (past : ℕ) (b : Book) : Type 0 where
   pub live : (k : ℕ) → k < length b.rows → Live past b.day b.schedule.stage (get_or b.rows k blank)
   pub standing : (k : ℕ) → k < length b.accounts → Standing b.day (get_or b.accounts k unused)
   pub counted : (k : ℕ) → k < length b.accounts → SumsFit b.rows (suc k) (get_or b.accounts k unused)
+  pub holidays : holidays_fit b.holidays ≡ true
 
 pub record Sound (b : Book) : Type 0 where
   pub near : Near b.day b

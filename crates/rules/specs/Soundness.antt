@@ -8,6 +8,7 @@ use Rattle.records.specs.Limits
 use Rattle.records.specs.Encoding.{account_fields}
 use Rattle.rules.specs.Schedule.{schedule_fits}
 use Rattle.rules.specs.RateLists.{lists_fit}
+use Rattle.rules.specs.BusinessDays.{holidays_fit}
 use Rattle.rules.specs.Rows.{Row, kind_toll, kind_fee, kind_reversal, kind_payment, kind_credit, kind_refund, dispute_held, last_stage, Test, row_no, toll, held_toll, unsettled, fee_naming}
 use Rattle.rules.specs.Settlement.{money, debt, used, paid, owed}
 use Rattle.rules.specs.Book.{Account, state_unused, state_open, state_pending, state_closed, Book, account_no}
@@ -169,9 +170,10 @@ account_sound b n x = all_of
 
 -- ---- the book
 
--- every clause about the book
+-- every clause about the book; of the holidays "bounds and order" (document 02, No. 6)
 unfoldable pub sound : Book → Bool
 sound b = all_of
     (day_fits b.day ∷ schedule_fits b.schedule ∷ lists_fit b.lists
     ∷ sizes_fit (length b.accounts) b.room ∷ leb (length b.rows) b.room
-    ∷ every (row_sound b) b.rows ∷ every (account_sound b) b.accounts ∷ [])
+    ∷ every (row_sound b) b.rows ∷ every (account_sound b) b.accounts
+    ∷ holidays_fit b.holidays ∷ [])

@@ -1,4 +1,4 @@
--- The three lent tables (document 01, "The book"), read as a book and written from one.
+-- The lent tables (document 01, "The book"; the fourth is document 02's, No. 6), read as a book and written from one.
 use Rattle.std.specs.Prelude.{Bool, ◌&&◌, ℕ, ◌+◌, ◌*◌, ◌-◌, ◌/◌, ◌%◌, min, List, [], ◌∷◌, ◌++◌, map, length, drop, replicate, leb, ltb, ℤ, pos}
 use Rattle.records.specs.Layout
 use Rattle.records.specs.Encoding.{nat_of, word, accounts_of, rows_of, account_words, row_words, write_all}
@@ -10,15 +10,28 @@ use Rattle.rules.specs.Book.{Book}
 use Rattle.rules.specs.Opening.{sizes_fit}
 use Rattle.rules.specs.Soundness.{sound}
 
--- "Three lent tables of signed 64-bit numbers"
+-- "Three lent tables of signed 64-bit numbers"; "that list itself stays as the book's fourth table"
 pub record Tables : Type 0 where
   pub header : List ℤ
   pub accounts : List ℤ
   pub journal : List ℤ
+  pub holidays : List ℤ
 
--- the three tables by their words
-abbrev pub tables_at : List ℤ → List ℤ → List ℤ → Tables
-tables_at h a j = record { header = h; accounts = a; journal = j }
+-- the tables by their words
+abbrev pub tables_at : List ℤ → List ℤ → List ℤ → List ℤ → Tables
+tables_at h a j hs = record { header = h; accounts = a; journal = j; holidays = hs }
+
+-- header, accounts and journal, the three that events write, as the tables of a book without holidays
+abbrev pub three_tables : List ℤ → List ℤ → List ℤ → Tables
+three_tables h a j = tables_at h a j []
+
+-- the tables t with those three written
+abbrev pub tables_over : Tables → List ℤ → List ℤ → List ℤ → Tables
+tables_over t h a j = tables_at h a j t.holidays
+
+-- the tables with other holidays
+abbrev pub tables_with : List ℤ → Tables → Tables
+tables_with hs t = tables_at t.header t.accounts t.journal hs
 
 -- how many accounts and rows the tables have room for, and how many rows the header says are used
 abbrev pub accounts_in : Tables → ℕ
@@ -33,6 +46,10 @@ abbrev pub rows_used : Tables → ℕ
 rows_used t = word t.header Layout.used_place
 
 -- ---- reading
+
+-- the holidays of any tables: each word is a day
+abbrev pub holidays_in : Tables → List ℕ
+holidays_in t = map nat_of t.holidays
 
 -- the schedule whose words start at a place
 unfoldable pub schedule_from : List ℤ → ℕ → Schedule
@@ -83,6 +100,7 @@ book_of t = record {
   accounts = accounts_of t.accounts (accounts_in t);
   rows = rows_of t.journal (min (rows_used t) (room_in t));
   room = room_in t;
+  holidays = holidays_in t;
 }
 
 -- ---- writing
@@ -115,6 +133,7 @@ tables_of b = record {
   header = header_words b;
   accounts = write_all account_words b.accounts;
   journal = write_all row_words b.rows ++ replicate ((b.room - length b.rows) * Layout.row_width) (pos 0);
+  holidays = map pos b.holidays;
 }
 
 -- ---- "A book is sound when"

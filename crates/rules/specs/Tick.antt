@@ -5,6 +5,7 @@ use Rattle.lists.specs.Tests.{◌is◌}
 use Rattle.lists.specs.Lists.{exists, count, one, gather, change}
 use Rattle.records.specs.Limits.{hold_days, closing_days}
 use Rattle.rules.specs.Schedule.{Schedule, stage_fee}
+use Rattle.rules.specs.BusinessDays.{business_day}
 use Rattle.rules.specs.Rows.{Row, kind_fee, kind_refund, last_stage, Test, new_row, with_mark, with_due, with_reference, toll, held_toll, unsettled, source, debit_of, settle_whole}
 use Rattle.rules.specs.Settlement.{money}
 use Rattle.rules.specs.Book.{Account, state_pending, Book, with_day, with_accounts, with_rows, account, settled}
@@ -61,10 +62,11 @@ raised_by b = count (rises (before_raising b).day) (before_raising b).rows
 -- ---- "by account number, each pending account with today at least request + 15 and no unsettled debit, held ones counted, closes"
 -- (closing one account changes no row of another, so each is judged on the book before the closings)
 
--- such an account
+-- such an account, on a day that is one: "A pending account closes on the first business day that is at least request + 15 and finds no
+-- unsettled debit" (document 02, No. 6)
 unfoldable pub closes : Book → ℕ → Account → Bool
 closes b n x =
-    x.state is state_pending && leb (x.request + closing_days) b.day
+    x.state is state_pending && business_day b.holidays b.day && leb (x.request + closing_days) b.day
     && not (exists (λ r. debit_of n r && unsettled r) b.rows)
 
 -- the account after the closings

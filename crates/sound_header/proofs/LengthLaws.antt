@@ -14,7 +14,7 @@ use Rattle.records.specs.Limits.{most_accounts, most_rows}
 use Rattle.rules.specs.Opening.{sizes_fit}
 use Rattle.rules.specs.Tables.{whole_records, lengths_fit}
 use Rattle.rules.proofs.StorableLaws.{between_le}
-use Rattle.sound_header.specs.Clauses.{tables_at}
+use Rattle.sound_header.specs.Clauses.{three_tables}
 
 pub record Lengths (header accounts journal : List ℤ) : Type 0 where
   pub words : length header ≡ header_width
@@ -23,7 +23,7 @@ pub record Lengths (header accounts journal : List ℤ) : Type 0 where
   pub slots : length accounts / account_width ≤ most_accounts
   pub room : length journal / row_width ≤ most_rows
 
-module _ (h a j : List ℤ) (e : lengths_fit (tables_at h a j) ≡ true) where
+module _ (h a j : List ℤ) (e : lengths_fit (three_tables h a j) ≡ true) where
   abbrev header-part : Bool
   header-part = length h is header_width
 

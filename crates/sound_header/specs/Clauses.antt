@@ -6,7 +6,7 @@ use Rattle.records.specs.Layout.{schedule_width, rates_width, row_width}
 use Rattle.rules.specs.Rows.{Row}
 use Rattle.rules.specs.Book.{Account}
 use Rattle.rules.specs.Soundness.{kind_fits, amount_fits, settled_fits, mark_fits, toll_words_fit, no_reference, row_day_fits, due_fits, hold_fits, account_used, reference_fits}
-pub use Rattle.rules.specs.Tables.{tables_at}
+pub use Rattle.rules.specs.Tables.{three_tables}
 use Rattle.rules.specs.Tables.{zero_word}
 
 -- a row by itself: the words that differ from kind to kind, and all

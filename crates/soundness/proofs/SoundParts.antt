@@ -17,12 +17,14 @@ use Rattle.records.specs.Encoding.{word, row_at, rows_of, accounts_of}
 use Rattle.records.specs.Limits.{final_day, longest_stage}
 use Rattle.rules.specs.Schedule.{schedule_fits}
 use Rattle.rules.specs.RateLists.{lists_fit}
+use Rattle.rules.specs.BusinessDays.{holidays_fit}
 use Rattle.rules.specs.Book.{Book}
 use Rattle.rules.specs.Opening.{day_fits, sizes_fit}
 use Rattle.rules.specs.Soundness.{passage_once, fees_fit, row_sound, returned_fits, used_is_paid, no_idle_money, closed_clear, account_sound, sound}
 use Rattle.rules.specs.Tables.{Tables, accounts_in, room_in, rows_used, schedule_from, book_of, whole_records, lengths_fit, used_fits, later_rows_zero, unused_lists_zero, sound_tables}
+use Rattle.rules.proofs.HolidayTables.{none-fit}
 use Rattle.rules.proofs.StorableLaws.{between_le, schedule-storable}
-use Rattle.sound_header.specs.Clauses.{own_words, row_alone, row_passes, rows_stand, rest_zero, tables_at}
+use Rattle.sound_header.specs.Clauses.{own_words, row_alone, row_passes, rows_stand, rest_zero, three_tables}
 use Rattle.sound_journal.specs.declared.frame.Frame.{Frame}
 use Rattle.sound_journal.specs.Bounds.{Bounds}
 use Rattle.sound_journal.specs.Passing.{frame_accounts, frame_rows}
@@ -104,15 +106,16 @@ module _ (t : Tables) where
 
   pub fit-tables : lengths_fit t ≡ true → used_fits t ≡ true → later_rows_zero t ≡ true → day_fits (book_of t).day ≡ true → schedule_fits (book_of t).schedule ≡ true
       → lists_stand t.header ≡ true
+      → holidays_fit (book_of t).holidays ≡ true
       → sound_tables t ≡ book_passes (book_of t).accounts (book_of t).rows (book_of t).day (book_of t).schedule.stage
   unfolding sound_tables sound all_of
-  fit-tables l u z d s w =
+  fit-tables l u z d s w h =
       let p : lists_fit (book_of t).lists && unused_lists_zero t ≡ true = sym lists-parts ∙ w in
       let y : lists_fit (book_of t).lists ≡ true = and_left (lists_fit (book_of t).lists) (unused_lists_zero t) p in
       let q : unused_lists_zero t ≡ true = and_right (lists_fit (book_of t).lists) (unused_lists_zero t) p in
       let n : sizes_fit (length (book_of t).accounts) (book_of t).room ≡ true = sizes-again in
       let f : leb (length (book_of t).rows) (book_of t).room ≡ true = few-again in
-      rw (l, u, z, q, d, s, y, n, f, and-true) (rest (book_of t))
+      rw (l, u, z, q, d, s, y, n, f, h, and-true) (rest (book_of t))
     where
       sizes-again : sizes_fit (length (book_of t).accounts) (book_of t).room ≡ true
       sizes-again = unfold book_of lengths_fit in (rw (length-tabulate) (and_right (whole_records t) (sizes_fit (accounts_in t) (room_in t)) l))
@@ -126,7 +129,7 @@ module _ (t : Tables) where
 -- ---- what the lengths and the header have shown, on the words that were read
 
 pub record Fit (h a j : List ℤ) (used today stage : ℕ) : Type 0 where
-  pub lengths : lengths_fit (tables_at h a j) ≡ true
+  pub lengths : lengths_fit (three_tables h a j) ≡ true
   pub read_day : today ≡ word h day_place
   pub read_used : used ≡ word h used_place
   pub read_stage : stage ≡ word h (header_schedule + stage_place)
@@ -138,10 +141,10 @@ pub record Fit (h a j : List ℤ) (used today stage : ℕ) : Type 0 where
 
 module _ (h a j : List ℤ) (used today stage : ℕ) (f : Fit h a j used today stage) where
   abbrev tables : Tables
-  tables = tables_at h a j
+  tables = three_tables h a j
 
   pub fit-sound : book_passes (accounts_of a (length a / account_width)) (rows_of j used) today stage ≡ sound_tables tables
-  fit-sound = unfold book_of schedule_from in (rw (f.read_day, f.read_stage, least) (sym (fit-tables tables f.lengths used-fits later-zero day-fits schedule-fits f.lists)))
+  fit-sound = unfold book_of schedule_from in (rw (f.read_day, f.read_stage, least) (sym (fit-tables tables f.lengths used-fits later-zero day-fits schedule-fits f.lists none-fit)))
     where
       least : used ≡ min (rows_used tables) (room_in tables)
       least = omega (arith, f.read_used, f.fits)

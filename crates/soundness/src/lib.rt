@@ -1,14 +1,15 @@
-// The check of a whole book: whether three lent tables of any lengths and contents are sound, in time that grows with the rows and
+// The check of a whole book: whether lent tables of any lengths and contents are sound, in time that grows with the rows and
 // accounts.
 #![tactic(auto)]
 
 ghost use Rattle.std.specs.Prelude.{◌≡◌, ◌+◌, ◌*◌, ◌≤◌, ◌<◌};
 ghost use Rattle.records.specs.Limits.{most_rows};
-ghost use Rattle.rules.specs.Tables.{sound_tables};
+ghost use Rattle.rules.specs.Tables.{tables_with, sound_tables};
 ghost use Rattle.soundness.specs.Book.{Stands};
 ghost use Rattle.lent.specs.Lent.{lent};
 
 use account_sums::{SLOTS, Sums};
+use holidays::holidays_fit;
 use lent::Tables;
 use records::layout::{HEADER_SCHEDULE, STAGE_PLACE};
 use records::limits::MOST_ROWS;
@@ -68,9 +69,8 @@ fn book_passes(f: &Frame) -> bool
     stand_with::<MOST_ROWS, CELLS, COUNTS>(f)
 }
 
-// Whether the tables are sound. It takes 92 KiB of the stack, 64 for passage numbers, 16 for fees and 12 for sums; of at most FEW_ROWS rows
-// only 22 are cleared.
-pub fn sound(t: Tables) -> bool
+// Whether the three tables that events write are sound, as those of a book without holidays.
+fn three_sound(t: Tables) -> bool
     ensures { result ≡ sound_tables (lent t.entry) }
 {
     if !lengths_fit(t) {
@@ -105,4 +105,15 @@ pub fn sound(t: Tables) -> bool
         term,
     };
     book_passes(&f)
+}
+
+// Whether the tables are sound, the lent list of holidays being the fourth. It takes 92 KiB of the stack, 64 for passage numbers, 16 for
+// fees and 12 for sums; of at most FEW_ROWS rows only 22 are cleared.
+pub fn sound(t: Tables, holidays: &[i64]) -> bool
+    ensures { result ≡ sound_tables (tables_with holidays.now (lent t.entry)) }
+{
+    if !three_sound(t) {
+        return false;
+    }
+    holidays_fit(holidays)
 }

@@ -2,6 +2,7 @@
 use mathlib.Core.Path.{◌≡◌, ap, ◌∙◌}
 use mathlib.Core.Bool.{Bool, true, false, ◌&&◌}
 use Prim.Native.Nat.{ℕ, ◌*◌, ◌/◌, ◌%◌, ◌≤◌, ◌<◌, min}
+use mathlib.Core.List.{map}
 use native.Mathlib.Omega.{arith}
 use lib.ListN.{length, get_or}
 use lib.Dec.{eqb}
@@ -10,7 +11,7 @@ use Rattle.lists.specs.Tests.{◌is◌}
 use Rattle.lists.proofs.TestLaws.{and_left, all_of-at}
 use Rattle.lists.proofs.ListLaws.{tabulate-at, length-tabulate}
 use Rattle.records.specs.Layout.{header_width, row_width, account_width}
-use Rattle.records.specs.Encoding.{row_at, rows_of, account_at}
+use Rattle.records.specs.Encoding.{nat_of, row_at, rows_of, account_at}
 use Rattle.records.specs.Limits.{most_rows, most_accounts, highest_refund}
 use Rattle.rules.specs.Rows.{Row, blank}
 use Rattle.rules.specs.Book.{Book, account_no}
@@ -36,6 +37,8 @@ written-written t u v b c f g = record {
   fixed = λ k l. g.fixed k l ∙ f.fixed k l;
   schedule = g.schedule ∙ schedule-kept;
   lists = g.lists ∙ lists-kept;
+  holidays = g.holidays ∙ holidays-kept;
+  same-holidays = g.same-holidays ∙ f.same-holidays;
   accounts = rw f.accounts-size at g.accounts;
   rows = g.rows;
   room = g.room ∙ ap (λ (n : ℕ). n / row_width) f.journal-size;
@@ -45,6 +48,9 @@ written-written t u v b c f g = record {
   where
     schedule-kept : (book_of u).schedule ≡ (book_of t).schedule
     schedule-kept = unfold book_of in (schedule-same t.header u.header f.fixed)
+
+    holidays-kept : (book_of u).holidays ≡ (book_of t).holidays
+    holidays-kept = unfold book_of in (ap (map nat_of) f.same-holidays)
 
     lists-kept : (book_of u).lists ≡ (book_of t).lists
     lists-kept = unfold book_of in (lists-same t.header u.header f.fixed)

@@ -19,7 +19,7 @@ use Rattle.rules.specs.Book.{Account, state_closed}
 use Rattle.row_passes.specs.Passes.{RowLeft}
 use Rattle.tables.specs.Changes.{RowIn, RowChanged, AccountChanged}
 use Rattle.tables.proofs.ChangeLaws.{unchanged, changed-append}
-use Rattle.posting.specs.Posts.{tables_at, RowRoom, RowAdded}
+use Rattle.posting.specs.Posts.{three_tables, RowRoom, RowAdded}
 use Rattle.posting.specs.Written.{UsedRows}
 use Rattle.posting_laws.proofs.UsedRowsLaws.{rows_before, rows-add, rows-room}
 use Rattle.tick_base.specs.declared.sums.Remains.{Remains}
@@ -128,7 +128,7 @@ module _ (h a j : List ℤ) (today : ℕ) (r : Remains) where
     size = refl;
     done = refl;
     left = λ k q. refl;
-    rows = rw (append-nil base) (rows_before (tables_at h a j));
+    rows = rw (append-nil base) (rows_before (three_tables h a j));
   }
 
   module _ (c : AllClosable h a j today r) (h' a' j' : List ℤ) (i : ℕ) (l : i < count) (m : ClosedTo h a j h' a' j' today r i) where
@@ -156,7 +156,7 @@ module _ (h a j : List ℤ) (today : ℕ) (r : Remains) where
       holds = rw same-account (c.holds i l);
       day = c.day;
       amount = c.amounts (i + 1) (omega (arith, c.few));
-      room = λ e. rows-room (tables_at h a j) h' j' (base ++ refunds_to today r a i) m.rows c.header (refund-fits (rw same-account at e));
+      room = λ e. rows-room (three_tables h a j) h' j' (base ++ refunds_to today r a i) m.rows c.header (refund-fits (rw same-account at e));
     }
 
     pub closed-more : (h'' a'' j'' : List ℤ) → ClosedOne h' h'' a' a'' j' j'' i today r → ClosedTo h a j h'' a'' j'' today r (i + 1)
@@ -173,9 +173,9 @@ module _ (h a j : List ℤ) (today : ℕ) (r : Remains) where
         next-account = unfold close_at in (rw (same-account, m.done, change-tabulate (close_at today r) (account_at a) i))
 
         go : (v : Bool) → refunds_by today cash debt (account_at a i) ≡ v
-            → UsedRows (tables_at h a j) h'' j'' ((base ++ refunds_to today r a i) ++ refund_at today r (i + 1) (account_at a i))
+            → UsedRows (three_tables h a j) h'' j'' ((base ++ refunds_to today r a i) ++ refund_at today r (i + 1) (account_at a i))
         go true e = unfold refund_at in
-            (rw e (rows-add (tables_at h a j) h' j' j'' (base ++ refunds_to today r a i) m.rows c.header h'' (refund_of today cash (i + 1)) (w.refund (rw same-account e))))
+            (rw e (rows-add (three_tables h a j) h' j' j'' (base ++ refunds_to today r a i) m.rows c.header h'' (refund_of today cash (i + 1)) (w.refund (rw same-account e))))
         go false e =
             let same = w.none (rw same-account e) in
             unfold refund_at in (rw (e, append-nil (base ++ refunds_to today r a i), same.0, same.1) m.rows)

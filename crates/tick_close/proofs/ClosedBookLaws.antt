@@ -1,7 +1,7 @@
 -- The closings by the arrays are those of the book: what is read of the tables decides as the rules do, and the tables at the end hold
 -- the book after the closings.
 use mathlib.Core.Path.{◌≡◌, refl, sym, ap, ◌∙◌}
-use mathlib.Core.Bool.{Bool, true, false, not, ◌&&◌, true≢false}
+use mathlib.Core.Bool.{Bool, true, false, not, ◌&&◌, true≢false, and-true}
 use Prim.Native.Nat.{ℕ, zero, suc, ◌+◌, ◌-◌, ◌^◌, ◌≤◌, ◌<◌}
 use native.Mathlib.Omega.{arith}
 use native.Mathlib.Nat.{mul-le-mul_right}
@@ -18,12 +18,13 @@ use Rattle.lists.proofs.GatherLaws.{gather-same, change-same}
 use Rattle.records.specs.Layout.{day_place}
 use Rattle.records.specs.Encoding.{word, row_at, rows_of, account_at, accounts_of}
 use Rattle.records.specs.Limits.{most_rows, most_accounts, highest_refund, slot_count}
+use Rattle.rules.specs.BusinessDays.{business_day}
 use Rattle.rules.specs.Rows.{Row, blank, remaining, unsettled, source_of, debit_of}
 use Rattle.rules.specs.Settlement.{money, owed}
 use Rattle.rules.specs.Book.{Account, unused, Book, account, account_no}
 use Rattle.rules.specs.Soundness.{account_used}
 use Rattle.rules.specs.Tick.{closes, close_if, refund_row, use_up, close_accounts}
-use Rattle.rules.specs.Tables.{Tables, accounts_in, room_in, rows_used, book_of}
+use Rattle.rules.specs.Tables.{Tables, accounts_in, room_in, rows_used, holidays_in, book_of}
 use Rattle.rules.proofs.StorableLaws.{used-inside, day-le, account-storable}
 use Rattle.preservation.proofs.ClosingLaws.{none-owed}
 use Rattle.tick_rules.proofs.RefundLaws.{none-unsettled}
@@ -32,7 +33,7 @@ use Rattle.tables.specs.Changes.{RowsMapped}
 use Rattle.tables.proofs.ChangeLaws.{mapped-all}
 use Rattle.account_sums.specs.Tallies.{money_of}
 use Rattle.account_sums.proofs.TallyLaws.{tallied-small}
-use Rattle.posting.specs.Posts.{tables_at}
+use Rattle.posting.specs.Posts.{tables_over}
 use Rattle.posting.specs.Written.{Written}
 use Rattle.posting.specs.Written.{UsedRows}
 use Rattle.posting_laws.proofs.UsedRowsLaws.{rows_before, rows-map, rows_then, rows_written}
@@ -97,7 +98,7 @@ module _ (t : Tables) (m : Midway (word t.header day_place) t) where
 
   -- ---- the arrays decide as the book does
 
-  module _ (s : Remains) (r : Remainders t.journal s (rows_used t)) where
+  module _ (due : business_day (holidays_in t) (word t.header day_place) ≡ true) (s : Remains) (r : Remainders t.journal s (rows_used t)) where
     money-read : (n : ℕ) → n ≤ most_accounts → get_or s.money n 0 ≡ money n b.rows
     unfolding money
     money-read n l = r.moneys.each n (omega arith) ∙ rw (midway-rows _ t m)
@@ -108,7 +109,7 @@ module _ (t : Tables) (m : Midway (word t.header day_place) t) where
 
     closes-read : (n : ℕ) → n ≤ most_accounts → (x : Account) → closes_by (word t.header day_place) (get_or s.owed n 0) x ≡ closes b n x
     unfolding closes_by closes days_over book_of
-    closes-read n l x = rw (owed-read n l, owed-test n b.rows)
+    closes-read n l x = rw (owed-read n l, owed-test n b.rows, due, and-true)
 
     close-read : (n : ℕ) → n ≤ most_accounts → (x : Account) → close_at (word t.header day_place) s n x ≡ close_if b n x
     unfolding close_at close_by close_if
@@ -185,7 +186,7 @@ module _ (t : Tables) (m : Midway (word t.header day_place) t) where
           day-small = unfold book_of in (omega (arith, day-le _ b m.near))
 
       pub closed-written : (h a j' : List ℤ) → ClosedTo t.header t.accounts j h a j' (word t.header day_place) s (accounts_in t)
-          → Written t (tables_at h a j') (close_accounts b)
+          → Written t (tables_over t h a j') (close_accounts b)
       unfolding close_accounts
       closed-written h a j' c =
           rows_written t h j' (map (use_up b) b.rows ++ gather (refund_row b) b.accounts) all-rows a (change (close_if b) b.accounts) c.size (c.done ∙ accounts-read)
@@ -193,6 +194,10 @@ module _ (t : Tables) (m : Midway (word t.header day_place) t) where
           first_rows : UsedRows t t.header j (map (use_up b) b.rows)
           first_rows = rows-map t t.header t.journal j b.rows (rw (midway-rows _ t m) (rows_before t)) (use_up b) (rw (midway-length _ t m) mapped)
 
+          -- of the tables only the header and the journal are looked at
+          closed-rows : UsedRows (tables_over t t.header t.accounts j) h j' (map (use_up b) b.rows ++ gather (refund_row b) b.accounts)
+          closed-rows = let v = rw (rows-used-up, refunds-read) at c.rows in
+              record { header-size = v.header-size; used = v.used; words = v.words; journal-size = v.journal-size; rows = v.rows; longer = v.longer; rest = v.rest }
+
           all-rows : UsedRows t h j' (map (use_up b) b.rows ++ gather (refund_row b) b.accounts)
-          all-rows = rows_then t t.header j j' (map (use_up b) b.rows) first_rows t.accounts h (map (use_up b) b.rows ++ gather (refund_row b) b.accounts)
-              (rw (rows-used-up, refunds-read) at c.rows)
+          all-rows = rows_then t t.header j j' (map (use_up b) b.rows) first_rows t.accounts h (map (use_up b) b.rows ++ gather (refund_row b) b.accounts) closed-rows

@@ -7,12 +7,13 @@ use Rattle.records.specs.AccountOperations.{closed}
 use Rattle.lists.specs.Tests.{◌is◌}
 use Rattle.lists.specs.Lists.{one, gather, change}
 use Rattle.records.specs.Limits.{most_accounts}
+use Rattle.rules.specs.BusinessDays.{business_day}
 use Rattle.rules.specs.Rows.{Row, kind_refund, new_row, source, settle_whole}
 use Rattle.rules.specs.Book.{Account}
 use Rattle.rules.specs.Tick.{close_accounts}
-use Rattle.rules.specs.Tables.{Tables, book_of}
+use Rattle.rules.specs.Tables.{Tables, holidays_in, book_of}
 use Rattle.tables.specs.Changes.{AccountIn, AccountChanged}
-use Rattle.posting.specs.Posts.{tables_at, RowRoom, RowAdded}
+use Rattle.posting.specs.Posts.{three_tables, RowRoom, RowAdded}
 use Rattle.posting.specs.Written.{UsedRows}
 use Rattle.tick_base.specs.Midway.{Midway}
 use Rattle.tick_base.specs.declared.sums.Remains.{Remains}
@@ -98,11 +99,12 @@ pub record ClosedTo (h a j h' a' j' : List ℤ) (today : ℕ) (r : Remains) (i :
   pub size : length a' ≡ length a
   pub done : accounts_of a' i ≡ change (close_at today r) (accounts_of a i)
   pub left : (k : ℕ) → i ≤ k → account_at a' k ≡ account_at a k
-  pub rows : UsedRows (tables_at h a j) h' j' (rows_of j (word h used_place) ++ refunds_to today r a i)
+  pub rows : UsedRows (three_tables h a j) h' j' (rows_of j (word h used_place) ++ refunds_to today r a i)
 
 -- ---- the tables
 
--- midway, with room for the refunds
+-- midway on a business day, with room for the refunds
 pub record ReadyToClose (t : Tables) : Type 0 where
   pub midway : Midway (word t.header day_place) t
+  pub business : business_day (holidays_in t) (word t.header day_place) ≡ true
   pub room : length (close_accounts (book_of t)).rows ≤ length t.journal / row_width

@@ -2,10 +2,10 @@
 // one refund row.
 #![tactic(auto)]
 
-ghost use Rattle.std.specs.Prelude.{◌≡◌};
+ghost use Rattle.std.specs.Prelude.{◌≡◌, List, ℤ};
 ghost use Rattle.records.specs.Encoding.{row_at};
 ghost use Rattle.rules.specs.Tick.{close_accounts};
-ghost use Rattle.rules.specs.Tables.{accounts_in, book_of};
+ghost use Rattle.rules.specs.Tables.{accounts_in, tables_with, book_of};
 ghost use Rattle.tables.specs.Changes.{RowIn, RowChanged, RowsMapped};
 ghost use Rattle.posting.specs.Written.{Written};
 ghost use Rattle.tick_close.specs.Closing.{closes_by, Closable, ClosedOne, use_up_by, Usable, UsableRows};
@@ -97,12 +97,16 @@ fn close_each(t: &mut TablesMut, today: u64, remains: &Remains)
     }
 }
 
-// What remains is summed first: an account is judged on the book before any closes.
+// What remains is summed first: an account is judged on the book before any closes. That the day is a business day, by whatever holidays,
+// is the caller's to know.
 pub fn close_accounts(t: &mut TablesMut)
-    requires { ReadyToClose (lent_mut t.old) }
+    requires { (hs : List ℤ) × ReadyToClose (tables_with hs (lent_mut t.old)) }
     ensures same { SameTables t.old t.new }
-    ensures written { Written (lent_mut t.old) (lent_mut t.new)
-        (close_accounts (book_of (lent_mut t.old))) }
+    ensures written { (hs : List ℤ)
+        → ReadyToClose (tables_with hs (lent_mut t.old))
+        → Written (tables_with hs (lent_mut t.old))
+        (tables_with hs (lent_mut t.new))
+        (close_accounts (book_of (tables_with hs (lent_mut t.old)))) }
 {
     let used = t.used() as usize;
     let today = t.day();

@@ -1,6 +1,6 @@
 -- Laws behind the counts of a tick: the fees of a header, the rows that a toll brings, the shares of a row in the sums.
 use mathlib.Core.Path.{◌≡◌, refl, sym, ap, ◌∙◌}
-use mathlib.Core.Bool.{Bool, true, false, not, cond, ◌&&◌, ◌||◌, true≢false}
+use mathlib.Core.Bool.{Bool, true, false, not, cond, ◌&&◌, ◌||◌, true≢false, false≢true, and-true, and-false}
 use Prim.Native.Nat.{ℕ, zero, suc, ◌+◌, ◌≤◌, ◌<◌}
 use native.Mathlib.Omega.{arith}
 use native.Mathlib.Numerals.{add-one}
@@ -24,11 +24,12 @@ use Rattle.records.specs.Layout.{day_place, header_schedule}
 use Rattle.records.specs.Encoding.{word, row_at, rows_of, account_at, accounts_of}
 use Rattle.records.specs.Limits.{closing_days, most_rows, most_accounts, slot_count}
 use Rattle.rules.specs.Schedule.{Schedule, stage_fee}
+use Rattle.rules.specs.BusinessDays.{business_day}
 use Rattle.rules.specs.Rows.{Row, blank, dispute_held, held_toll}
 use Rattle.rules.specs.Settlement.{money, owed}
 use Rattle.rules.specs.Book.{Account, state_pending, unused, Book}
 use Rattle.rules.specs.Tick.{hold_ends, rises, fee_row}
-use Rattle.rules.specs.Tables.{Tables, accounts_in, rows_used, schedule_from, book_of, sound_tables}
+use Rattle.rules.specs.Tables.{Tables, accounts_in, rows_used, holidays_in, schedule_from, book_of, sound_tables}
 use Rattle.tick_rules.specs.Ticks.{stays_held, will_refund, will_close, NoneCloses, fees_added, refunds_added}
 use Rattle.tick_rules.proofs.UnclosedLaws.{no-refunds}
 use Rattle.account_sums.specs.Tallies.{Tallied, money_of, owed_of}
@@ -147,24 +148,30 @@ module _ (c : RowCounts) (t : List ℤ) where
         let number : get_or range k 0 ≡ k = get_or-range_with_len 0 n k 0 h ∙ omega arith in
         rw number at (MatchBool-at_false _ _ e f k 0 (omega arith) (rw length-range_with_len h))
 
+-- on another day none does
+none-off : (b : Book) → business_day b.holidays (b.day + 1) ≡ false → NoneCloses b
+unfolding will_close
+none-off b e k h = let p : Bool = (get_or b.accounts k unused).state is state_pending in rw (e, and-false p) refl
+
 -- ---- the refunds counted are those of the definition
 
 module _ (b : Book) (t : List ℤ) (c : RowCounts) (day : c.today ≡ b.day + 1) (n : ℕ) (rows : b.rows ≡ rows_of t n)
-    (s : Tallied (stays_of (b.day + 1)) slot_count t c.stays n) (r : Remainders t c.remains n) (few : length b.accounts ≤ 256) where
+    (s : Tallied (stays_of (b.day + 1)) slot_count t c.stays n) (r : Remainders t c.remains n) (few : length b.accounts ≤ 256)
+    (due : business_day b.holidays (b.day + 1) ≡ true) where
   zero_test : (m : ℕ) → eqb m 0 ≡ not (ltb 0 m)
   zero_test zero = refl
   zero_test (suc m) = rw (lt-ltb 0 (suc m) (omega arith)) (ne_eqb (suc m) 0 (λ q. omega arith))
 
-  test : (p : Bool) (m : ℕ) (q : Bool) → p && eqb m 0 && q ≡ p && not (ltb 0 m) && q
-  test p m q = rw (zero_test m)
+  test : (p d : Bool) (m : ℕ) (q : Bool) → p && d && eqb m 0 && q ≡ p && true && d && not (ltb 0 m) && q
+  test p d m q = rw (zero_test m, and-true)
 
   refund-at : (k : ℕ) → k < slot_count → (x : Account) → refunds_at c k x ≡ will_refund b k x
   unfolding refunds_at refund_by will_refund days_over exists count counted stays_held money owed
-  refund-at k h x = rw (day, s.each k h, r.moneys.each k h, r.owings.each k h, rows) (test (x.state is state_pending && leb (x.request + closing_days) (b.day + 1)) (sum_by (stays_of (b.day + 1) k) (rows_of t n)) (ltb (sum_by (owed_of k) (rows_of t n)) (sum_by (money_of k) (rows_of t n))))
+  refund-at k h x = rw (day, due, s.each k h, r.moneys.each k h, r.owings.each k h, rows) (test (x.state is state_pending) (leb (x.request + closing_days) (b.day + 1)) (sum_by (stays_of (b.day + 1) k) (rows_of t n)) (ltb (sum_by (owed_of k) (rows_of t n)) (sum_by (money_of k) (rows_of t n))))
 
   close-told : (k : ℕ) → k < slot_count → (x : Account) → close_at c k x ≡ will_close b k x
   unfolding close_at close_by will_close days_over exists count counted stays_held money owed
-  close-told k h x = rw (day, s.each k h, r.moneys.each k h, r.owings.each k h, rows) (test (x.state is state_pending && leb (x.request + closing_days) (b.day + 1)) (sum_by (stays_of (b.day + 1) k) (rows_of t n)) (leb (sum_by (owed_of k) (rows_of t n)) (sum_by (money_of k) (rows_of t n))))
+  close-told k h x = rw (day, due, s.each k h, r.moneys.each k h, r.owings.each k h, rows) (test (x.state is state_pending) (leb (x.request + closing_days) (b.day + 1)) (sum_by (stays_of (b.day + 1) k) (rows_of t n)) (leb (sum_by (owed_of k) (rows_of t n)) (sum_by (money_of k) (rows_of t n))))
 
   pub none-closes : (a : List ℤ) (m : ℕ) → b.accounts ≡ accounts_of a m → NoneClosesBy c a m → NoneCloses b
   none-closes a m e z k h =
@@ -199,22 +206,39 @@ module _ (t : Tables) (s : sound_tables t ≡ true) (c : RowCounts) (w : RowsCou
   day : c.today ≡ (book_of t).day + 1
   day = rw (day-read t s) at w.day
 
-  -- no account closes
-  pub quiet-planned : NoneClosesBy c t.accounts (accounts_in t)
+  holidays-same : holidays_in t ≡ (book_of t).holidays
+  holidays-same = unfold book_of in refl
+
+  -- no account closes: the day is no business day, or none is ready
+  pub quiet-planned : (business_day (holidays_in t) c.today ≡ true → NoneClosesBy c t.accounts (accounts_in t))
       → Planned (book_of t) (record { added = c.fees; ending = c.ending; closing = false })
   quiet-planned z =
-      let n : NoneCloses (book_of t) = none-closes (book_of t) t.journal c day (rows_used t) (sound-rows t s) (rw (day-read t s) at w.held) w.sums few t.accounts (accounts_in t) accounts-same z in
-      record { added = omega (arith, fees-told, no-refunds (book_of t) n); few = omega (arith, w.few, used-small t s); ending = ending-told; closing = λ e. n }
+      let n : NoneCloses (book_of t) = go (business_day (book_of t).holidays ((book_of t).day + 1)) refl in
+      record {
+        added = omega (arith, fees-told, no-refunds (book_of t) n);
+        few = omega (arith, w.few, used-small t s);
+        ending = ending-told;
+        closing = λ e. n;
+        business = λ e. absurd (false≢true e);
+      }
+    where
+      go : (v : Bool) → business_day (book_of t).holidays ((book_of t).day + 1) ≡ v → NoneCloses (book_of t)
+      go true e =
+          none-closes (book_of t) t.journal c day (rows_used t) (sound-rows t s) (rw (day-read t s) at w.held) w.sums few e t.accounts (accounts_in t) accounts-same (z (rw (day, holidays-same) e))
+      go false e = none-off (book_of t) e
 
-  -- one closes
-  module _ (refunds : ℕ) (g : refunds ≡ length (gather (refund_at c) (accounts_of t.accounts (accounts_in t)))) (l : refunds ≤ accounts_in t) where
+  -- one closes, on a business day
+  module _ (due : business_day (holidays_in t) c.today ≡ true) (refunds : ℕ) (g : refunds ≡ length (gather (refund_at c) (accounts_of t.accounts (accounts_in t)))) (l : refunds ≤ accounts_in t) where
+    due-told : business_day (book_of t).holidays ((book_of t).day + 1) ≡ true
+    due-told = rw (day, holidays-same) at due
+
     refunds-told : refunds ≡ refunds_added (book_of t)
     refunds-told =
         rw (← accounts-same) at g
-        ∙ refunds-counted (book_of t) t.journal c day (rows_used t) (sound-rows t s) (rw (day-read t s) at w.held) w.sums few
+        ∙ refunds-counted (book_of t) t.journal c day (rows_used t) (sound-rows t s) (rw (day-read t s) at w.held) w.sums few due-told
 
     pub added-few : c.fees + refunds ≤ most_rows + most_accounts
     added-few = omega (arith, w.few, used-small t s, count_small t s)
 
     pub tick-planned : Planned (book_of t) (record { added = c.fees + refunds; ending = c.ending; closing = true })
-    tick-planned = record { added = omega (arith, fees-told, refunds-told); few = added-few; ending = ending-told; closing = λ e. absurd (true≢false e) }
+    tick-planned = record { added = omega (arith, fees-told, refunds-told); few = added-few; ending = ending-told; closing = λ e. absurd (true≢false e); business = λ e. due-told }

@@ -1,9 +1,10 @@
 -- What is counted on the tables before a tick: by account in arrays, and in all.
-use Rattle.std.specs.Prelude.{◌≡◌, Bool, false, not, ◌&&◌, ℕ, ◌+◌, ◌≤◌, ◌<◌, List, leb, ltb, ℤ, length, get_or}
+use Rattle.std.specs.Prelude.{◌≡◌, Bool, true, false, not, ◌&&◌, ℕ, ◌+◌, ◌≤◌, ◌<◌, List, leb, ltb, ℤ, length, get_or}
 use Rattle.lists.specs.Tests.{◌is◌}
 use Rattle.lists.specs.Lists.{exists, one, gather}
 use Rattle.records.specs.Layout.{header_schedule}
 use Rattle.records.specs.Encoding.{rows_of, account_at}
+use Rattle.rules.specs.BusinessDays.{business_day}
 use Rattle.rules.specs.Rows.{Row, blank, held_toll}
 use Rattle.records.specs.Limits.{most_accounts, most_rows, slot_count}
 use Rattle.rules.specs.Book.{Account, Book}
@@ -19,7 +20,7 @@ use Rattle.tick_plan.specs.declared.rows.RowCounts.{RowCounts}
 abbrev pub stays_of : ℕ → ℕ → Row → ℕ
 stays_of today = counted (λ r. held_toll r && not (hold_ends today r))
 
--- an account closes of which so many tolls stay held, that owes and has so much
+-- on a business day an account closes of which so many tolls stay held, that owes and has so much
 unfoldable pub close_by : ℕ → ℕ → ℕ → ℕ → Account → Bool
 close_by today stays owed money x = days_over today x && stays is 0 && leb owed money
 
@@ -58,3 +59,8 @@ pub record Planned (b : Book) (p : Plan) : Type 0 where
   pub few : p.added ≤ most_rows + most_accounts
   pub ending : p.ending ≡ exists (hold_ends (b.day + 1)) b.rows
   pub closing : p.closing ≡ false → NoneCloses b
+  pub business : p.closing ≡ true → business_day b.holidays (b.day + 1) ≡ true
+
+-- the plan is right about whether a hold ends
+abbrev pub PlansHolds : Book → Plan → Type 0
+PlansHolds b p = p.ending ≡ exists (hold_ends (b.day + 1)) b.rows

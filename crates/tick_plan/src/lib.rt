@@ -7,7 +7,7 @@ mod rows; // rows.rt: what the used rows come to, in one pass
 mod refunds; // refunds.rt: the accounts that will close, and those of them with money left
 
 ghost use Rattle.std.specs.Prelude.{◌≡◌, true};
-ghost use Rattle.rules.specs.Tables.{book_of, sound_tables};
+ghost use Rattle.rules.specs.Tables.{tables_with, book_of, sound_tables};
 ghost use Rattle.tick_plan.specs.Plans.{Planned};
 ghost use Rattle.lent.specs.Lent.{lent_mut};
 
@@ -24,15 +24,15 @@ pub struct Plan {
     pub closing: bool,
 }
 
-pub fn plan_tick(t: &TablesMut) -> Plan
-    requires { sound_tables (lent_mut t.now) ≡ true }
-    ensures { Planned (book_of (lent_mut t.now)) result }
+pub fn plan_tick(t: &TablesMut, holidays: &[i64]) -> Plan
+    requires { sound_tables (tables_with holidays.now (lent_mut t.now)) ≡ true }
+    ensures { Planned (book_of (tables_with holidays.now (lent_mut t.now))) result }
 {
     let today = t.day() + 1;
     let header = Header { words: t.header };
     let countable = CountableRows { rows: t.rows() };
     let counts = RowCounts::of_rows(header, &countable, today);
-    if !counts.any_closes(t) {
+    if !counts.any_closes(t, holidays) {
         return Plan {
             added: counts.fees,
             ending: counts.ending,

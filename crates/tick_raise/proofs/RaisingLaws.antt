@@ -23,7 +23,7 @@ use Rattle.rules.specs.Tables.{Tables, rows_used, room_in, book_of}
 use Rattle.rules.proofs.StorableLaws.{day-le, stage-le, row-storable}
 use Rattle.preservation.proofs.FeeLaws.{schedule-parts, stage_fee-le}
 use Rattle.preservation.proofs.TickSteps.{rising}
-use Rattle.posting.specs.Posts.{tables_at}
+use Rattle.posting.specs.Posts.{tables_over}
 use Rattle.posting.specs.Written.{Written}
 use Rattle.posting.specs.Written.{UsedRows}
 use Rattle.posting_laws.proofs.UsedRowsLaws.{rows_before, rows_row, rows-schedule, rows_written}
@@ -157,7 +157,7 @@ module _ (past : ℕ) (t : Tables) (m : Midway past t) where
         pub turns-counted : n ≡ count (rises (word t.header day_place)) b.rows
         turns-counted = v.counted ∙ rw (d, e, midway-rows past t m)
 
-        pub turns-written : Written t (tables_at h t.accounts j) (raise_tolls b)
+        pub turns-written : Written t (tables_over t h t.accounts j) (raise_tolls b)
         unfolding raise_tolls book_of
         turns-written =
             rw rows-raised (rows_written t h j (raised_to t (rows_used t)) (rw e at u) t.accounts b.accounts refl refl)

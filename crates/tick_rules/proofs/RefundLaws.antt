@@ -16,6 +16,7 @@ use Rattle.lists.proofs.TestLaws.{and_left, and_right}
 use Rattle.lists.proofs.SumLaws.{sum_by-at-le, sum_by-ext, sum_by-ext-at, sum_by-map}
 use Rattle.lists.proofs.ExistsLaws.{exists-none, none-exists}
 use Rattle.records.specs.Limits.{closing_days, final_day}
+use Rattle.rules.specs.BusinessDays.{business_day}
 use Rattle.rules.specs.Rows.{Row, blank, row_no, remaining, debit, held, held_toll, unsettled, debit_of, payable}
 use Rattle.rules.specs.Settlement.{money, debt, moved, owed}
 use Rattle.rules.specs.Book.{Account, state_pending, Book, settled}
@@ -122,7 +123,7 @@ module _ (b : Book) (s : Sound b) (ne : b.day ≢ final_day) (j : ℕ) (h : j < 
 
   pub none-closing : (x : Account) → will_close b n x ≡ false → closes (raise_tolls settled_book) n x ≡ false
   unfolding closes will_close raise_tolls before_raising settled end_holds next_day
-  none-closing x w = go (eqb x.state state_pending && leb (x.request + closing_days) (b.day + 1)) _ _ _ told-closing w
+  none-closing x w = go (eqb x.state state_pending && business_day b.holidays (b.day + 1) && leb (x.request + closing_days) (b.day + 1)) _ _ _ told-closing w
     where
       go : (p q q' m' : Bool) → (q ≡ true → (q' ≡ true) × (m' ≡ true)) → p && q' && m' ≡ false → p && q ≡ false
       go true true q' m' f e = let t = f refl in absurd (true≢false (rw (t.0, t.1) at e))
@@ -211,7 +212,7 @@ module _ (b : Book) (s : Sound b) (ne : b.day ≢ final_day) (j : ℕ) (h : j < 
 
   pub refund-told : (x : Account) → closes (raise_tolls settled_book) n x && ltb 0 (money n late_rows) ≡ will_refund b n x
   unfolding closes will_refund raise_tolls before_raising settled end_holds next_day
-  refund-told x = regroup (eqb x.state state_pending && leb (x.request + closing_days) (b.day + 1)) _ _ _ _ told
+  refund-told x = regroup (eqb x.state state_pending && business_day b.holidays (b.day + 1) && leb (x.request + closing_days) (b.day + 1)) _ _ _ _ told
     where
       regroup : (p q m q' m' : Bool) → q && m ≡ q' && m' → p && q && m ≡ p && q' && m'
       regroup true q m q' m' e = e

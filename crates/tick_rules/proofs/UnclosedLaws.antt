@@ -11,6 +11,7 @@ use borrow.Author.Tests.{leb-false, le-ltb}
 use Rattle.lists.specs.Lists.{exists, one, gather, gather_from, change}
 use Rattle.lists.proofs.GatherLaws.{length-change, change-at}
 use Rattle.records.specs.Limits.{closing_days}
+use Rattle.rules.specs.BusinessDays.{business_day}
 use Rattle.rules.specs.Rows.{Row, blank, source}
 use Rattle.rules.specs.Settlement.{money, owed}
 use Rattle.rules.specs.Book.{Account, state_pending, unused, Book, account}
@@ -30,7 +31,7 @@ module _ (b : Book) where
   no-refund : (n : ℕ) (x : Account) → will_close b n x ≡ false → will_refund b n x ≡ false
   unfolding will_close will_refund
   no-refund n x w =
-      go (eqb x.state state_pending && leb (x.request + closing_days) (b.day + 1)) (not (exists (stays_held (b.day + 1) n) b.rows))
+      go (eqb x.state state_pending && business_day b.holidays (b.day + 1) && leb (x.request + closing_days) (b.day + 1)) (not (exists (stays_held (b.day + 1) n) b.rows))
       (leb (owed n b.rows) (money n b.rows)) (ltb (owed n b.rows) (money n b.rows))
       (λ e. le-ltb (owed n b.rows) (money n b.rows) (omega (arith, leb-false (owed n b.rows) (money n b.rows) e))) w
     where

@@ -3,6 +3,7 @@ use Rattle.std.specs.Prelude.{◌≡◌, Bool, false, not, cond, ◌&&◌, ℕ, 
 use Rattle.lists.specs.Tests.{◌is◌}
 use Rattle.lists.specs.Lists.{exists, one, gather}
 use Rattle.records.specs.Limits.{closing_days}
+use Rattle.rules.specs.BusinessDays.{business_day}
 use Rattle.rules.specs.Rows.{Row, Test, blank, held_toll}
 use Rattle.rules.specs.Settlement.{money, settle, owed}
 use Rattle.rules.specs.Book.{Account, state_pending, unused, Book}
@@ -28,14 +29,14 @@ stays_held today n r = r.account is n && (held_toll r && not (hold_ends today r)
 -- account n will close with money left: its days are over, none of its tolls stays held, and its money exceeds what it owes
 unfoldable pub will_refund : Book → ℕ → Account → Bool
 will_refund b n x =
-    x.state is state_pending && leb (x.request + closing_days) (b.day + 1) && not (exists (stays_held (b.day + 1) n) b.rows)
-    && ltb (owed n b.rows) (money n b.rows)
+    x.state is state_pending && business_day b.holidays (b.day + 1) && leb (x.request + closing_days) (b.day + 1)
+    && not (exists (stays_held (b.day + 1) n) b.rows) && ltb (owed n b.rows) (money n b.rows)
 
 -- account n will close, with money left or not
 unfoldable pub will_close : Book → ℕ → Account → Bool
 will_close b n x =
-    x.state is state_pending && leb (x.request + closing_days) (b.day + 1) && not (exists (stays_held (b.day + 1) n) b.rows)
-    && leb (owed n b.rows) (money n b.rows)
+    x.state is state_pending && business_day b.holidays (b.day + 1) && leb (x.request + closing_days) (b.day + 1)
+    && not (exists (stays_held (b.day + 1) n) b.rows) && leb (owed n b.rows) (money n b.rows)
 
 -- no account will
 abbrev pub NoneCloses : Book → Type 0

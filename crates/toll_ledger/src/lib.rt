@@ -48,12 +48,13 @@ pub fn toll_ledger_open(
     header: &mut [i64],
     accounts: &mut [i64],
     journal: &mut [i64],
+    holidays: &[i64],
     schedule: &[i64],
 ) -> i64
-    ensures { Gives (open_call (tables_at header.old accounts.old journal.old)
+    ensures { Gives (open_call (tables_at header.old accounts.old journal.old holidays.now)
         schedule.now)
         result
-        (tables_at header.new accounts.new journal.new)
+        (tables_at header.new accounts.new journal.new holidays.now)
         [] }
 {
     let mut t = TablesMut {
@@ -61,7 +62,7 @@ pub fn toll_ledger_open(
         accounts,
         journal,
     };
-    number_of(open_book(&mut t, schedule))
+    number_of(open_book(&mut t, holidays, schedule))
 }
 
 // Posts one event of nine words; the answer's five words are written wherever there is room for them.
@@ -69,14 +70,15 @@ pub fn toll_ledger_event(
     header: &mut [i64],
     accounts: &mut [i64],
     journal: &mut [i64],
+    holidays: &[i64],
     event: &[i64],
     answer: &mut [i64],
 ) -> i64
-    ensures { Gives (event_call (tables_at header.old accounts.old journal.old)
+    ensures { Gives (event_call (tables_at header.old accounts.old journal.old holidays.now)
         event.now
         answer.old)
         result
-        (tables_at header.new accounts.new journal.new)
+        (tables_at header.new accounts.new journal.new holidays.now)
         answer.new }
 {
     let mut t = TablesMut {
@@ -84,7 +86,7 @@ pub fn toll_ledger_event(
         accounts,
         journal,
     };
-    number_of(event_call(&mut t, event, answer))
+    number_of(event_call(&mut t, holidays, event, answer))
 }
 
 // The account's balance, 0 where the question is refused.
@@ -92,10 +94,11 @@ pub fn toll_ledger_balance(
     header: &[i64],
     accounts: &[i64],
     journal: &[i64],
+    holidays: &[i64],
     account: i64,
     value: &mut i64,
 ) -> i64
-    ensures { Replies (balance_call (tables_at header.now accounts.now journal.now) account)
+    ensures { Replies (balance_call (tables_at header.now accounts.now journal.now holidays.now) account)
         result
         value.new }
 {
@@ -104,7 +107,7 @@ pub fn toll_ledger_balance(
         accounts,
         journal,
     };
-    reply(balance(t, account), value)
+    reply(balance(t, holidays, account), value)
 }
 
 // 1 where the account's top-up is due, 0 where it is not or the question is refused.
@@ -112,10 +115,11 @@ pub fn toll_ledger_topup_due(
     header: &[i64],
     accounts: &[i64],
     journal: &[i64],
+    holidays: &[i64],
     account: i64,
     value: &mut i64,
 ) -> i64
-    ensures { Replies (topup_due_call (tables_at header.now accounts.now journal.now) account)
+    ensures { Replies (topup_due_call (tables_at header.now accounts.now journal.now holidays.now) account)
         result
         value.new }
 {
@@ -124,7 +128,7 @@ pub fn toll_ledger_topup_due(
         accounts,
         journal,
     };
-    let due = topup_due(t, account);
+    let due = topup_due(t, holidays, account);
     reply(due.map(i64::from), value)
 }
 
@@ -133,14 +137,15 @@ pub fn toll_ledger_batch(
     header: &mut [i64],
     accounts: &mut [i64],
     journal: &mut [i64],
+    holidays: &[i64],
     events: &[Event],
     answers: &mut [i64],
 ) -> i64
-    ensures { Gives (batch_call (tables_at header.old accounts.old journal.old)
+    ensures { Gives (batch_call (tables_at header.old accounts.old journal.old holidays.now)
         events.now
         answers.old)
         result
-        (tables_at header.new accounts.new journal.new)
+        (tables_at header.new accounts.new journal.new holidays.now)
         answers.new }
 {
     let mut t = TablesMut {
@@ -148,5 +153,5 @@ pub fn toll_ledger_batch(
         accounts,
         journal,
     };
-    number_of(batch_call(&mut t, events, answers))
+    number_of(batch_call(&mut t, holidays, events, answers))
 }

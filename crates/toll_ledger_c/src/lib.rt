@@ -15,15 +15,16 @@ pub extern "C" fn toll_ledger_open(
     header: &mut [i64],
     accounts: &mut [i64],
     journal: &mut [i64],
+    holidays: &[i64],
     schedule: &[i64],
 ) -> i64
-    ensures { Gives (open_call (tables_at header.old accounts.old journal.old)
+    ensures { Gives (open_call (tables_at header.old accounts.old journal.old holidays.now)
         schedule.now)
         result
-        (tables_at header.new accounts.new journal.new)
+        (tables_at header.new accounts.new journal.new holidays.now)
         [] }
 {
-    toll_ledger::toll_ledger_open(header, accounts, journal, schedule)
+    toll_ledger::toll_ledger_open(header, accounts, journal, holidays, schedule)
 }
 
 // Posts one event of nine words; the answer's five words are written wherever there is room for them.
@@ -32,17 +33,18 @@ pub extern "C" fn toll_ledger_event(
     header: &mut [i64],
     accounts: &mut [i64],
     journal: &mut [i64],
+    holidays: &[i64],
     event: &[i64],
     answer: &mut [i64],
 ) -> i64
-    ensures { Gives (event_call (tables_at header.old accounts.old journal.old)
+    ensures { Gives (event_call (tables_at header.old accounts.old journal.old holidays.now)
         event.now
         answer.old)
         result
-        (tables_at header.new accounts.new journal.new)
+        (tables_at header.new accounts.new journal.new holidays.now)
         answer.new }
 {
-    toll_ledger::toll_ledger_event(header, accounts, journal, event, answer)
+    toll_ledger::toll_ledger_event(header, accounts, journal, holidays, event, answer)
 }
 
 // The account's balance, 0 where the question is refused.
@@ -51,14 +53,15 @@ pub extern "C" fn toll_ledger_balance(
     header: &[i64],
     accounts: &[i64],
     journal: &[i64],
+    holidays: &[i64],
     account: i64,
     value: &mut i64,
 ) -> i64
-    ensures { Replies (balance_call (tables_at header.now accounts.now journal.now) account)
+    ensures { Replies (balance_call (tables_at header.now accounts.now journal.now holidays.now) account)
         result
         value.new }
 {
-    toll_ledger::toll_ledger_balance(header, accounts, journal, account, value)
+    toll_ledger::toll_ledger_balance(header, accounts, journal, holidays, account, value)
 }
 
 // 1 where the account's top-up is due, 0 where it is not or the question is refused.
@@ -67,14 +70,15 @@ pub extern "C" fn toll_ledger_topup_due(
     header: &[i64],
     accounts: &[i64],
     journal: &[i64],
+    holidays: &[i64],
     account: i64,
     value: &mut i64,
 ) -> i64
-    ensures { Replies (topup_due_call (tables_at header.now accounts.now journal.now) account)
+    ensures { Replies (topup_due_call (tables_at header.now accounts.now journal.now holidays.now) account)
         result
         value.new }
 {
-    toll_ledger::toll_ledger_topup_due(header, accounts, journal, account, value)
+    toll_ledger::toll_ledger_topup_due(header, accounts, journal, holidays, account, value)
 }
 
 // Posts the events in order, going on after a refusal, and gives 0; a batch that is refused writes nothing.
@@ -83,15 +87,16 @@ pub extern "C" fn toll_ledger_batch(
     header: &mut [i64],
     accounts: &mut [i64],
     journal: &mut [i64],
+    holidays: &[i64],
     events: &[Event],
     answers: &mut [i64],
 ) -> i64
-    ensures { Gives (batch_call (tables_at header.old accounts.old journal.old)
+    ensures { Gives (batch_call (tables_at header.old accounts.old journal.old holidays.now)
         events.now
         answers.old)
         result
-        (tables_at header.new accounts.new journal.new)
+        (tables_at header.new accounts.new journal.new holidays.now)
         answers.new }
 {
-    toll_ledger::toll_ledger_batch(header, accounts, journal, events, answers)
+    toll_ledger::toll_ledger_batch(header, accounts, journal, holidays, events, answers)
 }

@@ -3,6 +3,8 @@ use Rattle.std.proofs.Common.{rules}
 use Rattle.std.specs.Prelude.{◌≡◌, Err}
 use native.Mathlib.Omega.{arith}
 use mathlib.Core.Path.{refl}
+use Rattle.rules.specs.Tables.{tables_with}
+use Rattle.rules.proofs.HolidayTables.{sound-without}
 use Rattle.lent.proofs.LentLaws.{same-none, same-same}
 use Rattle.call_batch.proofs.BatchCallLaws.{Taken, taken, batch-refused, after_none, after-sound, after-room, after_more, after-all}
 use Rattle.call_batch.proofs.batch_call.Goals as goal
@@ -10,7 +12,7 @@ use Rattle.lent.specs.Lent.{lent_mut}
 use Rattle.call_batch.proofs.batch_call.Goals.{In_ok-check_batch}
 
 -- a batch that is not refused
-run : (c : In_ok-check_batch) → Taken (lent_mut c.args.t.now) c.args.events.now c.args.answers.now
+run : (c : In_ok-check_batch) → Taken (tables_with c.args.holidays.now (lent_mut c.args.t.now)) c.args.events.now c.args.answers.now
 run c = taken _ _ _ (c.in_ok-check_batch.ensures c.args.events.now refl)
 
 pub returns-in_err-check_batch-clause-gives : goal.returns-in_err-check_batch-clause-gives
@@ -19,7 +21,8 @@ returns-in_err-check_batch-clause-gives c =
     rw q (batch-refused _ c.args.events.now _ _ (c.in_err-check_batch.ensures c.args.events.now refl))
 
 pub start-requires : goal.start-requires
-start-requires c = ((run (goal.at.start-requires c).In_ok-check_batch).sound, c.new-index.ensures)
+start-requires c =
+    (sound-without c.args.holidays.now (lent_mut c.args.t.now) (run (goal.at.start-requires c).In_ok-check_batch).sound, c.new-index.ensures)
 
 pub loop-i-init : goal.loop-i-init
 loop-i-init c = (same-none c.args.t.now, after_none _ _ _ (run (goal.at.loop-i-init c).In_ok-check_batch), c.start.ensures)

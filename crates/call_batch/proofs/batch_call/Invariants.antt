@@ -1,4 +1,5 @@
 use Rattle.lent.specs.Lent.{lent_mut, SameTables}
+use Rattle.rules.specs.Tables.{tables_with}
 use Rattle.batch_index.specs.Index.{Indexed}
 use Rattle.call_batch.proofs.BatchCallLaws.{After}
 use Rattle.call_batch.proofs.batch_call.Given as goal
@@ -7,5 +8,5 @@ use Rattle.call_batch.proofs.batch_call.Given as goal
 abbrev pub invariant-loop-i : goal.invariant-loop-i
 invariant-loop-i l =
     SameTables l.initial.t l.t
-    × After (lent_mut l.initial.t) l.events l.initial.answers l.i (lent_mut l.t) l.answers
+    × After (tables_with l.holidays (lent_mut l.initial.t)) l.events l.initial.answers l.i (tables_with l.holidays (lent_mut l.t)) l.answers
     × Indexed (lent_mut l.t) l.index

@@ -3,20 +3,30 @@
 use Rattle.std.proofs.Common.{rules}
 use Rattle.std.specs.Prelude.{◌≡◌, Err}
 use native.Mathlib.Omega.{arith}
+use Rattle.rules.proofs.HolidayTables.{sound-without}
 use Rattle.rules.proofs.TableLaws.{header-length}
 use Rattle.posting_laws.proofs.AddedLaws.{posts-refused}
-use Rattle.event_refusals.proofs.AdmissionLaws.{admits-refused}
+use Rattle.event_refusals.proofs.AdmissionLaws.{admits-refused, admits-with}
+use Rattle.lent.specs.Lent.{lent_mut}
 use Rattle.batch_index.proofs.KeptLaws.{update-asked}
 use Rattle.call_batch.proofs.post_indexed.Goals as goal
 
 pub returns-in_err-x-clause-posts : goal.returns-in_err-x-clause-posts
 returns-in_err-x-clause-posts c =
     let q : c.from_residual.result ≡ Err c.in_err-x.field-0.0 = search rules in
-    rw q (posts-refused _ c.requires.0 _ _ (admits-refused _ _ _ c.in_err-x.ensures))
+    let a = admits-with c.args.holidays.now (lent_mut c.args.t.now) _ _ c.in_err-x.ensures in
+    rw q (posts-refused _ c.requires.0 _ _ (admits-refused _ _ _ a))
+
+pub admit-requires : goal.admit-requires
+admit-requires c = sound-without c.args.holidays.now (lent_mut c.args.t.now) c.requires.0
 
 pub used-before-requires : goal.used-before-requires
 used-before-requires c = omega (arith, header-length _ c.requires.0)
 
+pub look_up-k-requires : goal.look_up-k-requires
+look_up-k-requires c = (sound-without c.args.holidays.now (lent_mut c.args.t.now) c.requires.0, c.requires.1)
+
 pub update-requires : goal.update-requires
 update-requires c =
-    update-asked _ _ _ _ _ c.used-before.ensures c.requires.0 c.post_admitted-outcome.ensures.posts _ c.requires.1
+    update-asked c.args.holidays.now (lent_mut c.args.t.now) (lent_mut c.post_admitted-outcome.new.t) _ _ _
+    c.used-before.ensures c.requires.0 c.post_admitted-outcome.ensures.posts _ c.requires.1

@@ -10,7 +10,7 @@ use native.Mathlib.Omega.{arith}
 use mathlib.Core.Path.{◌≡◌, ap, ◌∙◌}
 use mathlib.Core.Bool.{true}
 use Rattle.records.specs.Encoding.{nat_of}
-use Rattle.rules.specs.Tables.{sound_tables}
+use Rattle.rules.specs.Tables.{tables_with, sound_tables}
 use borrow.Author.Rules.{sfits_of}
 use Rattle.call_questions.proofs.balance.Goals as goal
 use Rattle.lent.specs.Lent.{lent}
@@ -21,14 +21,14 @@ numbered : (c : After-natural-n) → c.natural-n.result ≡ nat_of c.args.accoun
 numbered c = c.natural-n.ensures ∙ ap nat_of (to_z-of_z c.ranges.account)
 
 -- a book that was not refused
-asked : (e : In_ok-check_question) → sound_tables (lent e.before.before.before.before.args.t) ≡ true
-asked e = asked-sound (lent e.before.before.before.before.args.t) e.natural-n.result e.in_ok-check_question.ensures
+asked : (e : In_ok-check_question) → sound_tables (tables_with e.args.holidays.now (lent e.args.t)) ≡ true
+asked e = asked-sound (tables_with e.args.holidays.now (lent e.args.t)) e.natural-n.result e.in_ok-check_question.ensures
 
 pub returns-in_err-check_question : goal.returns-in_err-check_question
 unfolding balance_call
 returns-in_err-check_question c =
     let q : c.from_residual.result ≡ Err c.in_err-check_question.field-0.0 = search rules in
-    rw q (question-refused book.balance (lent c.args.t) _ _ (numbered (goal.at.returns-in_err-check_question c).After-natural-n) _ c.in_err-check_question.ensures)
+    rw q (question-refused book.balance (tables_with c.args.holidays.now (lent c.args.t)) _ _ (numbered (goal.at.returns-in_err-check_question c).After-natural-n) _ c.in_err-check_question.ensures)
 
 pub rows-requires : goal.rows-requires
 rows-requires c = rows-lie _ (asked (goal.at.rows-requires c).In_ok-check_question)
@@ -39,11 +39,11 @@ invariant_of-summable c =
 
 pub balance-requires : goal.balance-requires
 balance-requires c =
-    let h = sums-small (lent c.args.t) (asked (goal.at.balance-requires c).In_ok-check_question) _ c.rows.ensures.used _ _ (rw c.rows.ensures.journal at c.sums_of-s.ensures) in
+    let h = sums-small (tables_with c.args.holidays.now (lent c.args.t)) (asked (goal.at.balance-requires c).In_ok-check_question) _ c.rows.ensures.used _ _ (rw c.rows.ensures.journal at c.sums_of-s.ensures) in
     (omega arith, omega arith)
 
 pub returns : goal.returns
 unfolding balance_call
 returns c =
-    question-answered book.balance (lent c.args.t) _ _ (numbered (goal.at.returns c).After-natural-n) c.in_ok-check_question.ensures _
-    (to_z-of_z {w = w64} (sfits_of c.balance.type_inv) ∙ c.balance.ensures ∙ balance-read (lent c.args.t) (asked (goal.at.returns c).In_ok-check_question) _ c.rows.ensures.used _ _ (rw c.rows.ensures.journal at c.sums_of-s.ensures))
+    question-answered book.balance (tables_with c.args.holidays.now (lent c.args.t)) _ _ (numbered (goal.at.returns c).After-natural-n) c.in_ok-check_question.ensures _
+    (to_z-of_z {w = w64} (sfits_of c.balance.type_inv) ∙ c.balance.ensures ∙ balance-read (tables_with c.args.holidays.now (lent c.args.t)) (asked (goal.at.returns c).In_ok-check_question) _ c.rows.ensures.used _ _ (rw c.rows.ensures.journal at c.sums_of-s.ensures))

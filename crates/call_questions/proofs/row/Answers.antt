@@ -5,7 +5,7 @@ use native.Mathlib.Omega.{arith}
 use mathlib.Core.Path.{◌≡◌, refl, sym, ap, ◌∙◌}
 use mathlib.Core.Bool.{true, ◌&&◌}
 use Rattle.lists.specs.Tests.{◌from◌to◌}
-use Rattle.rules.specs.Tables.{rows_used, sound_tables}
+use Rattle.rules.specs.Tables.{tables_with, rows_used, sound_tables}
 use mir.Facts.{to_z-of_z}
 use Rattle.records.specs.Encoding.{nat_of}
 use Rattle.call_questions.proofs.row.Goals as goal
@@ -17,11 +17,11 @@ numbered : (c : After-natural-n) → c.natural-n.result ≡ nat_of c.args.number
 numbered c = c.natural-n.ensures ∙ ap nat_of (to_z-of_z c.ranges.number)
 
 -- a row that is used
-there : (e : Else-not-row_used) → sound_tables (lent e.before.before.before.args.t) && e.natural-n.result from 1 to rows_used (lent e.before.before.before.args.t) ≡ true
+there : (e : Else-not-row_used) → sound_tables (tables_with e.args.holidays.now (lent e.args.t)) && e.natural-n.result from 1 to rows_used (tables_with e.args.holidays.now (lent e.args.t)) ≡ true
 there e = sym e.row_used.ensures ∙ not-false _ e.if-not-row_used.false-raw
 
-inside : (e : Else-not-row_used) → Inside (lent e.before.before.before.args.t) e.natural-n.result
-inside e = row_inside (lent e.before.before.before.args.t) e.natural-n.result (there e)
+inside : (e : Else-not-row_used) → Inside (tables_with e.args.holidays.now (lent e.args.t)) e.natural-n.result
+inside e = row_inside (tables_with e.args.holidays.now (lent e.args.t)) e.natural-n.result (there e)
 
 pub returns-then-not-row_used : goal.returns-then-not-row_used
 returns-then-not-row_used c = no_row _ _ _ (numbered (goal.at.returns-then-not-row_used c).After-natural-n) (sym c.row_used.ensures ∙ not-true _ c.if-not-row_used.true-raw) _
@@ -42,4 +42,4 @@ pub slice_bounds-result-end-2 : goal.slice_bounds-result-end-2
 slice_bounds-result-end-2 c = omega (arith, (inside (goal.at.slice_bounds-result-end-2 c).Else-not-row_used).room)
 
 pub returns : goal.returns
-returns c = row-part _ _ _ (numbered (goal.at.returns c).After-natural-n) _ (there (goal.at.returns c).Else-not-row_used) refl _
+returns c = row-part (tables_with c.args.holidays.now (lent c.args.t)) _ _ (numbered (goal.at.returns c).After-natural-n) _ (there (goal.at.returns c).Else-not-row_used) refl _

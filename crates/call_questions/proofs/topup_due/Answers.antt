@@ -3,7 +3,8 @@ use Rattle.call_questions.proofs.QuestionLaws.{asked-sound, question-refused, qu
 use Rattle.rules.specs.Book as book
 use Rattle.rules.specs.Calls.{topup_due_call}
 use Rattle.records.specs.Encoding.{nat_of}
-use Rattle.rules.specs.Tables.{sound_tables}
+use Rattle.rules.specs.Tables.{tables_with, book_of, sound_tables}
+use Rattle.rules.proofs.HolidayTables.{sound-without}
 use mir.Facts.{to_z-of_z}
 use lib.IntN.{pos}
 use mathlib.Core.Bool.{true, cond}
@@ -19,8 +20,8 @@ numbered : (c : After-natural-n) → c.natural-n.result ≡ nat_of c.args.accoun
 numbered c = c.natural-n.ensures ∙ ap nat_of (to_z-of_z c.ranges.account)
 
 -- a book that was not refused
-asked : (e : In_ok-check_question) → sound_tables (lent e.before.before.before.before.args.t) ≡ true
-asked e = asked-sound (lent e.before.before.before.before.args.t) e.natural-n.result e.in_ok-check_question.ensures
+asked : (e : In_ok-check_question) → sound_tables (tables_with e.args.holidays.now (lent e.args.t)) ≡ true
+asked e = asked-sound (tables_with e.args.holidays.now (lent e.args.t)) e.natural-n.result e.in_ok-check_question.ensures
 
 pub returns-in_err-check_question : goal.returns-in_err-check_question
 unfolding topup_due_call
@@ -29,10 +30,11 @@ returns-in_err-check_question c =
     rw q (question-refused (λ b n. pos (cond (book.topup_due b n) 1 0)) _ _ _ (numbered (goal.at.returns-in_err-check_question c).After-natural-n) _ c.in_err-check_question.ensures)
 
 pub topup_due-requires : goal.topup_due-requires
-topup_due-requires c = asked c
+topup_due-requires c = sound-without c.args.holidays.now (lent c.args.t) (asked c)
 
+-- the question never reads the holidays
 pub returns : goal.returns
-unfolding topup_due_call
+unfolding topup_due_call book.topup_due book.low_balance book_of
 returns c =
     question-answered (λ b n. pos (cond (book.topup_due b n) 1 0)) _ _ _ (numbered (goal.at.returns c).After-natural-n) c.in_ok-check_question.ensures _
     (rw (← c.topup_due.ensures))

@@ -6,7 +6,7 @@ use mathlib.Core.Bool.{true, false}
 use Rattle.lists.specs.Tests.{first}
 use Rattle.rules.proofs.TableLaws.{header-length}
 use Rattle.posting.proofs.BookLaws.{day-read, used-small}
-use Rattle.posting_laws.proofs.AddedLaws.{posts-refused}
+use Rattle.posting_laws.proofs.AnyHolidays.{refused-any}
 use Rattle.posting_laws.proofs.AccountEventLaws.{named-inside, named_in}
 use Rattle.event_accounts.proofs.RequestLaws.{request-by, request-storable, request-posts}
 use Rattle.event_accounts.proofs.request_close.Goals as goal
@@ -14,7 +14,7 @@ use Rattle.event_accounts.proofs.request_close.Goals as goal
 pub returns-then-x-eq-STATE_PENDING-clause-posts : goal.returns-then-x-eq-STATE_PENDING-clause-posts
 unfolding first
 returns-then-x-eq-STATE_PENDING-clause-posts c =
-    posts-refused _ c.requires.0 _ Untimely
+    refused-any _ c.requires.0 c.args.e Untimely (rw c.requires.1)
     (request-by _ c.requires.0 _ c.requires.1 c.requires.2 true (rw (← c.requires.3) (eq-eqb _ _ c.if-x-eq-STATE_PENDING.true)))
 
 pub overflow_sub-e : goal.overflow_sub-e

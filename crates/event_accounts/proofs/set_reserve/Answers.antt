@@ -5,7 +5,7 @@ use mathlib.Core.Path.{◌∙◌}
 use native.Mathlib.Omega.{arith}
 use Rattle.rules.proofs.TableLaws.{header-length}
 use Rattle.posting.proofs.BookLaws.{used-small}
-use Rattle.posting_laws.proofs.AddedLaws.{posts-refused}
+use Rattle.posting_laws.proofs.AnyHolidays.{refused-any}
 use Rattle.posting_laws.proofs.AccountEventLaws.{named-inside, named_in}
 use Rattle.event_accounts.proofs.ReserveLaws.{answer-reserve, reserve-storable, reserve-posts}
 use Rattle.event_accounts.proofs.set_reserve.Goals as goal
@@ -14,7 +14,7 @@ pub returns-in_err-check_reserve-clause-posts : goal.returns-in_err-check_reserv
 returns-in_err-check_reserve-clause-posts c =
     let s = c.requires.0 in
     let q : c.from_residual.result ≡ Err c.in_err-check_reserve.field-0.0 = search rules in
-    rw q (posts-refused _ s _ _ (c.in_err-check_reserve.ensures _ c.requires.3 ∙ answer-reserve _ s _ c.requires.1 c.requires.2))
+    rw q (refused-any _ s c.args.e _ (rw c.requires.1) (c.in_err-check_reserve.ensures _ c.requires.3 ∙ answer-reserve _ s _ c.requires.1 c.requires.2))
 
 pub overflow_sub-e : goal.overflow_sub-e
 overflow_sub-e c =

@@ -5,14 +5,14 @@ use borrow.Author.Tests.{eq-eqb, ne_eqb}
 use native.Mathlib.Omega.{arith}
 use Rattle.rules.proofs.TableLaws.{header-length}
 use Rattle.posting.proofs.BookLaws.{used-small}
-use Rattle.posting_laws.proofs.AddedLaws.{posts-refused}
+use Rattle.posting_laws.proofs.AnyHolidays.{posts-any, refused-any}
 use Rattle.event_decision.proofs.DecisionLaws.{releasable, rejected-puts, upholdable, upheld-settles, upheld-begins, upheld-posts}
 use Rattle.event_decision.proofs.decide.Goals as goal
 
 pub returns-in_err-check_decision-clause-posts : goal.returns-in_err-check_decision-clause-posts
 returns-in_err-check_decision-clause-posts c =
     let q : c.from_residual.result ≡ Err c.in_err-check_decision.field-0.0 = search rules in
-    rw q (posts-refused _ c.requires.0 _ _ c.in_err-check_decision.ensures)
+    rw q (refused-any _ c.requires.0 c.args.e _ (rw c.requires.1) c.in_err-check_decision.ensures)
 
 pub used-used-requires : goal.used-used-requires
 used-used-requires c = omega (arith, header-length _ c.requires.0)
@@ -42,7 +42,8 @@ returns-then-e-eq-CODE_YES-clause-posts c =
     let p = c.requires in
     let d = rw c.used-used.ensures at c.settle_from.ensures in
     rw (c.posted.ensures, c.used-used.ensures, c.uphold.ensures.accounts)
-    (upheld-posts _ p.0 _ p.1 c.in_ok-check_decision.ensures (eq-eqb _ _ c.if-e-eq-CODE_YES.true) _ _ c.uphold.ensures.upheld _ d)
+    (posts-any _ _ c.args.e _ (rw p.1)
+    (upheld-posts _ p.0 _ p.1 c.in_ok-check_decision.ensures (eq-eqb _ _ c.if-e-eq-CODE_YES.true) _ _ c.uphold.ensures.upheld _ d))
 
 pub freed_row-free-requires : goal.freed_row-free-requires
 freed_row-free-requires c =

@@ -3,6 +3,8 @@ use native.Mathlib.Omega.{arith}
 use borrow.Author.Tests.{eqb-false}
 use Rattle.rules.proofs.TableLaws.{header-length}
 use Rattle.posting.proofs.BookLaws.{used-small, used-room}
+use Rattle.posting_laws.proofs.AnyHolidays.{posts-any}
+use Rattle.posting_laws.proofs.EventLaws.{named-no-tick}
 use Rattle.posting_laws.proofs.PutRowLaws.{row-used, put-settles, put-posts}
 use Rattle.event_lookups.proofs.LookupLaws.{still_before, still-put, begun-still, row-at}
 use Rattle.event_ends.proofs.put_and_settle.Goals as goal
@@ -41,4 +43,5 @@ returns-clause-posts c =
     let p = c.requires.2 in
     let d = rw c.used-used.ensures at c.settle_from.ensures in
     rw c.posted.ensures
-    (put-posts _ c.requires.0 _ p.accepted _ p.change p.stands _ c.write_row.ensures (eqb-false _ _ p.keeps-topup) p.names-account _ d)
+    (posts-any _ _ c.args.e _ (named-no-tick c.args.e p.names-account)
+    (put-posts _ c.requires.0 _ p.accepted _ p.change p.stands _ c.write_row.ensures (eqb-false _ _ p.keeps-topup) p.names-account _ d))

@@ -5,6 +5,7 @@ use Rattle.rules.proofs.TableLaws.{header-length}
 use Rattle.tables.specs.Changes.{put_all}
 use Rattle.posting.proofs.BookLaws.{used-small}
 use Rattle.table_lists.proofs.UsedLaws.{used-few}
+use Rattle.posting_laws.proofs.AnyHolidays.{posts-any}
 use Rattle.event_list.proofs.ListLaws.{list-accepted, in-range, list-fits, words-held, list-posts}
 use Rattle.event_list.proofs.add_list.Goals as goal
 
@@ -40,4 +41,5 @@ unfolding put_all list_words rates_words
 returns-clause-posts c =
     let q = list-accepted _ c.requires.0 _ c.requires.1 c.requires.2 in
     rw c.posted.ensures
-    (list-posts _ c.requires.0 _ c.requires.1 q _ (rw (c.put_words.ensures, (rw c.read.ensures.header at c.lists_used.ensures))))
+    (posts-any _ _ c.args.e _ (rw c.requires.1)
+    (list-posts _ c.requires.0 _ c.requires.1 q _ (rw (c.put_words.ensures, (rw c.read.ensures.header at c.lists_used.ensures)))))

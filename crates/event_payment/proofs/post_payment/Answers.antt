@@ -3,7 +3,7 @@ use Rattle.std.proofs.Common.{rules}
 use Rattle.std.specs.Prelude.{◌≡◌, Err}
 use mathlib.Core.Path.{refl}
 use Rattle.posting.proofs.BookLaws.{day-read}
-use Rattle.posting_laws.proofs.AddedLaws.{posts-refused}
+use Rattle.posting_laws.proofs.AnyHolidays.{posts-any, refused-any}
 use Rattle.event_ends.proofs.AddedLaws.{payment-settles}
 use Rattle.event_payment.proofs.PaymentLaws.{payment-inside, payment-fits, payment-storable, payment-posts}
 use Rattle.event_payment.proofs.post_payment.Goals as goal
@@ -11,7 +11,7 @@ use Rattle.event_payment.proofs.post_payment.Goals as goal
 pub returns-in_err-check_payment-clause-posts : goal.returns-in_err-check_payment-clause-posts
 returns-in_err-check_payment-clause-posts c =
     let q : c.from_residual.result ≡ Err c.in_err-check_payment.field-0.0 = search rules in
-    rw q (posts-refused _ c.requires.0 _ _ c.in_err-check_payment.ensures)
+    rw q (refused-any _ c.requires.0 c.args.e _ (rw c.requires.1) c.in_err-check_payment.ensures)
 
 pub pay_and_settle-requires : goal.pay_and_settle-requires
 pay_and_settle-requires c =
@@ -28,4 +28,4 @@ returns-clause-posts c =
     let q = c.in_ok-check_payment.ensures in
     let d = rw (day-read _ s) at c.pay_and_settle.ensures.settled in
     rw (c.pay_and_settle.ensures.accounts, c.pay_and_settle.ensures.answer)
-    (payment-posts _ s _ k q _ _ _ d.added d.settled (payment-fits _ s _ k q))
+    (posts-any _ _ c.args.e _ (rw k) (payment-posts _ s _ k q _ _ _ d.added d.settled (payment-fits _ s _ k q)))

@@ -4,14 +4,14 @@ use Rattle.std.specs.Prelude.{◌≡◌, Err}
 use native.Mathlib.Omega.{arith}
 use Rattle.rules.proofs.TableLaws.{header-length}
 use Rattle.posting.proofs.BookLaws.{used-small}
-use Rattle.posting_laws.proofs.AddedLaws.{posts-refused}
+use Rattle.posting_laws.proofs.AnyHolidays.{posts-any, refused-any}
 use Rattle.event_return.proofs.ReturnLaws.{charge-le, return-counts, return-marks, marked-read, amount-read, reversal-read, reversal-storable, reversal-room, fee-read, fee-storable, fee-room, return-settles, return-begins, return-posts}
 use Rattle.event_return.proofs.return_check.Goals as goal
 
 pub returns-in_err-check_return-clause-posts : goal.returns-in_err-check_return-clause-posts
 returns-in_err-check_return-clause-posts c =
     let q : c.from_residual.result ≡ Err c.in_err-check_return.field-0.0 = search rules in
-    rw q (posts-refused _ c.requires.0 _ _ c.in_err-check_return.ensures)
+    rw q (refused-any _ c.requires.0 c.args.e _ (rw c.requires.1) c.in_err-check_return.ensures)
 
 pub used-used-requires : goal.used-used-requires
 used-used-requires c = omega (arith, header-length _ c.requires.0)
@@ -92,4 +92,4 @@ returns-clause-posts c =
     let v = rw (fee-read _ s _ k q _ m _ _ w) at c.add_naming-2.ensures in
     let a = rw c.requires.4 at c.count_return.ensures in
     let z = rw u at c.settle_from.ensures in
-    rw (c.posted.ensures, u) (return-posts _ s _ k q _ m _ _ w _ _ v _ _ a z)
+    rw (c.posted.ensures, u) (posts-any _ _ c.args.e _ (rw k) (return-posts _ s _ k q _ m _ _ w _ _ v _ _ a z))

@@ -6,6 +6,8 @@ use mathlib.Core.Bool.{true, false}
 use Rattle.lists.specs.Tests.{first}
 use Rattle.rules.proofs.TableLaws.{header-length, sound-book}
 use Rattle.posting.proofs.BookLaws.{used-small, day-read}
+use Rattle.lent.specs.Lent.{lent_mut}
+use Rattle.event_tick.proofs.AnyHolidays.{admitted-with}
 use Rattle.event_tick.proofs.TickLaws.{tick-by, tick-lacks, tick-fits}
 use Rattle.event_tick.proofs.judge_tick.Goals as goal
 
@@ -16,7 +18,7 @@ pub returns-then-day-eq-FINAL_DAY : goal.returns-then-day-eq-FINAL_DAY
 unfolding first
 returns-then-day-eq-FINAL_DAY c =
     record {
-      number = tick-by _ _ (sound-book _ c.requires.0) c.requires.1 c.requires.2 true _
+      number = tick-by _ _ (sound-book _ c.requires.0) c.requires.1 (admitted-with c.args.holidays.now (lent_mut c.args.t.now) _ c.requires.2) true _
           (eq-eqb _ _ (sym (day-read _ c.requires.0) ∙ sym c.day.ensures ∙ c.if-day-eq-FINAL_DAY.true)) refl;
       plan = tt;
     }
@@ -29,7 +31,7 @@ pub returns-then-not-has_room : goal.returns-then-not-has_room
 unfolding first
 returns-then-not-has_room c =
     record {
-      number = tick-by _ _ (sound-book _ c.requires.0) c.requires.1 c.requires.2 false true (ne_eqb _ _ (λ z. c.if-day-eq-FINAL_DAY.false (c.day.ensures ∙ day-read _ c.requires.0 ∙ z)))
+      number = tick-by _ _ (sound-book _ c.requires.0) c.requires.1 (admitted-with c.args.holidays.now (lent_mut c.args.t.now) _ c.requires.2) false true (ne_eqb _ _ (λ z. c.if-day-eq-FINAL_DAY.false (c.day.ensures ∙ day-read _ c.requires.0 ∙ z)))
           (tick-lacks _ c.requires.0 _ c.plan_tick-plan.ensures.added (false-leb _ _ (sym (not-true _ c.if-not-has_room.true-raw) ∙ c.has_room.ensures)));
       plan = tt;
     }
@@ -38,7 +40,7 @@ pub returns : goal.returns
 unfolding first
 returns c =
     record {
-      number = tick-by _ _ (sound-book _ c.requires.0) c.requires.1 c.requires.2 false false (ne_eqb _ _ (λ z. c.if-day-eq-FINAL_DAY.false (c.day.ensures ∙ day-read _ c.requires.0 ∙ z)))
+      number = tick-by _ _ (sound-book _ c.requires.0) c.requires.1 (admitted-with c.args.holidays.now (lent_mut c.args.t.now) _ c.requires.2) false false (ne_eqb _ _ (λ z. c.if-day-eq-FINAL_DAY.false (c.day.ensures ∙ day-read _ c.requires.0 ∙ z)))
           (tick-fits _ c.requires.0 _ c.plan_tick-plan.ensures.added (true-leb _ _ (sym (not-false _ c.if-not-has_room.false-raw) ∙ c.has_room.ensures)));
       plan = c.plan_tick-plan.ensures;
     }

@@ -2,6 +2,7 @@
 use Rattle.std.proofs.Common.{rules}
 use Rattle.std.specs.Prelude.{◌≡◌, Err}
 use Rattle.posting_laws.proofs.AddedLaws.{posts-refused}
+use Rattle.event_tick.proofs.TickLaws.{accepts-planned}
 use Rattle.event_tick.proofs.tick.Goals as goal
 
 pub returns-in_err-plan-clause-posts : goal.returns-in_err-plan-clause-posts
@@ -10,10 +11,7 @@ returns-in_err-plan-clause-posts c =
     rw q (posts-refused _ c.requires.0 _ _ c.in_err-plan.ensures.number)
 
 pub carry_out-requires : goal.carry_out-requires
-carry_out-requires c =
-    record {
-      sound = c.requires.0;
-      kind = c.requires.1;
-      taken = c.in_ok-plan.ensures.number;
-      plan = c.in_ok-plan.ensures.plan;
-    }
+carry_out-requires c = (c.args.holidays.now, accepts-planned _ c.requires.0 _ c.requires.1 _ c.in_ok-plan.ensures)
+
+pub returns-clause-posts : goal.returns-clause-posts
+returns-clause-posts c = c.carry_out.ensures.posts _ (accepts-planned _ c.requires.0 _ c.requires.1 _ c.in_ok-plan.ensures)

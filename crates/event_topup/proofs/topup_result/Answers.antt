@@ -4,7 +4,7 @@ use Rattle.std.specs.Prelude.{◌≡◌, Err}
 use native.Mathlib.Omega.{arith}
 use Rattle.rules.proofs.TableLaws.{header-length}
 use Rattle.posting.proofs.BookLaws.{day-read, used-small}
-use Rattle.posting_laws.proofs.AddedLaws.{posts-refused}
+use Rattle.posting_laws.proofs.AnyHolidays.{posts-any, refused-any}
 use Rattle.posting_laws.proofs.AccountEventLaws.{named-inside, named_in}
 use Rattle.event_topup.proofs.DeclinedLaws.{declined-storable, declined-posts}
 use Rattle.event_topup.proofs.topup_result.Goals as goal
@@ -12,11 +12,14 @@ use Rattle.event_topup.proofs.topup_result.Goals as goal
 pub returns-in_err-check_result-clause-posts : goal.returns-in_err-check_result-clause-posts
 returns-in_err-check_result-clause-posts c =
     let q : c.from_residual.result ≡ Err c.in_err-check_result.field-0.0 = search rules in
-    rw q (posts-refused _ c.requires.0 _ _ c.in_err-check_result.ensures)
+    rw q (refused-any _ c.requires.0 c.args.e _ (rw c.requires.1) c.in_err-check_result.ensures)
 
 pub pay_topup-requires : goal.pay_topup-requires
 pay_topup-requires c =
     (record { sound = c.requires.0; kind = c.requires.1; accepted = c.in_ok-check_result.ensures; paid = c.if-e-eq-CODE_YES.true }, c.requires.2, c.requires.4)
+
+pub returns-then-e-eq-CODE_YES-clause-posts : goal.returns-then-e-eq-CODE_YES-clause-posts
+returns-then-e-eq-CODE_YES-clause-posts c = posts-any _ _ c.args.e _ (rw c.requires.1) c.pay_topup.ensures.posts
 
 pub day-requires : goal.day-requires
 day-requires c = omega (arith, header-length _ c.requires.0)

@@ -1,14 +1,13 @@
--- `post_admitted` meets its contract: each kind has its function, and another is not admitted.
-use mathlib.Core.Path.{refl, sym, ◌∙◌}
-use mathlib.Core.Bool.{true≢false}
-use Rattle.rules.proofs.RefusalLaws.{shared-formed}
-use Rattle.event_forms.proofs.KindLaws.{no-form, well_formed-of}
+-- `post_admitted` meets its contract: the tick reads the holidays, and every other event is posted alike whatever they are.
+use borrow.Author.Tests.{ne_eqb}
+use Rattle.rules.proofs.HolidayTables.{sound-without}
+use Rattle.lent.specs.Lent.{lent_mut}
 use Rattle.events.proofs.post_admitted.Goals as goal
 
-pub returns-in_default : goal.returns-in_default
-returns-in_default c =
-    let r = c.in_default.in_default-own.rest in
-    let formed = shared-formed _ _ c.requires.2 in
-    let none = no-form _ _ r.0.0.0.0.0.0.0.0.0.0.1 r.0.0.0.0.0.0.0.0.0.1 r.0.0.0.0.0.0.0.0.1 r.0.0.0.0.0.0.0.1
-    r.0.0.0.0.0.0.1 r.0.0.0.0.0.1 r.0.0.0.0.1 r.0.0.0.1 r.0.0.1 r.0.1 r.1 in
-    absurd (true≢false (sym formed ∙ sym (well_formed-of _ _ refl) ∙ none))
+pub post_within_day-requires : goal.post_within_day-requires
+post_within_day-requires c =
+    let p = c.requires in
+    (sound-without c.args.holidays.now (lent_mut c.args.t.now) p.0, ne_eqb _ _ c.if-e-eq-EVENT_TICK.false, p.1, p.2, p.3)
+
+pub returns-clause-posts : goal.returns-clause-posts
+returns-clause-posts c = c.post_within_day.ensures.posts c.args.holidays.now c.requires.0

@@ -1,11 +1,19 @@
 -- `post_event` meets its contract: refused by a shared refusal, the tables stay; else it is looked up and posted.
 use Rattle.std.proofs.Common.{rules}
 use Rattle.std.specs.Prelude.{◌≡◌, Err}
+use Rattle.rules.proofs.HolidayTables.{sound-without}
 use Rattle.posting_laws.proofs.AddedLaws.{posts-refused}
-use Rattle.event_refusals.proofs.AdmissionLaws.{admits-refused}
+use Rattle.event_refusals.proofs.AdmissionLaws.{admits-refused, admits-with}
+use Rattle.lent.specs.Lent.{lent_mut}
 use Rattle.events.proofs.post_event.Goals as goal
+
+pub admit-requires : goal.admit-requires
+admit-requires c = sound-without c.args.holidays.now (lent_mut c.args.t.now) c.requires
 
 pub returns-in_err-x-clause-posts : goal.returns-in_err-x-clause-posts
 returns-in_err-x-clause-posts c =
     let q : c.from_residual.result ≡ Err c.in_err-x.field-0.0 = search rules in
-    rw q (posts-refused _ c.requires _ _ (admits-refused _ _ _ c.in_err-x.ensures))
+    rw q (posts-refused _ c.requires _ _ (admits-refused _ _ _ (admits-with c.args.holidays.now _ _ _ c.in_err-x.ensures)))
+
+pub look_up-k-requires : goal.look_up-k-requires
+look_up-k-requires c = sound-without c.args.holidays.now (lent_mut c.args.t.now) c.requires

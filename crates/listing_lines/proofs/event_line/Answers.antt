@@ -27,7 +27,7 @@ returns-clause-carried c =
     let good = event-good line a.n three ∙ read.0 in
     carried-good a.n _ _ line _ a.out.now _ good
     (judged-good a.n _ _ line _ good refl (posted-book a.n _ _ line _ _ _ three sound read.1 e p) (record {
-      sized = record { header = omega (arith, sized.header); accounts = omega (arith, sized.accounts); journal = omega (arith, sized.journal) };
+      sized = record { header = omega (arith, sized.header); accounts = omega (arith, sized.accounts); journal = omega (arith, sized.journal); holidays = refl };
       sound = λ q. posted-sound a.n _ _ line _ _ _ three sound read.1 e p;
     }))
     (rw (← posted-text a.n _ _ line _ _ _ three sound read.1 e p) w.text)

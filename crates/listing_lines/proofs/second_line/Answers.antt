@@ -32,6 +32,6 @@ returns-clause-judged c = go (is_ok c.open_book.result) refl
         let o = c.open_book.ensures.gives in
         let z = opened-number _ e in
         judged-good 1 _ _ line _ (second-good _ _ line _ _ s read.0 read.1 o z) (ok ∙ e) (second-book _ _ line _ _ s read.0 read.1 o z) (record {
-          sized = record { header = omega (arith, s.header); accounts = omega (arith, s.accounts); journal = omega (arith, s.journal) };
+          sized = record { header = omega (arith, s.header); accounts = omega (arith, s.accounts); journal = omega (arith, s.journal); holidays = refl };
           sound = λ q. second-sound _ _ line _ _ s read.0 read.1 o z;
         })

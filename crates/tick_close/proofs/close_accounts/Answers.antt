@@ -5,30 +5,30 @@ use Rattle.tick_close.proofs.ClosedBookLaws.{rows-usable, all-closable, closed-w
 use Rattle.tick_close.proofs.close_accounts.Goals as goal
 
 pub used-used-requires : goal.used-used-requires
-used-used-requires c = omega (arith, midway-header _ _ c.requires.midway)
+used-used-requires c = omega (arith, midway-header _ _ c.requires.1.midway)
 
 pub day-today-requires : goal.day-today-requires
-day-today-requires c = omega (arith, midway-header _ _ c.requires.midway)
+day-today-requires c = omega (arith, midway-header _ _ c.requires.1.midway)
 
 pub rows-requires : goal.rows-requires
-rows-requires c = (omega (arith, midway-header _ _ c.requires.midway), midway-room _ _ c.requires.midway)
+rows-requires c = (omega (arith, midway-header _ _ c.requires.1.midway), midway-room _ _ c.requires.1.midway)
 
 pub invariant_of-countable : goal.invariant_of-countable
-invariant_of-countable c = record { countable = rw (c.rows.ensures.journal, c.rows.ensures.used) (midway-countable _ _ c.requires.midway) }
+invariant_of-countable c = record { countable = rw (c.rows.ensures.journal, c.rows.ensures.used) (midway-countable _ _ c.requires.1.midway) }
 
 pub use_rows-requires : goal.use_rows-requires
 use_rows-requires c =
-    rw c.used-used.ensures (rows-usable _ c.requires.midway)
+    rw c.used-used.ensures (rows-usable _ c.requires.1.midway)
 
 pub close_each-requires : goal.close_each-requires
 close_each-requires c =
-    let p = c.requires in
+    let p = c.requires.1 in
     let sums = rw (c.rows.ensures.journal, c.rows.ensures.used) at c.of_rows-remains.ensures in
     let used = rw (c.used-used.ensures, c.day-today.ensures) at c.use_rows.ensures in
-    rw c.day-today.ensures (all-closable _ p.midway _ sums _ used p.room)
+    rw c.day-today.ensures (all-closable _ p.midway p.business _ sums _ used p.room)
 
 pub returns-clause-written : goal.returns-clause-written
-returns-clause-written c =
+returns-clause-written c hs p =
     let sums = rw (c.rows.ensures.journal, c.rows.ensures.used) at c.of_rows-remains.ensures in
     let used = rw (c.used-used.ensures, c.day-today.ensures) at c.use_rows.ensures in
-    closed-written _ c.requires.midway _ sums _ used _ _ _ (rw c.day-today.ensures at c.close_each.ensures.closed)
+    closed-written _ p.midway p.business _ sums _ used _ _ _ (rw c.day-today.ensures at c.close_each.ensures.closed)

@@ -1,17 +1,16 @@
--- `rows::RowCounts::any_closes` meets its contract: where the answer is no, it is no at each account.
-use Rattle.std.proofs.Common.{rules}
-use Rattle.std.proofs.lemmas.Iterator.{cases_from_any, YieldsList-from_range}
-use mathlib.Core.Bool.{true, false}
-use mathlib.Core.Path.{refl}
-use native.Mathlib.Omega.{arith}
-use Rattle.tick_plan.proofs.CountLaws.{ClosesIs, none-by}
+-- `rows::RowCounts::any_closes` meets its contract: on a day that is no business day there is nothing to show.
+use mathlib.Core.Bool.{true≢false}
+use mathlib.Core.Path.{sym, ◌∙◌}
+use borrow.Author.Tests.{not-true, not-false}
 use Rattle.tick_plan.proofs.rows.RowCounts.any_closes.Goals as goal
 
-pub returns : goal.returns
-returns c =
-    let x = c.args.self.now in
-    let a = c.args.t.now.accounts.now in
-    let n = c.count.result in
-    rw c.count.ensures at (none-by x a n _
-    (cases_from_any _ _ _ (ClosesIs x a true) (ClosesIs x a false) c.any.ensures.ran
-    (YieldsList-from_range 0 n n refl (omega arith)) (λ i q d. search rules) (λ i q d. search rules)))
+pub is_business_day-requires : goal.is_business_day-requires
+is_business_day-requires c = c.requires.1
+
+pub returns-then-not-is_business_day-clause-none : goal.returns-then-not-is_business_day-clause-none
+returns-then-not-is_business_day-clause-none c f due =
+    let shut = sym c.is_business_day.ensures ∙ not-true _ c.if-not-is_business_day.true-raw in
+    absurd (true≢false (sym due ∙ shut))
+
+pub returns-clause-business : goal.returns-clause-business
+returns-clause-business c e = sym c.is_business_day.ensures ∙ not-false _ c.if-not-is_business_day.false-raw
