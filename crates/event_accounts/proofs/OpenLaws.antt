@@ -1,11 +1,9 @@
 -- Event 1: which refusals concern it, and the book that it makes.
 use mathlib.Core.Path.{◌≡◌, refl, sym, ◌∙◌}
 use mathlib.Core.Bool.{Bool, true, false, not, ◌&&◌}
-use Prim.Native.Nat.{◌-◌, ◌≤◌}
+use Prim.Native.Nat.{◌≤◌}
 use native.Mathlib.Omega.{arith}
-use mathlib.Core.List.{List}
 use lib.ListN.{length}
-use lib.IntN.{ℤ}
 use lib.Dec.{leb}
 use borrow.Author.Tests.{leb-true, not-false}
 use Rattle.records.specs.Codes.{event_open}
@@ -20,15 +18,14 @@ use Rattle.rules.specs.Book.{Account, Instruction, state_open, Book, put_account
 use Rattle.rules.specs.Events.{open_account}
 use Rattle.rules.specs.Refusals.{change_of, zero_from-c, open_form, form_of, well_formed, answer_number, own_refusals}
 use Rattle.rules.specs.Posting.{removes_topup}
-use Rattle.rules.specs.Tables.{Tables, rows_used, book_of, sound_tables}
+use Rattle.rules.specs.Tables.{Tables, book_of, sound_tables}
 use Rattle.rules.proofs.RefusalLaws.{own_tests, answer_number-own}
 use Rattle.preservation.proofs.Accepted.{accepted}
-use Rattle.tables.specs.Changes.{AccountChanged}
-use Rattle.posting.specs.Posts.{tables_over, acceptance_of, PostsAny}
 use Rattle.records.specs.Updates.{of_kind}
 use Rattle.posting_laws.proofs.RefusalLaws.{at-kind}
-use Rattle.posting_laws.proofs.AccountEventLaws.{rows_fit, never-full, never-above, account-posts}
+use Rattle.posting_laws.proofs.AccountEventLaws.{rows_fit, never-full, never-above}
 use Rattle.event_refusals.specs.Admissions.{Admitted}
+use Rattle.event_ends.specs.Ends.{PutsAccount}
 
 module _ (b : Book) (e : Instruction) (fit : length b.rows ≤ b.room) where
   abbrev event1 : Instruction
@@ -72,11 +69,11 @@ module _ (t : Tables) (s : sound_tables t ≡ true) (e : Instruction) (k : e.kin
       (storable-set _ threshold_place e.a (omega (arith, leb-true e.a highest_topup (and_left threshold-part amount-part both)))
       (storable-set _ state_place state_open (omega arith) (storable-zeros account_width)))
 
-  pub open-posts : (acc : List ℤ) → AccountChanged t.accounts acc (e.account - 1) new_account
-      → PostsAny t (tables_over t t.header acc t.journal) e (acceptance_of (rows_used t) 0 0 0)
-  open-posts acc w =
-      let p = account-posts t s e (rw k) q new_account changed acc w in
-      rw keeps-topup at p
-    where
-      keeps-topup : removes_topup (book_of t) e ≡ false
-      keeps-topup = unfold removes_topup in (rw k)
+  pub open-puts : PutsAccount t e new_account false
+  open-puts = record {
+    accepted = q;
+    change = changed;
+    names-account = rw k;
+    removes = unfold removes_topup in (rw k);
+    storable = open-storable;
+  }

@@ -1,11 +1,10 @@
 -- Event 8: which refusals concern it, and the book that it makes.
 use mathlib.Core.Path.{◌≡◌, refl}
 use mathlib.Core.Bool.{Bool, true, false}
-use Prim.Native.Nat.{◌-◌, ◌≤◌}
+use Prim.Native.Nat.{◌≤◌}
 use native.Mathlib.Omega.{arith}
-use mathlib.Core.List.{List, [], ◌∷◌}
+use mathlib.Core.List.{[], ◌∷◌}
 use lib.ListN.{length}
-use lib.IntN.{ℤ}
 use Rattle.records.specs.Numbers.{answer_untimely}
 use Rattle.records.specs.Codes.{event_close_request}
 use Rattle.records.specs.Layout.{state_place, request_place}
@@ -17,17 +16,16 @@ use Rattle.rules.specs.Book.{Account, Instruction, state_pending, Book, account,
 use Rattle.rules.specs.Events.{request_close}
 use Rattle.rules.specs.Refusals.{change_of, answer_number, own_refusals}
 use Rattle.rules.specs.Posting.{removes_topup}
-use Rattle.rules.specs.Tables.{Tables, rows_used, book_of, sound_tables}
+use Rattle.rules.specs.Tables.{Tables, book_of, sound_tables}
 use Rattle.rules.proofs.RefusalLaws.{own_tests, answer_number-own}
 use Rattle.rules.proofs.StorableLaws.{day-le}
 use Rattle.rules.proofs.TableLaws.{sound-book}
-use Rattle.tables.specs.Changes.{AccountChanged}
-use Rattle.posting.specs.Posts.{tables_over, acceptance_of, PostsAny}
 use Rattle.posting.proofs.BookLaws.{account-holds}
 use Rattle.records.specs.Updates.{of_kind}
 use Rattle.posting_laws.proofs.RefusalLaws.{at-kind}
-use Rattle.posting_laws.proofs.AccountEventLaws.{rows_fit, never-full, never-above, account-posts}
+use Rattle.posting_laws.proofs.AccountEventLaws.{rows_fit, never-full, never-above}
 use Rattle.event_refusals.specs.Admissions.{Admitted}
+use Rattle.event_ends.specs.Ends.{PutsAccount}
 use Rattle.event_accounts.specs.AccountEvents.{request_refusals}
 
 module _ (b : Book) (e : Instruction) (fit : length b.rows ≤ b.room) where
@@ -67,11 +65,11 @@ module _ (t : Tables) (s : sound_tables t ≡ true) (e : Instruction) where
     changed =
         at-kind (λ x. change_of x.kind (book_of t) x ≡ put_account x.account (close_requested_on (book_of t).day (account (book_of t) x.account)) (book_of t)) e 8 k refl
 
-    pub request-posts : (acc : List ℤ) → AccountChanged t.accounts acc (e.account - 1) pending_account
-        → PostsAny t (tables_over t t.header acc t.journal) e (acceptance_of (rows_used t) 0 0 0)
-    request-posts acc w =
-        let p = account-posts t s e (rw k) q pending_account changed acc w in
-        rw keeps-topup at p
-      where
-        keeps-topup : removes_topup (book_of t) e ≡ false
-        keeps-topup = unfold removes_topup in (rw k)
+    pub request-puts : PutsAccount t e pending_account false
+    request-puts = record {
+      accepted = q;
+      change = changed;
+      names-account = rw k;
+      removes = unfold removes_topup in (rw k);
+      storable = request-storable;
+    }

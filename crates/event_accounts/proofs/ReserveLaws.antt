@@ -1,11 +1,10 @@
 -- Event 11: which refusals concern it, and the book that it makes.
 use mathlib.Core.Path.{◌≡◌, refl, sym}
 use mathlib.Core.Bool.{Bool, true, false, not}
-use Prim.Native.Nat.{◌-◌, ◌≤◌}
+use Prim.Native.Nat.{◌≤◌}
 use native.Mathlib.Omega.{arith}
-use mathlib.Core.List.{List, [], ◌∷◌}
+use mathlib.Core.List.{[], ◌∷◌}
 use lib.ListN.{length}
-use lib.IntN.{ℤ}
 use lib.Dec.{leb}
 use borrow.Author.Tests.{leb-true, not-false}
 use Rattle.records.specs.Numbers.{answer_untimely, answer_reserve}
@@ -20,16 +19,15 @@ use Rattle.rules.specs.Book.{Account, Instruction, Book, account, put_account}
 use Rattle.rules.specs.Events.{set_reserve}
 use Rattle.rules.specs.Refusals.{change_of, zero_from-b, reserve_form, form_of, well_formed, answer_number, own_refusals}
 use Rattle.rules.specs.Posting.{removes_topup}
-use Rattle.rules.specs.Tables.{Tables, rows_used, book_of, sound_tables}
+use Rattle.rules.specs.Tables.{Tables, book_of, sound_tables}
 use Rattle.rules.proofs.RefusalLaws.{own_tests, answer_number-own}
 use Rattle.preservation.proofs.Accepted.{accepted}
-use Rattle.tables.specs.Changes.{AccountChanged}
-use Rattle.posting.specs.Posts.{tables_over, acceptance_of, PostsAny}
 use Rattle.posting.proofs.BookLaws.{account-holds}
 use Rattle.records.specs.Updates.{of_kind}
 use Rattle.posting_laws.proofs.RefusalLaws.{at-kind}
-use Rattle.posting_laws.proofs.AccountEventLaws.{rows_fit, never-full, never-above, account-posts}
+use Rattle.posting_laws.proofs.AccountEventLaws.{rows_fit, never-full, never-above}
 use Rattle.event_refusals.specs.Admissions.{Admitted}
+use Rattle.event_ends.specs.Ends.{PutsAccount}
 use Rattle.event_accounts.specs.AccountEvents.{reserve_refusals}
 
 module _ (b : Book) (e : Instruction) (fit : length b.rows ≤ b.room) where
@@ -81,11 +79,11 @@ module _ (t : Tables) (s : sound_tables t ≡ true) (e : Instruction) (k : e.kin
       let least : leb e.a code_yes ≡ true = and_left (leb e.a code_yes) (zero_from-b e) formed in
       storable-set _ reserve_place e.a (omega (arith, leb-true e.a code_yes least)) (account-holds t s e.account)
 
-  pub reserve-posts : (acc : List ℤ) → AccountChanged t.accounts acc (e.account - 1) reserved_account
-      → PostsAny t (tables_over t t.header acc t.journal) e (acceptance_of (rows_used t) 0 0 0)
-  reserve-posts acc w =
-      let p = account-posts t s e (rw k) q reserved_account changed acc w in
-      rw keeps-topup at p
-    where
-      keeps-topup : removes_topup (book_of t) e ≡ false
-      keeps-topup = unfold removes_topup in (rw k)
+  pub reserve-puts : PutsAccount t e reserved_account false
+  reserve-puts = record {
+    accepted = q;
+    change = changed;
+    names-account = rw k;
+    removes = unfold removes_topup in (rw k);
+    storable = reserve-storable;
+  }

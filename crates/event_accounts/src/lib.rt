@@ -12,12 +12,11 @@ ghost use Rattle.records.specs.Codes.{event_open, event_close_request, event_res
 ghost use Rattle.event_accounts.specs.AccountEvents.{reserve_refusals};
 ghost use Rattle.lent.specs.Lent.{lent_mut, SameTables};
 
+use event_ends::put_account;
 use lent::TablesMut;
-use posting::answers::posted;
 use records::codes::STATE_PENDING;
 use records::refusals::Refusal;
 use records::{Account, Instruction, Posting};
-use table_accounts::write_account;
 
 // Event 1: the account is opened. Admitted, it is not refused.
 pub fn open_account(t: &mut TablesMut, e: Instruction) -> Posting
@@ -27,12 +26,7 @@ pub fn open_account(t: &mut TablesMut, e: Instruction) -> Posting
     ensures same { SameTables t.old t.new }
     ensures posts { PostsAny (lent_mut t.old) (lent_mut t.new) e (answer_of (Ok result)) }
 {
-    write_account(
-        t.accounts,
-        (e.account - 1) as usize,
-        Account::open(e.a, e.b),
-    );
-    posted(t.used(), 0, 0, false)
+    put_account(t, e, Account::open(e.a, e.b), false)
 }
 
 // Event 8: the account is pending from today.
@@ -48,8 +42,7 @@ pub fn request_close(t: &mut TablesMut, e: Instruction, x: Account) -> Result<Po
         return Err(Refusal::Untimely);
     }
     let pending = x.request_close(t.day());
-    write_account(t.accounts, (e.account - 1) as usize, pending);
-    Ok(posted(t.used(), 0, 0, false))
+    Ok(put_account(t, e, pending, false))
 }
 
 // 11: the account has no primary; 16: the reserve to add is there already, or there is none to remove.
@@ -76,6 +69,5 @@ pub fn set_reserve(t: &mut TablesMut, e: Instruction, x: Account) -> Result<Post
 {
     check_reserve(e, x)?;
     let reserved = x.set_reserve(e.a);
-    write_account(t.accounts, (e.account - 1) as usize, reserved);
-    Ok(posted(t.used(), 0, 0, false))
+    Ok(put_account(t, e, reserved, false))
 }

@@ -1,13 +1,14 @@
 -- What is asked of an event's end, and what it leaves.
-use Rattle.std.specs.Prelude.{ℕ, ◌≡◌, false, ◌+◌, ◌≤◌, ◌<◌, List, ℤ}
+use Rattle.std.specs.Prelude.{Bool, ℕ, ◌≡◌, false, ◌+◌, ◌≤◌, ◌<◌, List, ℤ}
 use Rattle.records.specs.Codes.{event_topup_result}
 use Rattle.records.specs.Limits.{most_rows}
 use Rattle.records.specs.Layout.{day_place, used_place}
-use Rattle.records.specs.Encoding.{word, StorableRow}
+use Rattle.records.specs.Encoding.{word, StorableRow, StorableAccount}
 use Rattle.lists.specs.Tests.{◌is◌}
 use Rattle.rules.specs.Rows.{Row, kind_payment, new_row, with_mark}
-use Rattle.rules.specs.Book.{Instruction, row, put_row}
+use Rattle.rules.specs.Book.{Account, Instruction, row, put_row, put_account}
 use Rattle.rules.specs.Refusals.{whole_book, change_of, answer_number}
+use Rattle.rules.specs.Posting.{removes_topup}
 use Rattle.rules.specs.Tables.{Tables, book_of}
 use Rattle.settlement.specs.Settling.{Journal, Begun, Settled}
 use Rattle.posting.specs.Posts.{RowRoom, RowAdded}
@@ -47,3 +48,11 @@ pub record Puts (t : Tables) (e : Instruction) (r : Row) : Type 0 where
   pub account : r.account ≡ (row (book_of t) e.a).account
   pub amount : r.amount ≡ (row (book_of t) e.a).amount
   pub settled : r.settled ≡ (row (book_of t) e.a).settled
+
+-- the accepted event e only makes x of the account that it names, and `removed` tells whether that has lost its top-up
+pub record PutsAccount (t : Tables) (e : Instruction) (x : Account) (removed : Bool) : Type 0 where
+  pub accepted : 0 ≡ answer_number (book_of t) e
+  pub change : change_of e.kind (book_of t) e ≡ put_account e.account x (book_of t)
+  pub names-account : whole_book e ≡ false
+  pub removes : removes_topup (book_of t) e ≡ removed
+  pub storable : StorableAccount x

@@ -1,4 +1,5 @@
-// How the events end that add one row, and those that only change the row that they name: its account is settled, and the posting told.
+// How the events end that add one row, and those that only change the row or the account that they name: what has to be is settled, and
+// the posting told.
 #![tactic(auto)]
 
 ghost use Rattle.std.specs.Prelude.{◌≡◌, true, Ok};
@@ -8,7 +9,7 @@ ghost use Rattle.records.specs.Encoding.{word};
 ghost use Rattle.rules.specs.Tables.{sound_tables};
 ghost use Rattle.posting.specs.Posts.{acceptance_of, PostsAny};
 ghost use Rattle.event_lookups.specs.Lookups.{LooksUp};
-ghost use Rattle.event_ends.specs.Ends.{AddSettles, AddedSettled, payment_today, sources_from_next, Puts};
+ghost use Rattle.event_ends.specs.Ends.{AddSettles, AddedSettled, payment_today, sources_from_next, Puts, PutsAccount};
 ghost use Rattle.lent.specs.Lent.{lent_mut, SameTables};
 
 use event_lookups::Lookup;
@@ -16,8 +17,9 @@ use lent::TablesMut;
 use posting::answers::posted;
 use posting::rows::{add_row, new_row};
 use records::codes::KIND_PAYMENT;
-use records::{Instruction, Posting, Row};
+use records::{Account, Instruction, Posting, Row};
 use settlement::settle_from;
+use table_accounts::write_account;
 use table_rows::write_row;
 
 // The row is added, and its account settled, from the rows on that were looked up.
@@ -68,4 +70,15 @@ pub fn put_and_settle(t: &mut TablesMut, e: Instruction, r: Row, k: Lookup) -> P
     write_row(t.journal, (e.a - 1) as usize, r);
     settle_from(t.journal, used as usize, e.account, k.source, k.debit);
     posted(used, 0, 0, false)
+}
+
+// The account that the event names becomes x. No row concerns it, so there is nothing to settle.
+pub fn put_account(t: &mut TablesMut, e: Instruction, x: Account, removed: bool) -> Posting
+    requires { (sound_tables (lent_mut t.old) ≡ true)
+        × PutsAccount (lent_mut t.old) e x removed }
+    ensures same { SameTables t.old t.new }
+    ensures posts { PostsAny (lent_mut t.old) (lent_mut t.new) e (answer_of (Ok result)) }
+{
+    write_account(t.accounts, (e.account - 1) as usize, x);
+    posted(t.used(), 0, 0, removed)
 }

@@ -1,11 +1,9 @@
 -- Event 7, declined: the book that it makes, and whether the top-up is removed.
 use mathlib.Core.Path.{◌≡◌, sym}
 use mathlib.Core.Logic.{◌≢◌}
-use mathlib.Core.Bool.{Bool, true, false, not, cond, ◌&&◌}
-use Prim.Native.Nat.{◌+◌, ◌-◌}
+use mathlib.Core.Bool.{Bool, true, false, not, ◌&&◌}
+use Prim.Native.Nat.{◌+◌}
 use native.Mathlib.Omega.{arith}
-use mathlib.Core.List.{List}
-use lib.IntN.{ℤ}
 use lib.Dec.{leb}
 use borrow.Author.Tests.{leb-true, leb-false, ne_eqb, not-false}
 use Rattle.records.specs.Codes.{code_yes, event_topup_result}
@@ -20,15 +18,13 @@ use Rattle.rules.specs.Book.{Account, Instruction, Book, account, put_account}
 use Rattle.rules.specs.Events.{decline_topup, topup_result}
 use Rattle.rules.specs.Refusals.{change_of, zero_from-c, result_form, form_of, well_formed, answer_number}
 use Rattle.rules.specs.Posting.{removes_topup}
-use Rattle.rules.specs.Tables.{Tables, rows_used, book_of, sound_tables}
+use Rattle.rules.specs.Tables.{Tables, book_of, sound_tables}
 use Rattle.rules.proofs.StorableLaws.{day-le}
 use Rattle.rules.proofs.TableLaws.{sound-book}
 use Rattle.preservation.proofs.Accepted.{accepted}
-use Rattle.tables.specs.Changes.{AccountChanged}
-use Rattle.posting.specs.Posts.{tables_over, acceptance_of, PostsAny}
 use Rattle.posting.proofs.BookLaws.{account-holds}
 use Rattle.posting_laws.proofs.RefusalLaws.{at-kind}
-use Rattle.posting_laws.proofs.AccountEventLaws.{account-posts}
+use Rattle.event_ends.specs.Ends.{PutsAccount}
 
 module _ (t : Tables) (s : sound_tables t ≡ true) (e : Instruction) where
   abbrev b : Book
@@ -67,10 +63,11 @@ module _ (t : Tables) (s : sound_tables t ≡ true) (e : Instruction) where
         let result-part : Bool = leb e.b 1 in
         omega (arith, leb-true e.b 1 (and_right first_part result-part (and_left (first_part && result-part) (zero_from-c e) formed)), n)
 
-    removed : removes_topup b e ≡ last_decline named
-    unfolding removes_topup
-    removed = rw (k, result-0)
-
-    pub declined-posts : (acc : List ℤ) → AccountChanged t.accounts acc (e.account - 1) declined_account
-        → PostsAny t (tables_over t t.header acc t.journal) e (acceptance_of (rows_used t) 0 0 (cond (last_decline named) 1 0))
-    declined-posts acc w = rw (← removed) (account-posts t s e (rw k) q declined_account changed acc w)
+    pub declined-puts : PutsAccount t e declined_account (last_decline named)
+    declined-puts = record {
+      accepted = q;
+      change = changed;
+      names-account = rw k;
+      removes = unfold removes_topup in (rw (k, result-0));
+      storable = declined-storable;
+    }

@@ -12,10 +12,9 @@ ghost use Rattle.event_topup.specs.TopupResult.{PaidResult};
 ghost use Rattle.records.specs.Codes.{event_topup_result};
 ghost use Rattle.lent.specs.Lent.{lent_mut, SameTables};
 
-use event_ends::pay_and_settle;
+use event_ends::{pay_and_settle, put_account};
 use event_lookups::Lookup;
 use lent::TablesMut;
-use posting::answers::posted;
 use records::codes::{CODE_YES, METHOD_CARD};
 use records::refusals::Refusal;
 use records::{Account, Instruction, Posting};
@@ -72,6 +71,5 @@ pub fn topup_result(
         return Ok(pay_topup(t, e, x, k));
     }
     let declined = x.decline(t.day());
-    write_account(t.accounts, (e.account - 1) as usize, declined);
-    Ok(posted(t.used(), 0, 0, x.last_decline()))
+    Ok(put_account(t, e, declined, x.last_decline()))
 }

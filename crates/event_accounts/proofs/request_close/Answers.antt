@@ -5,10 +5,9 @@ use Rattle.records.specs.declared.refusals.Refusal.TheVariants.{Untimely}
 use mathlib.Core.Bool.{true, false}
 use Rattle.lists.specs.Tests.{first}
 use Rattle.rules.proofs.TableLaws.{header-length}
-use Rattle.posting.proofs.BookLaws.{day-read, used-small}
+use Rattle.posting.proofs.BookLaws.{day-read}
 use Rattle.posting_laws.proofs.AnyHolidays.{refused-any}
-use Rattle.posting_laws.proofs.AccountEventLaws.{named-inside, named_in}
-use Rattle.event_accounts.proofs.RequestLaws.{request-by, request-storable, request-posts}
+use Rattle.event_accounts.proofs.RequestLaws.{request-by, request-puts}
 use Rattle.event_accounts.proofs.request_close.Goals as goal
 
 pub returns-then-x-eq-STATE_PENDING-clause-posts : goal.returns-then-x-eq-STATE_PENDING-clause-posts
@@ -17,35 +16,12 @@ returns-then-x-eq-STATE_PENDING-clause-posts c =
     refused-any _ c.requires.0 c.args.e Untimely (rw c.requires.1)
     (request-by _ c.requires.0 _ c.requires.1 c.requires.2 true (rw (← c.requires.3) (eq-eqb _ _ c.if-x-eq-STATE_PENDING.true)))
 
-pub overflow_sub-e : goal.overflow_sub-e
-unfolding first
-overflow_sub-e c =
-    (named-inside _ c.requires.0 _ (rw c.requires.1) (request-by _ c.requires.0 _ c.requires.1 c.requires.2 false (rw (← c.requires.3) (ne_eqb _ _ c.if-x-eq-STATE_PENDING.false)))).0
-
 pub day-requires : goal.day-requires
 day-requires c = omega (arith, header-length _ c.requires.0)
 
-pub write_account-requires : goal.write_account-requires
+pub put_account-requires : goal.put_account-requires
 unfolding first
-write_account-requires c =
-    let s = c.requires.0 in
-    let q = request-by _ s _ c.requires.1 c.requires.2 false (rw (← c.requires.3) (ne_eqb _ _ c.if-x-eq-STATE_PENDING.false)) in (
-      named_in _ s _ (rw c.requires.1) q,
-      rw (c.request_close-pending.ensures, c.day.ensures, c.requires.3, day-read _ s) (request-storable _ s c.args.e),
-    )
-
-pub used-requires : goal.used-requires
-used-requires c = omega (arith, header-length _ c.requires.0)
-
-pub posted-requires : goal.posted-requires
-posted-requires c =
-    let u = c.used.ensures in
-    omega (arith, used-small _ c.requires.0)
-
-pub returns-clause-posts : goal.returns-clause-posts
-unfolding first
-returns-clause-posts c =
+put_account-requires c =
     let s = c.requires.0 in
     let q = request-by _ s _ c.requires.1 c.requires.2 false (rw (← c.requires.3) (ne_eqb _ _ c.if-x-eq-STATE_PENDING.false)) in
-    rw c.posted.ensures
-    (request-posts _ s _ c.requires.1 q _ (rw (c.request_close-pending.ensures, c.day.ensures, c.requires.3, day-read _ s) at c.write_account.ensures))
+    (s, rw (c.request_close-pending.ensures, c.day.ensures, c.requires.3, day-read _ s) (request-puts _ s _ c.requires.1 q))

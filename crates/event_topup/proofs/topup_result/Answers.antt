@@ -3,10 +3,9 @@ use Rattle.std.proofs.Common.{rules}
 use Rattle.std.specs.Prelude.{◌≡◌, Err}
 use native.Mathlib.Omega.{arith}
 use Rattle.rules.proofs.TableLaws.{header-length}
-use Rattle.posting.proofs.BookLaws.{day-read, used-small}
+use Rattle.posting.proofs.BookLaws.{day-read}
 use Rattle.posting_laws.proofs.AnyHolidays.{posts-any, refused-any}
-use Rattle.posting_laws.proofs.AccountEventLaws.{named-inside, named_in}
-use Rattle.event_topup.proofs.DeclinedLaws.{declined-storable, declined-posts}
+use Rattle.event_topup.proofs.DeclinedLaws.{declined-puts}
 use Rattle.event_topup.proofs.topup_result.Goals as goal
 
 pub returns-in_err-check_result-clause-posts : goal.returns-in_err-check_result-clause-posts
@@ -24,28 +23,8 @@ returns-then-e-eq-CODE_YES-clause-posts c = posts-any _ _ c.args.e _ (rw c.requi
 pub day-requires : goal.day-requires
 day-requires c = omega (arith, header-length _ c.requires.0)
 
-pub overflow_sub-e : goal.overflow_sub-e
-overflow_sub-e c =
-    (named-inside _ c.requires.0 _ (rw c.requires.1) (c.in_ok-check_result.ensures)).0
-
-pub write_account-requires : goal.write_account-requires
-write_account-requires c =
-    let s = c.requires.0 in (
-      named_in _ s _ (rw c.requires.1) (c.in_ok-check_result.ensures),
-      rw (c.decline-declined.ensures, c.day.ensures, c.requires.4, day-read _ s) (declined-storable _ s c.args.e),
-    )
-
-pub used-requires : goal.used-requires
-used-requires c = omega (arith, header-length _ c.requires.0)
-
-pub posted-requires : goal.posted-requires
-posted-requires c =
-    let u = c.used.ensures in
-    omega (arith, used-small _ c.requires.0)
-
-pub returns-clause-posts : goal.returns-clause-posts
-returns-clause-posts c =
+pub put_account-requires : goal.put_account-requires
+put_account-requires c =
     let s = c.requires.0 in
-    let changed = rw (c.decline-declined.ensures, c.day.ensures, c.requires.4, day-read _ s) at c.write_account.ensures in
-    rw (c.posted.ensures, c.last_decline.ensures, c.requires.4)
-    (declined-posts _ s _ c.requires.1 (c.in_ok-check_result.ensures) c.if-e-eq-CODE_YES.false _ changed)
+    let declined = declined-puts _ s _ c.requires.1 c.in_ok-check_result.ensures c.if-e-eq-CODE_YES.false in
+    (s, rw (c.decline-declined.ensures, c.day.ensures, c.last_decline.ensures, c.requires.4, day-read _ s) declined)
