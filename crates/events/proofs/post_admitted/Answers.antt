@@ -4,6 +4,9 @@ use Rattle.rules.proofs.HolidayTables.{sound-without}
 use Rattle.lent.specs.Lent.{lent_mut}
 use Rattle.events.proofs.post_admitted.Goals as goal
 
+pub tick-requires : goal.tick-requires
+tick-requires c = (c.requires.0, c.if-e-eq-EVENT_TICK.true, c.requires.2)
+
 pub post_within_day-requires : goal.post_within_day-requires
 post_within_day-requires c =
     let p = c.requires in
