@@ -7,32 +7,30 @@ use mathlib.Core.List.{List}
 use lib.ListN.{get_or}
 use Rattle.lists.specs.Lists.{only}
 use Rattle.lists.proofs.SumLaws.{sum_by_le}
-use Rattle.rules.specs.Rows.{Row, Test, blank, remaining, toll, held, source_of, payable, payable_toll, payable_rest}
+use Rattle.rules.specs.Rows.{Row, Test, blank, remaining, source_of, payable, payable_toll, payable_rest}
 use Rattle.rules.specs.Settlement.{allocate, debt, moved, moved_to, pay, settle_rank, settle_ranks, settle}
 use Rattle.rules.proofs.AllocationLaws.{Steady, Within, share, only-settle_more, allocate-at}
 use Rattle.rules.proofs.RankLaws as laws
-use Rattle.rules.proofs.SettlementLaws.{rank-within, payable-rank, payable-pay}
+use Rattle.rules.proofs.SettlementLaws.{minus, Parts, rank-within, payable-rank, ranks-part, payable-pay}
 use Rattle.settlement.specs.declared.Rank.{Rank}
 use Rattle.settlement.specs.declared.Rank.TheVariants.{Tolls, FeesAndReversals}
 use Rattle.settlement.specs.Settling.{of_rank}
 
+-- each is one of the parts of what is payable
 of_rank-steady : (k : Rank) (rows : List Row) (a : ℕ) → Steady (of_rank k rows a)
-unfolding of_rank payable_toll payable_rest payable held
-of_rank-steady Tolls rows a r n = refl
-of_rank-steady FeesAndReversals rows a r n = refl
+unfolding of_rank Parts
+of_rank-steady Tolls rows a = (ranks-part rows a).0
+of_rank-steady FeesAndReversals rows a = (ranks-part rows a).2.0
 
 of_rank-within : (k : Rank) (rows : List Row) (a : ℕ) → Within (of_rank k rows a) (payable rows a)
-unfolding of_rank payable_toll payable_rest
-of_rank-within k rows a r = by_rank k
+unfolding of_rank Parts minus
+of_rank-within Tolls rows a = (ranks-part rows a).1
+of_rank-within FeesAndReversals rows a = λ r. of_rest (payable_rest rows a r) (payable rows a r) (payable_toll rows a r) ((ranks-part rows a).2.1 r)
   where
-    part : (x y : Bool) → (x && y) && not x ≡ false
-    part true true = refl
-    part true false = refl
-    part false y = refl
-
-    by_rank : (q : Rank) → of_rank q rows a r && not (payable rows a r) ≡ false
-    by_rank Tolls = part (payable rows a r) (toll r)
-    by_rank FeesAndReversals = part (payable rows a r) (not (toll r))
+    of_rest : (x y z : Bool) → x && not (y && not z) ≡ false → x && not y ≡ false
+    of_rest true true z e = refl
+    of_rest true false z e = e
+    of_rest false y z e = refl
 
 pub of_rank-rank : (k : Rank) (rows : List Row) (a : ℕ) → laws.Rank a (of_rank k rows a)
 of_rank-rank k rows a = rank-within a (of_rank k rows a) (payable rows a) (payable-rank rows a) (of_rank-steady k rows a) (of_rank-within k rows a)
