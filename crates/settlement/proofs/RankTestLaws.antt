@@ -25,7 +25,8 @@ of_rank-steady FeesAndReversals rows a = (ranks-part rows a).2.0
 of_rank-within : (k : Rank) (rows : List Row) (a : ℕ) → Within (of_rank k rows a) (payable rows a)
 unfolding of_rank Parts minus
 of_rank-within Tolls rows a = (ranks-part rows a).1
-of_rank-within FeesAndReversals rows a = λ r. of_rest (payable_rest rows a r) (payable rows a r) (payable_toll rows a r) ((ranks-part rows a).2.1 r)
+of_rank-within FeesAndReversals rows a = λ r.
+    of_rest (payable_rest rows a r) (payable rows a r) (payable_toll rows a r) ((ranks-part rows a).2.1 r)
   where
     of_rest : (x y z : Bool) → x && not (y && not z) ≡ false → x && not y ≡ false
     of_rest true true z e = refl

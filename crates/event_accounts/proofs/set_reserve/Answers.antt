@@ -10,7 +10,8 @@ pub returns-in_err-check_reserve-clause-posts : goal.returns-in_err-check_reserv
 returns-in_err-check_reserve-clause-posts c =
     let s = c.requires.0 in
     let q : c.from_residual.result ≡ Err c.in_err-check_reserve.field-0.0 = search rules in
-    rw q (refused-any _ s c.args.e _ (rw c.requires.1) (c.in_err-check_reserve.ensures _ c.requires.3 ∙ answer-reserve _ s _ c.requires.1 c.requires.2))
+    rw q
+    (refused-any _ s c.args.e _ (rw c.requires.1) (c.in_err-check_reserve.ensures _ c.requires.3 ∙ answer-reserve _ s _ c.requires.1 c.requires.2))
 
 pub put_account-requires : goal.put_account-requires
 put_account-requires c =
