@@ -2,13 +2,11 @@
 // function posts it.
 #![tactic(auto)]
 
-ghost use Rattle.std.specs.Prelude.{◌≡◌, true, false};
-ghost use Rattle.records.specs.Codes.{event_tick};
+ghost use Rattle.std.specs.Prelude.{◌≡◌, true};
 ghost use Rattle.records.specs.Outcomes.{answer_of};
 ghost use Rattle.rules.specs.Tables.{tables_with, sound_tables};
 ghost use Rattle.event_lookups.specs.Lookups.{LooksUp};
-ghost use Rattle.lists.specs.Tests.{◌is◌};
-ghost use Rattle.posting.specs.Posts.{Posts, PostsAny};
+ghost use Rattle.posting.specs.Posts.{Posts};
 ghost use Rattle.event_refusals.specs.Admissions.{Admitted, Names};
 ghost use Rattle.lent.specs.Lent.{lent_mut, SameTables};
 
@@ -31,42 +29,10 @@ use records::codes::{
 use records::refusals::Refusal;
 use records::{Account, Instruction, Posting};
 
-// An admitted event but a tick, of the account x and with what has been looked up for it. No other kind is admitted. It never reads the
+// An admitted event, of the account x and with what has been looked up for it. No other kind is admitted. The tick alone reads the
 // holidays.
-// Kept: the three go on one by one, since three of the ten functions take them all, and each asks for no more than it uses; so do the
+// Kept: the three go on one by one, since three of the eleven functions take them all, and each asks for no more than it uses; so do the
 // facts of them (Admitted, Names, LooksUp), which are about the tables too.
-fn post_within_day(
-    t: &mut TablesMut,
-    e: Instruction,
-    x: Account,
-    k: Lookup,
-) -> Result<Posting, Refusal>
-    requires { (sound_tables (lent_mut t.old) ≡ true)
-        × (e.kind is event_tick ≡ false)
-        × LooksUp (lent_mut t.old) e k
-        × Admitted (lent_mut t.old) e
-        × Names (lent_mut t.old) e x }
-    ensures same { SameTables t.old t.new }
-    ensures posts { PostsAny (lent_mut t.old) (lent_mut t.new) e (answer_of result) }
-{
-    let kind = e.kind;
-    // Kept: a switch, since the functions take different parameters.
-    match kind {
-        EVENT_OPEN => Ok(open_account(t, e)),
-        EVENT_TOLL => post_toll(t, e, k),
-        EVENT_PAYMENT => post_payment(t, e, x, k),
-        EVENT_RETURNED_CHECK => return_check(t, e, x, k),
-        EVENT_DISPUTE => hold_toll(t, e, k),
-        EVENT_DECISION => decide(t, e, k),
-        EVENT_TOPUP_RESULT => topup_result(t, e, x, k),
-        EVENT_CLOSE_REQUEST => request_close(t, e, x),
-        EVENT_RATE_LIST => Ok(add_list(t, e)),
-        EVENT_RESERVE => set_reserve(t, e, x),
-        _ => Err(Refusal::Malformed),
-    }
-}
-
-// An admitted event, of the account x and with what has been looked up for it. The tick alone reads the holidays.
 pub fn post_admitted(
     t: &mut TablesMut,
     holidays: &[i64],
@@ -84,10 +50,22 @@ pub fn post_admitted(
         e
         (answer_of result) }
 {
-    if e.kind == EVENT_TICK {
-        return tick(t, holidays, e);
+    let kind = e.kind;
+    // Kept: a switch, since the functions take different parameters.
+    match kind {
+        EVENT_OPEN => Ok(open_account(t, e)),
+        EVENT_TOLL => post_toll(t, e, k),
+        EVENT_PAYMENT => post_payment(t, e, x, k),
+        EVENT_RETURNED_CHECK => return_check(t, e, x, k),
+        EVENT_DISPUTE => hold_toll(t, e, k),
+        EVENT_DECISION => decide(t, e, k),
+        EVENT_TOPUP_RESULT => topup_result(t, e, x, k),
+        EVENT_CLOSE_REQUEST => request_close(t, e, x),
+        EVENT_TICK => tick(t, holidays, e),
+        EVENT_RATE_LIST => Ok(add_list(t, e)),
+        EVENT_RESERVE => set_reserve(t, e, x),
+        _ => Err(Refusal::Malformed),
     }
-    post_within_day(t, e, x, k)
 }
 
 // One event by itself: only where it is admitted is the journal searched for it.
