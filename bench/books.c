@@ -7,8 +7,9 @@
 #include "model.h"
 
 const struct library ours = {toll_ledger_open, toll_ledger_event, toll_ledger_batch,
-                             toll_ledger_balance, toll_ledger_topup_due};
-const struct library plain = {model_open, model_event, model_batch, model_balance, model_topup_due};
+                             toll_ledger_balance, toll_ledger_topup_due, toll_ledger_debtor};
+const struct library plain = {model_open, model_event, model_batch,
+                              model_balance, model_topup_due, model_debtor};
 
 const int64_t no_holidays[1] = {0};
 

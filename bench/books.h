@@ -30,6 +30,8 @@ struct library {
                        const int64_t *, size_t, int64_t, int64_t *);
     int64_t (*topup_due)(const int64_t *, size_t, const int64_t *, size_t, const int64_t *, size_t,
                          const int64_t *, size_t, int64_t, int64_t *);
+    int64_t (*debtor)(const int64_t *, size_t, const int64_t *, size_t, const int64_t *, size_t,
+                      const int64_t *, size_t, int64_t, int64_t *, int64_t *);
 };
 
 extern const struct library ours, plain;

@@ -11,12 +11,13 @@
 
 #define ACCOUNTS TOLL_LEDGER_MOST_ACCOUNTS
 #define SIZES 3
-#define CALLS 5
+#define CALLS 7
 #define CALL_RUNS 2001
 #define BATCH_RUNS 61
 #define PART 1024 /* events of a batch onto a book with rows */
 #define LIST_DAYS 12 /* from one rate list to the next: the last has begun when a book is timed */
 #define MOST_RUNS CALL_RUNS
+#define HEAVY 0 /* in the place of an event's kind: a heavy debtor by an early row */
 
 static const size_t sizes[SIZES] = {512, 2048, 8192};
 static const int64_t schedule[TOLL_LEDGER_SCHEDULE_WORDS] = {1,   30,  500, 2500, 3000, 250,
@@ -102,6 +103,12 @@ static void ask_topup_due(const struct library *library, const event *e)
 {
     must(library->topup_due(LENT(&lent), e->account, answers) == TOLL_LEDGER_POSTED,
          "a timed top-up is told");
+}
+
+static void ask_debtor(const struct library *library, const event *e)
+{
+    must(library->debtor(LENT(&lent), e->account, &answers[0], &answers[1]) == TOLL_LEDGER_POSTED,
+         "a timed debtor is told");
 }
 
 static size_t batch_events; /* how many the timed batch has */
@@ -224,6 +231,20 @@ static void draw_events(struct host *host, event *list, int64_t kind)
         list[i] = timed_event(host, &b, kind);
 }
 
+/* Makes the first toll that is owed so dear that its account is a heavy debtor: the book stays sound,
+ * and the debtor question reads no row after it. */
+static void draw_heavy(event *list)
+{
+    const struct book b = book_of(book);
+    size_t i = 0;
+    while (b.rows[i].kind != TOLL_LEDGER_KIND_TOLL || !is_payable(&b, &b.rows[i]))
+        i++;
+    b.rows[i].amount += TOLL_LEDGER_HEAVY_DEBT;
+    printf("%zu rows: a heavy debtor by row %zu\n", b.room, i + 1);
+    for (size_t run = 0; run < CALL_RUNS; run++)
+        list[run] = (event){.account = b.rows[i].account};
+}
+
 static void print_pair(const char *name, size_t rows, struct pair p)
 {
     printf("%-34s %6zu %10.2f %10.2f %8.2f\n", name, rows, p.ours, p.plain, p.ours / p.plain);
@@ -232,12 +253,14 @@ static void print_pair(const char *name, size_t rows, struct pair p)
 static const struct {
     const char *name;
     work *task;
-    int64_t kind; /* of the events drawn */
+    int64_t kind; /* of the events drawn, or HEAVY, which changes the book and comes last */
 } calls[CALLS] = {{"payment", post_drawn, TOLL_LEDGER_EVENT_PAYMENT},
                   {"toll", post_drawn, TOLL_LEDGER_EVENT_TOLL},
                   {"tick", post_drawn, TOLL_LEDGER_EVENT_TICK},
                   {"balance", ask_balance, TOLL_LEDGER_EVENT_PAYMENT},
-                  {"top-up due", ask_topup_due, TOLL_LEDGER_EVENT_PAYMENT}};
+                  {"top-up due", ask_topup_due, TOLL_LEDGER_EVENT_PAYMENT},
+                  {"debtor", ask_debtor, TOLL_LEDGER_EVENT_PAYMENT},
+                  {"debtor, heavy by an early row", ask_debtor, HEAVY}};
 
 static void measure_calls(struct pair medians[CALLS][SIZES])
 {
@@ -251,7 +274,10 @@ static void measure_calls(struct pair medians[CALLS][SIZES])
     for (size_t c = 0; c < CALLS; c++) {
         for (size_t s = 0; s < SIZES; s++) {
             book = &books[s];
-            draw_events(&hosts[s], drawn[s], calls[c].kind);
+            if (calls[c].kind == HEAVY)
+                draw_heavy(drawn[s]);
+            else
+                draw_events(&hosts[s], drawn[s], calls[c].kind);
         }
         measure(calls[c].task, SIZES, CALL_RUNS, medians[c]);
     }

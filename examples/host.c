@@ -244,6 +244,16 @@ static const char *due_text(const int64_t *account, int64_t due)
     return due ? ", top-up due" : "";
 }
 
+/* The last row read is the one with which the debt exceeds what is allowed. */
+static const char *heavy_text(int64_t heavy, int64_t rows_read)
+{
+    static char text[64];
+    if (!heavy)
+        return "";
+    snprintf(text, sizeof text, ", heavy debtor by row %" PRId64, rows_read);
+    return text;
+}
+
 static void print_statement(const struct book *b)
 {
     static const char *const states[] = {"unused", "open", "pending", "closed"};
@@ -252,12 +262,13 @@ static void print_statement(const struct book *b)
     printf("statement of %s\n", date(b->header[TOLL_LEDGER_HEADER_DAY]));
     for (int64_t n = 1; n <= (int64_t)(b->accounts_words / TOLL_LEDGER_ACCOUNT_WORDS); n++) {
         const int64_t *account = b->accounts + (n - 1) * TOLL_LEDGER_ACCOUNT_WORDS;
-        int64_t balance, due;
+        int64_t balance, due, heavy, rows_read;
         if (toll_ledger_balance(TABLES(b), n, &balance) != TOLL_LEDGER_POSTED ||
-            toll_ledger_topup_due(TABLES(b), n, &due) != TOLL_LEDGER_POSTED)
+            toll_ledger_topup_due(TABLES(b), n, &due) != TOLL_LEDGER_POSTED ||
+            toll_ledger_debtor(TABLES(b), n, &heavy, &rows_read) != TOLL_LEDGER_POSTED)
             continue; /* unused */
-        printf("account %" PRId64 ", %s, balance %s%s\n", n, states[account[TOLL_LEDGER_ACCOUNT_STATE]],
-               dollars(balance), due_text(account, due));
+        printf("account %" PRId64 ", %s, balance %s%s%s\n", n, states[account[TOLL_LEDGER_ACCOUNT_STATE]],
+               dollars(balance), heavy_text(heavy, rows_read), due_text(account, due));
         for (int64_t r = 1; r <= used; r++) {
             const int64_t *row = b->journal + (r - 1) * TOLL_LEDGER_ROW_WORDS;
             if (row[TOLL_LEDGER_ROW_ACCOUNT] == n)

@@ -16,7 +16,8 @@
  * The host sees to it that
  *   - each table is at least as long as its length says, aligned for int64_t, and not null, not
  *     even where its length is 0;
- *   - tables handed to one call don't overlap, nor the value of a question any of them;
+ *   - tables handed to one call don't overlap, nor the place of a question's value any of them or
+ *     another such place;
  *   - no other thread writes a table during a call that is lent it, nor reads one that the call may
  *     write. Calls on different books may run at once;
  *   - the calling thread has 192 KiB of free stack.
@@ -30,7 +31,7 @@
 /* The version of this interface: the first number rises where a host must change or its stored
  * books no longer fit, the second where something is added, the third where neither is. */
 #define TOLL_LEDGER_VERSION_MAJOR 4
-#define TOLL_LEDGER_VERSION_MINOR 0
+#define TOLL_LEDGER_VERSION_MINOR 1
 #define TOLL_LEDGER_VERSION_PATCH 0
 
 /* For compilers that can warn: a call's number must not be ignored, and no pointer may be null. */
@@ -61,6 +62,7 @@ extern "C" {
 #define TOLL_LEDGER_ANSWER_WORDS 5
 #define TOLL_LEDGER_MOST_EVENTS 4096 /* in a batch */
 #define TOLL_LEDGER_DAYS 36525 /* days are numbered from 1 to it */
+#define TOLL_LEDGER_HEAVY_DEBT 25000 /* cents: a heavy debtor owes more */
 
 /* The numbers that calls give, in the order in which refusals are checked: where several apply, the
  * one that stands first here wins. */
@@ -352,6 +354,20 @@ int64_t toll_ledger_topup_due(const int64_t *header, size_t header_words,
                               const int64_t *journal, size_t journal_words,
                               const int64_t *holidays, size_t holidays_words,
                               int64_t account, int64_t *value);
+
+/*
+ * Whether the account is a heavy debtor: the unsettled part of its tolls and fees that aren't held,
+ * fees of returned checks among them and reversals not, exceeds 25,000 cents. Gives 0, else 1 or 3,
+ * and writes 1 for yes, 0 for no to heavy, and to rows_read the smallest count of first journal
+ * rows, those of all accounts counted, in which that sum exceeds it, or all rows used where it
+ * doesn't; where refused, 0 to both.
+ */
+TOLL_LEDGER_CALL
+int64_t toll_ledger_debtor(const int64_t *header, size_t header_words,
+                           const int64_t *accounts, size_t accounts_words,
+                           const int64_t *journal, size_t journal_words,
+                           const int64_t *holidays, size_t holidays_words,
+                           int64_t account, int64_t *heavy, int64_t *rows_read);
 
 #ifdef __cplusplus
 }

@@ -1,5 +1,5 @@
-/* Every answer number with events that give it, rate lists, the order of payment, reserves, and
- * document 01's marked examples M1 to M8. The parts between marks below stand word for word in
+/* Every answer number with events that give it, rate lists, the order of payment, reserves, heavy
+ * debtors, and document 01's marked examples M1 to M8. The parts between marks below stand word for word in
  * docs/HOSTS.md; tests/run compares. */
 #include "book.h"
 
@@ -307,6 +307,34 @@ static void reserve_life(struct book *b)
 }
 /* examples: end */
 
+/* examples: begin, of heavy debtors */
+/* Row 1 is of account 8, rows 2 to 17 are sixteen tolls of 1,600 for account 7: 25,600, which the last of
+ * them brings above 25,000. A toll more is not read; one in dispute doesn't count, so that it is.
+ * With 600 paid the rest is just 25,000, and all rows are read. Once the dispute is over, 25,000 stand
+ * in the rows to 17 again, and row 18 is above. */
+static void heavy_debtors(struct book *b)
+{
+    int64_t rows;
+    CHECK(post(b, TOLL_LEDGER_EVENT_OPEN, 7, 0, 0) == TOLL_LEDGER_POSTED);
+    CHECK(post(b, TOLL_LEDGER_EVENT_OPEN, 8, 0, 0) == TOLL_LEDGER_POSTED);
+    CHECK(post(b, TOLL_LEDGER_EVENT_TOLL, 8, 40, 1, 5, 60, 2) == TOLL_LEDGER_POSTED);
+    for (int64_t passage = 41; passage <= 56; passage++) {
+        CHECK(heavy_debtor(b, 7, &rows) == 0 && rows == passage - 40); /* the rows used */
+        CHECK(post(b, TOLL_LEDGER_EVENT_TOLL, 7, passage, 1, 5, 60, 2) == TOLL_LEDGER_POSTED);
+    }
+    CHECK(heavy_debtor(b, 7, &rows) == 1 && rows == 17);
+    CHECK(post(b, TOLL_LEDGER_EVENT_TOLL, 7, 57, 1, 5, 60, 2) == TOLL_LEDGER_POSTED); /* row 18 */
+    CHECK(heavy_debtor(b, 7, &rows) == 1 && rows == 17);
+    CHECK(post(b, TOLL_LEDGER_EVENT_DISPUTE, 7, 2) == TOLL_LEDGER_POSTED);
+    CHECK(heavy_debtor(b, 7, &rows) == 1 && rows == 18);
+    CHECK(post(b, TOLL_LEDGER_EVENT_PAYMENT, 7, 600, 1) == TOLL_LEDGER_POSTED); /* row 19 */
+    CHECK(heavy_debtor(b, 7, &rows) == 0 && rows == 19);
+    CHECK(post(b, TOLL_LEDGER_EVENT_DECISION, 7, 2, 0) == TOLL_LEDGER_POSTED);
+    CHECK(heavy_debtor(b, 7, &rows) == 1 && rows == 18);
+    CHECK(heavy_debtor(b, 8, &rows) == 0 && rows == 19);
+}
+/* examples: end */
+
 /* examples: begin, of business days */
 /* Account 7 asks to close on day 1. The first day that is 15 days on is day 16, a Sunday, and Monday
  * is a holiday: it closes on Tuesday, day 18, and its money leaves then. lend_holidays has b lend this
@@ -463,7 +491,7 @@ int main(void)
         {classes, 64, 512, 1},   {stages_and_holds, 64, 512, 1}, {closing, 64, 512, 1}, {declines, 64, 512, 1},
         {rates_ahead, 64, 512, 1}, {held_topup, 64, 512, 1}, {reserve, 64, 512, 1},
         {reserve_life, 64, 512, 1}, {tolls_first, 64, 512, 1},
-        {holidays, 64, 512, 1}, {business_days, 64, 512, 1},
+        {holidays, 64, 512, 1}, {business_days, 64, 512, 1}, {heavy_debtors, 64, 512, 1},
     };
     for (size_t i = 0; i < sizeof examples / sizeof examples[0]; i++) {
         struct book b = open_book(examples[i].accounts, examples[i].rows, examples[i].first_day);

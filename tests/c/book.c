@@ -166,6 +166,21 @@ int64_t ask(question *question, struct book *book, int64_t account, int64_t *val
     return number;
 }
 
+int64_t ask_debtor(struct book *book, int64_t account, int64_t *heavy, int64_t *rows_read)
+{
+    int64_t *before = copy_words(book);
+    int64_t *yes = new_table(1), *rows = new_table(1);
+    const int64_t number = toll_ledger_debtor(TABLES(book), account, yes, rows);
+    *heavy = *yes;
+    *rows_read = *rows;
+    CHECK(same_words(book, before));
+    CHECK(number == TOLL_LEDGER_POSTED ? *heavy == 0 || *heavy == 1 : *heavy == 0 && *rows_read == 0);
+    free_table(rows, 1);
+    free_table(yes, 1);
+    free(before);
+    return number;
+}
+
 int64_t balance(struct book *book, int64_t account)
 {
     int64_t value;
@@ -178,6 +193,13 @@ int64_t topup_due(struct book *book, int64_t account)
     int64_t value;
     CHECK(ask(toll_ledger_topup_due, book, account, &value) == TOLL_LEDGER_POSTED);
     return value;
+}
+
+int64_t heavy_debtor(struct book *book, int64_t account, int64_t *rows_read)
+{
+    int64_t heavy;
+    CHECK(ask_debtor(book, account, &heavy, rows_read) == TOLL_LEDGER_POSTED);
+    return heavy;
 }
 
 int64_t *row_of(struct book *book, int64_t row)

@@ -69,9 +69,13 @@ typedef int64_t question(const int64_t *, size_t, const int64_t *, size_t, const
                          const int64_t *, size_t, int64_t, int64_t *);
 int64_t ask(question *question, struct book *book, int64_t account, int64_t *value);
 
+/* The debtor question's number, heavy and rows read, likewise. */
+int64_t ask_debtor(struct book *book, int64_t account, int64_t *heavy, int64_t *rows_read);
+
 /* The values of accepted questions. */
 int64_t balance(struct book *book, int64_t account);
 int64_t topup_due(struct book *book, int64_t account);
+int64_t heavy_debtor(struct book *book, int64_t account, int64_t *rows_read); /* gives heavy */
 
 int64_t *row_of(struct book *book, int64_t row);
 int64_t *account_of(struct book *book, int64_t account);

@@ -1,6 +1,6 @@
 /* The borders of the calls: lengths of every kind, words of every size, rate lists, holidays,
- * reserves, the order of payment, answer tables, batches, and full books. Every table stands in a
- * place of exactly its size. */
+ * reserves, the order of payment, heavy debtors, answer tables, batches, and full books. Every table
+ * stands in a place of exactly its size. */
 #include "book.h"
 
 #include <string.h>
@@ -78,11 +78,12 @@ static struct book varied_book(void)
 static void all_refuse_as_unsound(struct book *b)
 {
     const struct toll_ledger_event_record one = record(TOLL_LEDGER_EVENT_TICK, 0);
-    int64_t value;
+    int64_t value, rows_read;
     CHECK(post(b, TOLL_LEDGER_EVENT_TICK, 0) == TOLL_LEDGER_UNSOUND);
     CHECK(batch(b, &one, 1, NULL, 5) == TOLL_LEDGER_UNSOUND);
     CHECK(ask(toll_ledger_balance, b, 1, &value) == TOLL_LEDGER_UNSOUND);
     CHECK(ask(toll_ledger_topup_due, b, 1, &value) == TOLL_LEDGER_UNSOUND);
+    CHECK(ask_debtor(b, 1, &value, &rows_read) == TOLL_LEDGER_UNSOUND);
 }
 
 static int fits(size_t header, size_t accounts, size_t journal)
@@ -290,9 +291,10 @@ static void wild_words_in_events(void)
             }
     const int64_t none[] = {INT64_MIN, -1, 0, 5, 6, 257, INT64_MAX};
     for (size_t i = 0; i < sizeof none / sizeof none[0]; i++) {
-        int64_t value;
+        int64_t value, rows_read;
         CHECK(ask(toll_ledger_balance, &b, none[i], &value) == TOLL_LEDGER_UNKNOWN);
         CHECK(ask(toll_ledger_topup_due, &b, none[i], &value) == TOLL_LEDGER_UNKNOWN);
+        CHECK(ask_debtor(&b, none[i], &value, &rows_read) == TOLL_LEDGER_UNKNOWN);
     }
     free_book(&b);
 }
@@ -1034,6 +1036,137 @@ static void fees_paid_beside_tolls(void)
     }
 }
 
+/* Accounts 1 to 3 on day 2, when a toll of class 1 is 25,000 by tag and 25,001 by plate. */
+static struct book dear_book(size_t rows)
+{
+    struct book b = open_book(3, rows, 1);
+    for (int64_t n = 1; n <= 3; n++)
+        CHECK(post(&b, TOLL_LEDGER_EVENT_OPEN, n, 0, 0) == 0);
+    CHECK(add_list(&b, 2, TOLL_LEDGER_HEAVY_DEBT) == 0);
+    ticks(&b, 1);
+    return b;
+}
+
+/* Posts a toll of class 1 that passed today. */
+static int64_t dear_toll(struct book *b, int64_t account, int64_t passage, int64_t mode)
+{
+    return post(b, TOLL_LEDGER_EVENT_TOLL, account, passage, today(b), 2, 60, mode);
+}
+
+/* Whether the debtor question gives these two values. */
+static int replies(struct book *b, int64_t account, int64_t heavy, int64_t rows_read)
+{
+    int64_t rows;
+    return heavy_debtor(b, account, &rows) == heavy && rows == rows_read;
+}
+
+/* A debt of 25,000 makes no heavy debtor, one of 25,001 does; rows of other accounts are read too. */
+static void debts_at_the_border(void)
+{
+    struct book b = dear_book(20);
+    CHECK(replies(&b, 1, 0, 0) && replies(&b, 2, 0, 0));
+    CHECK(dear_toll(&b, 1, 41, TOLL_LEDGER_MODE_TAG) == 0); /* row 1 */
+    CHECK(replies(&b, 1, 0, 1) && replies(&b, 2, 0, 1));
+    CHECK(dear_toll(&b, 2, 42, TOLL_LEDGER_MODE_PLATE) == 0); /* row 2 */
+    CHECK(replies(&b, 1, 0, 2) && replies(&b, 2, 1, 2));
+    CHECK(dear_toll(&b, 1, 43, TOLL_LEDGER_MODE_TAG) == 0); /* row 3 */
+    CHECK(replies(&b, 1, 1, 3) && replies(&b, 2, 1, 2));
+    CHECK(post(&b, TOLL_LEDGER_EVENT_PAYMENT, 1, 24999, 1) == 0); /* row 4: leaves a cent of row 1 */
+    CHECK(replies(&b, 1, 1, 3) && replies(&b, 2, 1, 2) && replies(&b, 3, 0, 4));
+    CHECK(post(&b, TOLL_LEDGER_EVENT_PAYMENT, 1, 1, 1) == 0); /* row 5 */
+    CHECK(replies(&b, 1, 0, 5) && replies(&b, 2, 1, 2));
+    CHECK(post(&b, TOLL_LEDGER_EVENT_TOLL, 1, 44, 1, 2, 60, 1) == 0); /* row 6: of day 1, 250 */
+    CHECK(replies(&b, 1, 1, 6) && replies(&b, 2, 1, 2));
+    CHECK(post(&b, TOLL_LEDGER_EVENT_PAYMENT, 2, 1, 1) == 0); /* row 7 */
+    CHECK(replies(&b, 1, 1, 6) && replies(&b, 2, 0, 7));
+    CHECK(sound(&b) == TOLL_LEDGER_POSTED);
+    free_book(&b);
+}
+
+/* A held toll and its fee don't count, not even beside 25,000 that do. They count once they are free
+ * again, by a verdict or within a tick; a verdict for the account settles them. */
+static void held_debts_are_not_heavy(void)
+{
+    for (int way = 0; way < 3; way++) {
+        struct book b = dear_book(20);
+        CHECK(dear_toll(&b, 2, 41, TOLL_LEDGER_MODE_TAG) == 0); /* row 1 */
+        CHECK(dear_toll(&b, 1, 42, TOLL_LEDGER_MODE_TAG) == 0); /* row 2 */
+        ticks(&b, 60); /* rows 3 and 4: their fees */
+        CHECK(replies(&b, 1, 1, 4) && replies(&b, 2, 1, 3));
+        CHECK(post(&b, TOLL_LEDGER_EVENT_DISPUTE, 1, 2) == 0);
+        CHECK(balance(&b, 1) == -25500);
+        CHECK(replies(&b, 1, 0, 4) && replies(&b, 2, 1, 3));
+        CHECK(dear_toll(&b, 1, 43, TOLL_LEDGER_MODE_TAG) == 0); /* row 5 */
+        CHECK(replies(&b, 1, 0, 5));
+        if (way < 2)
+            CHECK(post(&b, TOLL_LEDGER_EVENT_DECISION, 1, 2, way) == 0);
+        else {
+            ticks(&b, 29);
+            CHECK(replies(&b, 1, 0, 5));
+            ticks(&b, 1);
+        }
+        CHECK(b.header[TOLL_LEDGER_HEADER_ROWS_USED] == (way == 0 ? 5 : 6)); /* a credit, a fee of account 2 */
+        CHECK(way == 1 ? replies(&b, 1, 0, 6) : replies(&b, 1, 1, 4));
+        CHECK(replies(&b, 2, 1, 3));
+        free_book(&b);
+    }
+}
+
+/* The fee of a returned check counts, the reversal before it doesn't: of both, payments settle the
+ * reversal first. */
+static void returned_checks_and_heavy_debts(void)
+{
+    for (int64_t over = 0; over < 2; over++) {
+        struct book b = dear_book(20);
+        CHECK(dear_toll(&b, 1, 41, TOLL_LEDGER_MODE_PLATE) == 0); /* row 1 */
+        CHECK(replies(&b, 1, 1, 1));
+        CHECK(post(&b, TOLL_LEDGER_EVENT_PAYMENT, 1, 25001, 3) == 0); /* row 2 */
+        CHECK(replies(&b, 1, 0, 2));
+        CHECK(post(&b, TOLL_LEDGER_EVENT_RETURNED_CHECK, 1, 2, 24500 + over) == 0); /* rows 3 and 4 */
+        CHECK(balance(&b, 1) == -50001 - over);
+        CHECK(replies(&b, 1, over, 4));
+        CHECK(post(&b, TOLL_LEDGER_EVENT_PAYMENT, 1, 25001, 2) == 0); /* row 5 */
+        CHECK(settled(&b, 3) == 25001 && settled(&b, 4) == 0);
+        CHECK(replies(&b, 1, over, over ? 4 : 5));
+        CHECK(post(&b, TOLL_LEDGER_EVENT_PAYMENT, 1, 1, 2) == 0); /* row 6 */
+        CHECK(replies(&b, 1, 0, 6));
+        free_book(&b);
+    }
+}
+
+/* A closed account owes nothing; one that is pending again by a returned check is asked like any. */
+static void heavy_debtors_that_leave(void)
+{
+    struct book b = dear_book(20);
+    CHECK(post(&b, TOLL_LEDGER_EVENT_PAYMENT, 1, 700, 3) == 0); /* row 1 */
+    CHECK(post(&b, TOLL_LEDGER_EVENT_CLOSE_REQUEST, 1) == 0);
+    ticks(&b, 20); /* row 2: the refund */
+    CHECK(account_of(&b, 1)[TOLL_LEDGER_ACCOUNT_STATE] == TOLL_LEDGER_STATE_CLOSED);
+    CHECK(replies(&b, 1, 0, 2));
+    CHECK(post(&b, TOLL_LEDGER_EVENT_RETURNED_CHECK, 1, 1, 99500) == 0); /* rows 3 and 4 */
+    CHECK(account_of(&b, 1)[TOLL_LEDGER_ACCOUNT_STATE] == TOLL_LEDGER_STATE_PENDING);
+    CHECK(replies(&b, 1, 1, 4));
+    free_book(&b);
+}
+
+/* Debts in the first and in the last row of the largest journal. */
+static void heavy_debtors_of_a_full_journal(void)
+{
+    static struct toll_ledger_event_record events[4095];
+    static int64_t answers[4095 * 5];
+    struct book b = dear_book(8192);
+    CHECK(dear_toll(&b, 1, 41, TOLL_LEDGER_MODE_PLATE) == 0);
+    for (size_t i = 0; i < 4095; i++)
+        events[i] = record(TOLL_LEDGER_EVENT_PAYMENT, 2, 1, 1);
+    for (int half = 0; half < 2; half++)
+        CHECK(batch(&b, events, 4095, answers, 4095 * 5) == TOLL_LEDGER_POSTED);
+    CHECK(replies(&b, 1, 1, 1) && replies(&b, 2, 0, 8191) && replies(&b, 3, 0, 8191));
+    CHECK(dear_toll(&b, 3, 42, TOLL_LEDGER_MODE_PLATE) == 0);
+    CHECK(b.header[TOLL_LEDGER_HEADER_ROWS_USED] == 8192);
+    CHECK(replies(&b, 1, 1, 1) && replies(&b, 2, 0, 8192) && replies(&b, 3, 1, 8192));
+    free_book(&b);
+}
+
 /* Batches of no event, of 4,096 and of one more, with answer tables that just fit, or just not. */
 static void sizes_of_batches(void)
 {
@@ -1148,6 +1281,11 @@ int main(void)
     tolls_before_fees_in_a_tick();
     credits_cover_their_own();
     fees_paid_beside_tolls();
+    debts_at_the_border();
+    held_debts_are_not_heavy();
+    returned_checks_and_heavy_debts();
+    heavy_debtors_that_leave();
+    heavy_debtors_of_a_full_journal();
     sizes_of_batches();
     full_book();
     return 0;

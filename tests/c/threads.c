@@ -66,7 +66,7 @@ static void *play(void *argument)
     if (p->start != NULL)
         pthread_barrier_wait(p->start);
     for (int round = 0; round < p->rounds; round++) {
-        int64_t value;
+        int64_t value, rows_read;
         next_event(b, &p->seed, e);
         const int64_t number = toll_ledger_event(TABLES(b), e, TOLL_LEDGER_EVENT_WORDS,
                                                  answers, TOLL_LEDGER_ANSWER_WORDS);
@@ -78,6 +78,7 @@ static void *play(void *argument)
         CHECK(toll_ledger_batch(TABLES(b), events, BATCH, answers, BATCH * 5) == 0);
         CHECK(toll_ledger_balance(TABLES(b), 1, &value) != TOLL_LEDGER_UNSOUND);
         CHECK(toll_ledger_topup_due(TABLES(b), 1, &value) != TOLL_LEDGER_UNSOUND);
+        CHECK(toll_ledger_debtor(TABLES(b), 1, &value, &rows_read) != TOLL_LEDGER_UNSOUND);
     }
     free(e);
     free(answers);

@@ -12,7 +12,7 @@ int main()
     const std::vector<int64_t> event{TOLL_LEDGER_EVENT_OPEN, 2, 0, 0, 0, 0, 0, 0, 0};
     const std::vector<toll_ledger_event_record> events{
         {TOLL_LEDGER_EVENT_PAYMENT, 2, 700, TOLL_LEDGER_METHOD_CASH, 0, 0, 0, 0, 0}};
-    int64_t balance = 0, due = 1;
+    int64_t balance = 0, due = 1, heavy = 1, rows_read = 0;
     const bool ran =
         toll_ledger_open(header.data(), header.size(), accounts.data(), accounts.size(), journal.data(),
                          journal.size(), holidays.data(), holidays.size(), schedule.data(), schedule.size()) == TOLL_LEDGER_POSTED &&
@@ -25,6 +25,8 @@ int main()
         toll_ledger_balance(header.data(), header.size(), accounts.data(), accounts.size(), journal.data(),
                             journal.size(), holidays.data(), holidays.size(), 2, &balance) == TOLL_LEDGER_POSTED &&
         toll_ledger_topup_due(header.data(), header.size(), accounts.data(), accounts.size(), journal.data(),
-                              journal.size(), holidays.data(), holidays.size(), 2, &due) == TOLL_LEDGER_POSTED;
-    return ran && balance == 700 && due == 0 ? 0 : 1;
+                              journal.size(), holidays.data(), holidays.size(), 2, &due) == TOLL_LEDGER_POSTED &&
+        toll_ledger_debtor(header.data(), header.size(), accounts.data(), accounts.size(), journal.data(),
+                           journal.size(), holidays.data(), holidays.size(), 2, &heavy, &rows_read) == TOLL_LEDGER_POSTED;
+    return ran && balance == 700 && due == 0 && heavy == 0 && rows_read == 1 ? 0 : 1;
 }

@@ -1,4 +1,4 @@
-//! The five calls from Rust: the header's names, books whose tables lie between words that no call may write, and sets of C
+//! The six calls from Rust: the header's names, books whose tables lie between words that no call may write, and sets of C
 //! functions with the header's signatures. The model's is here; the comparison adds the library's.
 pub mod random;
 pub mod words;
@@ -167,6 +167,11 @@ type Posting<T> = unsafe extern "C" fn(*mut i64, usize, *mut i64, usize, *mut i6
 type Question = unsafe extern "C" fn(*const i64, usize, *const i64, usize, *const i64, usize, *const i64, usize,
                                      i64, *mut i64) -> i64;
 
+/// The debtor question: likewise, with the places of heavy and of the rows read.
+#[rustfmt::skip]
+type Debtor = unsafe extern "C" fn(*const i64, usize, *const i64, usize, *const i64, usize, *const i64, usize,
+                                   i64, *mut i64, *mut i64) -> i64;
+
 /// The C functions of one implementation.
 pub struct Calls {
     pub open: Opening,
@@ -174,13 +179,14 @@ pub struct Calls {
     pub batch: Posting<Event>,
     pub balance: Question,
     pub topup_due: Question,
+    pub debtor: Debtor,
 }
 
 /// The calls of these names.
 #[macro_export]
 #[rustfmt::skip]
 macro_rules! calls {
-    ($open:ident, $event:ident, $batch:ident, $balance:ident, $topup_due:ident) => {{
+    ($open:ident, $event:ident, $batch:ident, $balance:ident, $topup_due:ident, $debtor:ident) => {{
         type Words = *const i64;
         type Table = *mut i64;
         extern "C" {
@@ -194,13 +200,17 @@ macro_rules! calls {
                         n: i64, to: Table) -> i64;
             fn $topup_due(h: Words, hn: usize, a: Words, an: usize, j: Words, jn: usize, d: Words, dn: usize,
                           n: i64, to: Table) -> i64;
+            fn $debtor(h: Words, hn: usize, a: Words, an: usize, j: Words, jn: usize, d: Words, dn: usize,
+                       n: i64, heavy: Table, rows: Table) -> i64;
         }
-        $crate::Calls { open: $open, event: $event, batch: $batch, balance: $balance, topup_due: $topup_due }
+        $crate::Calls {
+            open: $open, event: $event, batch: $batch, balance: $balance, topup_due: $topup_due, debtor: $debtor,
+        }
     }};
 }
 
 /// tests/model/model.h.
-pub static MODEL: Calls = calls!(model_open, model_event, model_batch, model_balance, model_topup_due);
+pub static MODEL: Calls = calls!(model_open, model_event, model_batch, model_balance, model_topup_due, model_debtor);
 
 // The pointers are those of live tables with their true lengths, which are apart from each other: what the header asks of a host.
 impl Calls {
@@ -242,6 +252,16 @@ impl Calls {
 
     pub fn topup_due(&self, book: &Book, account: i64) -> (i64, i64) {
         Calls::ask(self.topup_due, book, account)
+    }
+
+    /// The debtor question's number, heavy and rows read.
+    pub fn debtor(&self, book: &Book, account: i64) -> (i64, i64, i64) {
+        let Book { header: h, accounts: a, journal: j, holidays: d } = book;
+        let (hn, an, jn, dn) = (h.len(), a.len(), j.len(), d.len());
+        let (h, a, j, d) = (h.as_ptr(), a.as_ptr(), j.as_ptr(), d.as_ptr());
+        let (mut heavy, mut rows) = (GUARD_WORD, GUARD_WORD);
+        let number = unsafe { (self.debtor)(h, hn, a, an, j, jn, d, dn, account, &mut heavy, &mut rows) };
+        (number, heavy, rows)
     }
 
     /// By a question on account 0, which no book has: it is refused for the book before it is for the account.

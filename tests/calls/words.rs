@@ -13,6 +13,7 @@ pub const EVENT_WORDS: usize = 9;
 pub const ANSWER_WORDS: usize = 5;
 pub const MOST_EVENTS: usize = 4_096;
 pub const DAYS: i64 = 36_525;
+pub const HEAVY_DEBT: i64 = 25_000;
 
 // toll_ledger_number
 pub const POSTED: i64 = 0;

@@ -1,4 +1,5 @@
 //! Damaged tables, lengths and answer tables: what a host may lend that is no sound book, or only just one.
+use crate::debtors::asked;
 use crate::generate::{holidays, Host, WORDS};
 use crate::generate::{LAST_STAGE, MOST_AMOUNT, MOST_CREDIT, MOST_FEE, MOST_PASSAGE, MOST_REFUND, RATES};
 use crate::pair::{line, Call, Pair};
@@ -14,6 +15,7 @@ pub struct Met {
     pub reserves_out: u64,   // unsound by a reserve alone that is neither 0 nor 1
     pub reserves_alone: u64, // and by one alone beside no top-up
     pub reserves_sound: u64, // sound, with another reserve
+    pub debtors: [u64; 2],   // debtor questions on sound and on unsound books
     pub moved_sound: u64,    // sound, with money moved from a toll to a fee or reversal, or back
     pub holidays: Holidays,
     pub lengths: u64,
@@ -451,7 +453,7 @@ fn opening(random: &mut Random) -> Call {
 fn call(random: &mut Random, host: &mut Host, whole: &Book, met: &mut Met) -> Call {
     let n = random.range(0, whole.count() as i64 + 1);
     if !MODEL.is_sound(whole) {
-        return Call::Balance(n);
+        return if random.once_in(2) { Call::Debtor(n) } else { Call::Balance(n) };
     }
     let event = host.single(random, whole);
     let mut odd = |random: &mut Random, fit: usize| {
@@ -461,11 +463,12 @@ fn call(random: &mut Random, host: &mut Host, whole: &Book, met: &mut Met) -> Ca
         met.answer_tables += 1;
         random.pick(&[0, 1, ANSWER_WORDS - 1, ANSWER_WORDS, ANSWER_WORDS + 1, fit.max(1) - 1, fit + 1])
     };
-    match random.below(20) {
+    match random.below(22) {
         0..=2 => Call::Balance(n),
         3..=4 => Call::TopUpDue(n),
-        5 => opening(random),
-        6..=10 => {
+        5..=6 => Call::Debtor(asked(random, whole)),
+        7 => opening(random),
+        8..=12 => {
             let count = if random.once_in(50) { MOST_EVENTS + 1 } else { random.index(4) };
             let events = vec![event; count];
             Call::Batch { answers: odd(random, ANSWER_WORDS * count), events }
@@ -502,6 +505,7 @@ pub fn run(random: &mut Random, host: &mut Host, whole: &Book, met: &mut Met) ->
     let lent = damaged.holidays != whole.holidays && random.once_in(3);
     let call = if lent { opening(random) } else { call(random, host, whole, met) };
     met.holidays.note(&damaged, whole, sound, &call);
+    met.debtors[!sound as usize] += matches!(call, Call::Debtor(_)) as u64;
     match Pair::new(damaged.clone()).call(&call) {
         Ok(_) => Ok(()),
         Err(difference) => Err(Failure { whole: whole.clone(), damaged, call, difference }),

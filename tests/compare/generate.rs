@@ -1,4 +1,5 @@
 //! Openings and events as a busy host might send them: most of them acceptable, some of them not.
+use crate::debtors::to_border;
 use calls::random::Random;
 use calls::words::*;
 use calls::{event, Book, Event, MODEL};
@@ -163,6 +164,9 @@ impl Host {
             return event;
         }
         if let Some(event) = beside_reserve(random, book) {
+            return event;
+        }
+        if let Some(event) = to_border(random, book) {
             return event;
         }
         if random.once_in(8) {

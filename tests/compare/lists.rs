@@ -1,4 +1,5 @@
 //! Lists of calls from an opening, made while they run; what they met; and the shortest failing part of one.
+use crate::debtors;
 use crate::generate::{
     account_words, is_held, is_low_through_held, is_reopened, Host, Opening, CLOSING_DAYS, LAST_STAGE,
 };
@@ -33,6 +34,7 @@ pub struct Met {
     pub reserves: Reserves,
     pub settlements: Settlements,
     pub closings: Closings,
+    pub debtors: debtors::Met,
 }
 
 /// Tolls accepted, by the rate list of their passage day.
@@ -295,6 +297,11 @@ fn next_call(random: &mut Random, host: &mut Host, pair: &Pair, longest: i64, me
     }
     if !MODEL.is_sound(&pair.model) {
         return Call::Balance(n);
+    }
+    if random.once_in(2) {
+        let n = debtors::asked(random, &pair.model);
+        met.debtors.note(&pair.model, n, MODEL.debtor(&pair.model, n));
+        return Call::Debtor(n);
     }
     let (mut before, mut book) = (pair.model.clone(), pair.model.clone());
     let single = random.below(100) < 55;

@@ -3,6 +3,7 @@
 //!
 //!     compare [SEED]
 mod damage;
+mod debtors;
 mod generate;
 mod lists;
 mod pair;
@@ -75,7 +76,7 @@ fn large_books(seed: u64, met: &mut lists::Met, damaged: &mut damage::Met) {
 /// Fails where the events or the damaged books met too little to show anything.
 fn enough(met: &lists::Met, damaged: &damage::Met) -> Result<(), String> {
     let accepted: u64 = (0..KINDS).map(|k| met.accepted(k)).sum();
-    let (r, s, h) = (&met.reserves, &met.settlements, &damaged.holidays);
+    let (r, s, h, d) = (&met.reserves, &met.settlements, &damaged.holidays, &met.debtors);
     let by = |of: &[u64; KINDS], event: i64| of[event as usize];
     let by_others = |of: &[u64; KINDS]| of.iter().sum::<u64>() - by(of, EVENT_TICK);
     let both = |of: [u64; 2]| of[0].min(of[1]);
@@ -128,6 +129,18 @@ fn enough(met: &lists::Met, damaged: &damage::Met) -> Result<(), String> {
         ("settlements within a tick that pay fees or reversals after tolls", by(&s.on, EVENT_TICK), 4),
         ("events that leave a fee paid in part before a toll that is owed", by_others(&s.beside), 200),
         ("ticks that leave a fee paid in part before a toll that is owed", by(&s.beside, EVENT_TICK), 200),
+        ("questions on heavy debtors", d.heavy, 1_000),
+        ("questions on accounts that are none", d.light, 2_000),
+        ("heavy debtors known before the last row", d.early, 1_000),
+        ("heavy debtors known at the last row", d.last, 200),
+        ("heavy debtors known after rows of other accounts", d.others, 500),
+        ("accounts that owe just 25,000", d.at_most, 30),
+        ("accounts that owe 25,001", d.one_more, 30),
+        ("accounts whose held debts would make them heavy debtors", d.held, 100),
+        ("accounts whose reversals would make them heavy debtors", d.reversals, 80),
+        ("heavy debtors by fees of returned checks", d.returns, 200),
+        ("debtor questions on no account", d.unknown, 500),
+        ("debtor questions on damaged books that are sound, or on unsound ones", both(damaged.debtors), 500),
         ("damaged books", damaged.books, 20_000),
         ("damaged books in a hundred that are sound", 100 * damaged.sound / damaged.books, 5),
         ("books unsound by a reserve out of its range alone", damaged.reserves_out, 300),
@@ -201,6 +214,16 @@ fn main() {
     println!("settlements that pay a toll past an older fee or reversal, by events 0 to 11: {:?}", s.past);
     println!("that go on to fees or reversals after tolls {:?}", s.on);
     println!("that leave a fee paid in part before a toll that is owed {:?}", s.beside);
+    let d = &met.debtors;
+    println!(
+        "debtor questions: heavy {}, not {}, no account {}; known before the last row {}, at it {}, after rows of others {}",
+        d.heavy, d.light, d.unknown, d.early, d.last, d.others
+    );
+    println!(
+        "owing 25,000 {}, 25,001 {}; heavy but for held debts {}, but for reversals {}; heavy by fees of returned checks {}; on \
+         damaged books, sound and unsound {:?}",
+        d.at_most, d.one_more, d.held, d.reversals, d.returns, damaged.debtors
+    );
     println!(
         "damaged books unsound by a reserve alone: {} out of its range, {} without a top-up; sound with another {}, \
          with moved money {}",

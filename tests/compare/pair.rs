@@ -4,8 +4,9 @@ use calls::{Book, Calls, Event, Table, MODEL};
 use std::fmt;
 
 /// include/toll_ledger.h.
-static LIBRARY: Calls =
-    calls::calls!(toll_ledger_open, toll_ledger_event, toll_ledger_batch, toll_ledger_balance, toll_ledger_topup_due);
+#[rustfmt::skip]
+static LIBRARY: Calls = calls::calls!(toll_ledger_open, toll_ledger_event, toll_ledger_batch, toll_ledger_balance,
+                                      toll_ledger_topup_due, toll_ledger_debtor);
 
 /// A call on a book, with the lengths of its event and answer table as a host may give them.
 #[derive(Clone)]
@@ -14,6 +15,7 @@ pub enum Call {
     Batch { events: Vec<Event>, answers: usize },
     Balance(i64),
     TopUpDue(i64),
+    Debtor(i64),
     Open(Vec<i64>),
 }
 
@@ -28,6 +30,7 @@ impl fmt::Display for Call {
             }
             Call::Balance(n) => write!(f, "balance {n}"),
             Call::TopUpDue(n) => write!(f, "topup_due {n}"),
+            Call::Debtor(n) => write!(f, "debtor {n}"),
             Call::Open(schedule) => write!(f, "open {}", line(schedule)),
         }
     }
@@ -38,10 +41,10 @@ pub fn line(words: &[i64]) -> String {
     words.iter().map(i64::to_string).collect::<Vec<_>>().join(",")
 }
 
-/// What a call gives: its number, a question's value, the answer table.
+/// What a call gives: its number, a question's values (one has two), the answer table.
 struct Given {
     number: i64,
-    value: i64,
+    values: [i64; 2],
     answers: Table,
 }
 
@@ -52,14 +55,18 @@ impl Call {
             _ => 0,
         };
         let mut answers = Table::answers(room);
-        let (number, value) = match self {
-            Call::Event { words, .. } => (calls.event(book, words, &mut answers), 0),
-            Call::Batch { events, .. } => (calls.batch(book, events, &mut answers), 0),
-            Call::Balance(n) => calls.balance(book, *n),
-            Call::TopUpDue(n) => calls.topup_due(book, *n),
-            Call::Open(schedule) => (calls.open(book, schedule), 0),
+        let without = |number| (number, [0; 2]);
+        let one = |(number, value)| (number, [value, 0]);
+        let two = |(number, first, second)| (number, [first, second]);
+        let (number, values) = match self {
+            Call::Event { words, .. } => without(calls.event(book, words, &mut answers)),
+            Call::Batch { events, .. } => without(calls.batch(book, events, &mut answers)),
+            Call::Balance(n) => one(calls.balance(book, *n)),
+            Call::TopUpDue(n) => one(calls.topup_due(book, *n)),
+            Call::Debtor(n) => two(calls.debtor(book, *n)),
+            Call::Open(schedule) => without(calls.open(book, schedule)),
         };
-        Given { number, value, answers }
+        Given { number, values, answers }
     }
 
     /// Makes the call on the model alone.
@@ -95,9 +102,9 @@ impl Pair {
         let want = call.make(&MODEL, &mut self.model);
         let got = call.make(&LIBRARY, &mut self.library);
         same("the answer table", &want.answers, &got.answers)?;
-        let (wanted, given) = ((want.number, want.value), (got.number, got.value));
+        let (wanted, given) = ((want.number, want.values), (got.number, got.values));
         if wanted != given {
-            return Err(format!("number and value {wanted:?} expected, {given:?} found"));
+            return Err(format!("number and values {wanted:?} expected, {given:?} found"));
         }
         same("the header", &self.model.header, &self.library.header)?;
         same("the accounts", &self.model.accounts, &self.library.accounts)?;

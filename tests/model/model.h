@@ -1,4 +1,4 @@
-/* The five calls in plain C, written from the scope document and the requests landed since, for
+/* The six calls in plain C, written from the scope document and the requests landed since, for
  * comparison: the model of the tests and the baseline of the benchmark. They take and give the same
  * words as those of toll_ledger.h. */
 #ifndef MODEL_H
@@ -29,5 +29,10 @@ int64_t model_topup_due(const int64_t *header, size_t header_words, const int64_
                         size_t accounts_words, const int64_t *journal, size_t journal_words,
                         const int64_t *holidays, size_t holidays_words, int64_t account,
                         int64_t *value);
+
+int64_t model_debtor(const int64_t *header, size_t header_words, const int64_t *accounts,
+                     size_t accounts_words, const int64_t *journal, size_t journal_words,
+                     const int64_t *holidays, size_t holidays_words, int64_t account,
+                     int64_t *heavy, int64_t *rows_read);
 
 #endif

@@ -71,6 +71,10 @@ struct book {
     size_t count, room, holiday_count; /* accounts, rows in all, holidays */
 };
 
+struct debtor {
+    int64_t debt, rows; /* so much debt in so many first rows */
+};
+
 struct answer {
     int64_t number, first_row, new_rows, raised, removed;
 };
@@ -173,6 +177,7 @@ bool is_sound(const struct book *b);                      /* its lengths fit */
 /* model_events.c */
 int64_t balance_of(const struct book *b, int64_t account);
 bool is_topup_due(const struct book *b, int64_t account);
+struct debtor debtor_of(const struct book *b, int64_t account);
 struct answer post(const struct book *b, const event *e); /* on a sound book */
 
 /* model_tick.c */

@@ -1,4 +1,4 @@
-/* The five calls: the tables' lengths and soundness on entry, then what was asked. */
+/* The six calls: the tables' lengths and soundness on entry, then what was asked. */
 #include "model.h"
 
 #include <string.h>
@@ -96,6 +96,20 @@ int64_t model_batch(int64_t *header, size_t header_words, int64_t *accounts, siz
     return TOLL_LEDGER_POSTED;
 }
 
+/* Whether a question on the account is answered, and then the book. */
+static int64_t take_up_account(struct book *b, const int64_t *header, size_t header_words,
+                               const int64_t *accounts, size_t accounts_words,
+                               const int64_t *journal, size_t journal_words,
+                               const int64_t *holidays, size_t holidays_words, int64_t account)
+{
+    if (!take_up(b, header, header_words, accounts, accounts_words, journal, journal_words, holidays,
+                 holidays_words))
+        return TOLL_LEDGER_UNSOUND;
+    const struct account *x = account_of(b, account);
+    return x == NULL || x->state == TOLL_LEDGER_STATE_UNUSED ? TOLL_LEDGER_UNKNOWN
+                                                             : TOLL_LEDGER_POSTED;
+}
+
 /* The answer's number to a question on the account; its value by `answer`, 0 where it is refused. */
 static int64_t ask(int64_t (*answer)(const struct book *, int64_t), const int64_t *header,
                    size_t header_words, const int64_t *accounts, size_t accounts_words,
@@ -103,15 +117,10 @@ static int64_t ask(int64_t (*answer)(const struct book *, int64_t), const int64_
                    size_t holidays_words, int64_t account, int64_t *value)
 {
     struct book b;
-    *value = 0;
-    if (!take_up(&b, header, header_words, accounts, accounts_words, journal, journal_words, holidays,
-                 holidays_words))
-        return TOLL_LEDGER_UNSOUND;
-    const struct account *x = account_of(&b, account);
-    if (x == NULL || x->state == TOLL_LEDGER_STATE_UNUSED)
-        return TOLL_LEDGER_UNKNOWN;
-    *value = answer(&b, account);
-    return TOLL_LEDGER_POSTED;
+    const int64_t number = take_up_account(&b, header, header_words, accounts, accounts_words, journal,
+                                           journal_words, holidays, holidays_words, account);
+    *value = number == TOLL_LEDGER_POSTED ? answer(&b, account) : 0;
+    return number;
 }
 
 static int64_t topup_due_of(const struct book *b, int64_t account)
@@ -135,4 +144,18 @@ int64_t model_topup_due(const int64_t *header, size_t header_words, const int64_
 {
     return ask(topup_due_of, header, header_words, accounts, accounts_words, journal, journal_words,
                holidays, holidays_words, account, value);
+}
+
+int64_t model_debtor(const int64_t *header, size_t header_words, const int64_t *accounts,
+                     size_t accounts_words, const int64_t *journal, size_t journal_words,
+                     const int64_t *holidays, size_t holidays_words, int64_t account,
+                     int64_t *heavy, int64_t *rows_read)
+{
+    struct book b;
+    const int64_t number = take_up_account(&b, header, header_words, accounts, accounts_words, journal,
+                                           journal_words, holidays, holidays_words, account);
+    const struct debtor d = number == TOLL_LEDGER_POSTED ? debtor_of(&b, account) : (struct debtor){0};
+    *heavy = d.debt > TOLL_LEDGER_HEAVY_DEBT;
+    *rows_read = d.rows;
+    return number;
 }

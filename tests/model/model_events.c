@@ -37,6 +37,20 @@ bool is_topup_due(const struct book *b, int64_t account)
            x->last_decline != b->header->day && balance_and_held(b, account) <= x->threshold;
 }
 
+/* "The unsettled part of unheld tolls and fees of the account, in row order, and stop as soon as the
+ * sum exceeds 25,000." */
+struct debtor debtor_of(const struct book *b, int64_t account)
+{
+    struct debtor d = {0};
+    while (d.rows < b->header->used && d.debt <= TOLL_LEDGER_HEAVY_DEBT) {
+        const struct row *r = &b->rows[d.rows++];
+        const bool counts = r->kind == TOLL_LEDGER_KIND_TOLL || r->kind == TOLL_LEDGER_KIND_FEE;
+        if (r->account == account && counts && !is_held(b, r))
+            d.debt += left_of(r);
+    }
+    return d;
+}
+
 /* The account's first unused source from row i on, counted from 0; the rows used where none is. */
 static size_t next_source(const struct book *b, int64_t account, size_t i)
 {

@@ -5,6 +5,7 @@
 //!     event words                   the answer's five words
 //!     batch SIZE | words | ..       into a table of SIZE words: the number, then each answer's five words
 //!     balance N, topup_due N        the number and the value
+//!     debtor N                      the number, heavy and the rows read
 //!     tables                        no call: all words of header, accounts, used rows and holidays, a group each
 //!     poke TABLE place word ..      no call: writes words, and the calls after it meet them
 //!
@@ -16,8 +17,9 @@ use calls::{Book, Calls, Event, Table, MODEL};
 use std::fs;
 
 /// include/toll_ledger.h.
-static LIBRARY: Calls =
-    calls::calls!(toll_ledger_open, toll_ledger_event, toll_ledger_batch, toll_ledger_balance, toll_ledger_topup_due);
+#[rustfmt::skip]
+static LIBRARY: Calls = calls::calls!(toll_ledger_open, toll_ledger_event, toll_ledger_batch, toll_ledger_balance,
+                                      toll_ledger_topup_due, toll_ledger_debtor);
 
 type Groups = Vec<Vec<i64>>;
 
@@ -104,6 +106,10 @@ impl Reader {
             "batch" => self.batch(words[0][0], &words[1..]),
             "balance" => pair(self.calls.balance(&self.book, words[0][0])),
             "topup_due" => pair(self.calls.topup_due(&self.book, words[0][0])),
+            "debtor" => {
+                let (number, heavy, rows) = self.calls.debtor(&self.book, words[0][0]);
+                Ok(vec![vec![number, heavy, rows]])
+            }
             "tables" => Ok(self.tables()),
             other => panic!("no call {other}"),
         };

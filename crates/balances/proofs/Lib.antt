@@ -1,2 +1,3 @@
 pub mod AmountLaws
 pub mod TopupLaws
+pub mod DebtorLaws

@@ -2,6 +2,7 @@
 #![tactic(auto)]
 
 pub mod summable; // summable.rt: used rows whose amounts can be summed
+pub mod debtor; // debtor.rt: whether an account is a heavy debtor
 
 ghost use Rattle.std.specs.Prelude.{◌≡◌, true, ℕ, ◌^◌, ◌<◌};
 ghost use Rattle.rules.specs.Rows.{Row};

@@ -13,16 +13,19 @@ use Rattle.records.specs.Outcomes.{number_of}
 use Rattle.records.proofs.OutcomeLaws.{number_of-not_0}
 use Rattle.records.specs.Numbers.{answer_unsound, answer_unknown}
 use Rattle.records.specs.Layout.{row_width}
-use Rattle.records.specs.Encoding.{nat_of, accounts_of}
+use Rattle.records.specs.Encoding.{nat_of, accounts_of, rows_of}
 use Rattle.lists.specs.Tests.{◌is◌, ◌from◌to◌, first}
 use Rattle.lists.proofs.TestLaws.{and_left, and_right, first-none}
+use Rattle.lists.specs.Lists.{least}
 use Rattle.records.specs.Limits.{most_rows}
 use Rattle.rules.specs.Book.{Account, state_unused, Book, account, account_no, minus, balance}
 use Rattle.rules.specs.Tables.{Tables, accounts_in, rows_used, book_of, sound_tables}
-use Rattle.rules.specs.Calls.{Replies, question_refusals, question, row_call}
+use Rattle.rules.specs.Debtors.{heavy_by, heavy, rows_read}
+use Rattle.rules.specs.Calls.{Replies, RepliesDebtor, question_refusals, question, debtor_call, row_call}
 use Rattle.rules.proofs.StorableLaws.{between_le}
-use Rattle.rules.proofs.TableLaws.{sound-rows}
+use Rattle.rules.proofs.TableLaws.{sound-rows, length-sound-rows}
 use Rattle.balances.specs.declared.Sums.{Sums}
+use Rattle.balances.specs.declared.debtor.Debtor.{Debtor}
 use Rattle.balances.specs.Summed.{Summed}
 use Rattle.balances.proofs.AmountLaws.{sums-fit}
 use Rattle.posting.proofs.BookLaws.{account-read, used-small, used-room, journal-summable}
@@ -66,6 +69,26 @@ module _ (t : Tables) (s : sound_tables t ≡ true) (used : ℕ) (u : used ≡ r
   pub balance-read : minus q.sources q.debits ≡ balance (book_of t) n
   unfolding balance
   balance-read = rw (sound-rows t s, ← u, ← e.sources, ← e.debits)
+
+-- ---- a heavy debtor
+
+module _ (t : Tables) (a : ℤ) (n : ℕ) (e : n ≡ nat_of a) where
+  pub debtor-refused : (r : Refusal) → number_of r ≡ first (question_refusals t n) → RepliesDebtor (debtor_call t a) (pos (number_of r)) (pos 0) (pos 0)
+  unfolding debtor_call
+  debtor-refused r q =
+      let yes = question-refused (λ b m. pos (cond (heavy b m) 1 0)) t a n e r q in
+      record { number = yes.number; heavy = yes.value; rows = (question-refused (λ b m. pos (rows_read b m)) t a n e r q).value }
+
+  -- told by the used rows
+  pub debtor-answered : 0 ≡ first (question_refusals t n) → {used : ℕ} → used ≡ rows_used t → (d : Debtor)
+      → d.heavy ≡ heavy_by (rows_of t.journal used) n used → d.rows ≡ least (heavy_by (rows_of t.journal used) n) used
+      → RepliesDebtor (debtor_call t a) (pos 0) (pos (cond d.heavy 1 0)) (pos d.rows)
+  unfolding debtor_call heavy rows_read
+  debtor-answered q u d h r =
+      let s : sound_tables t ≡ true = asked-sound t n q in
+      let l : length (book_of t).rows ≡ rows_used t = length-sound-rows t s in
+      let yes = question-answered (λ b m. pos (cond (heavy b m) 1 0)) t a n e q (pos (cond d.heavy 1 0)) (rw (h, u, l, sound-rows t s) refl) in
+      record { number = yes.number; heavy = yes.value; rows = (question-answered (λ b m. pos (rows_read b m)) t a n e q (pos d.rows) (rw (r, u, l, sound-rows t s) refl)).value }
 
 -- ---- the row
 

@@ -1,16 +1,17 @@
-// The questions, which change nothing: an account's balance, whether its top-up is due, and a row's words as a part of the lent journal.
-// Each checks the book first.
+// The questions, which change nothing: an account's balance, whether its top-up is due, whether it is a heavy debtor, and a row's words as
+// a part of the lent journal. Each checks the book first.
 #![tactic(auto)]
 
 ghost use Rattle.std.specs.Prelude.{◌≡◌, pos, ◌&&◌};
 ghost use Rattle.lists.specs.Tests.{◌from◌to◌, first};
 ghost use Rattle.records.specs.Outcomes.{number_by};
-ghost use Rattle.call_questions.specs.Values.{value_of, flag_of};
+ghost use Rattle.call_questions.specs.Values.{value_of, flag_of, heavy_of, rows_read_of};
 ghost use Rattle.rules.specs.Tables.{tables_with, rows_used, sound_tables};
-ghost use Rattle.rules.specs.Calls.{Replies, question_refusals, balance_call, topup_due_call};
+ghost use Rattle.rules.specs.Calls.{Replies, RepliesDebtor, question_refusals, balance_call, topup_due_call, debtor_call};
 ghost use Rattle.call_questions.specs.RowParts.{RowPart};
 ghost use Rattle.lent.specs.Lent.{lent};
 
+use balances::debtor::{Debtor, judge_debtor};
 use balances::summable::SummableRows;
 use balances::sums_of;
 use lent::Tables;
@@ -57,6 +58,19 @@ pub fn topup_due(t: Tables, holidays: &[i64], account: i64) -> Result<bool, Refu
     let n = natural(account);
     check_question(t, holidays, n)?;
     Ok(balances::topup_due(t, n))
+}
+
+// Whether the account is a heavy debtor, and how many rows were read to tell.
+pub fn debtor(t: Tables, holidays: &[i64], account: i64) -> Result<Debtor, Refusal>
+    ensures { RepliesDebtor (debtor_call (tables_with holidays.now (lent t.entry)) account)
+        (pos (number_by result))
+        (heavy_of result)
+        (rows_read_of result) }
+{
+    let n = natural(account);
+    check_question(t, holidays, n)?;
+    let summable = SummableRows { rows: t.rows() };
+    Ok(judge_debtor(summable, n))
 }
 
 // Whether the book is sound and row n, counted from 1, is used.

@@ -18,7 +18,9 @@ use Rattle.toll_ledger.proofs.toll_ledger_balance.Kinds as balance-kinds
 use Rattle.toll_ledger.proofs.toll_ledger_balance.Reads as balance-reads
 use Rattle.toll_ledger.proofs.toll_ledger_topup_due.Kinds as due-kinds
 use Rattle.toll_ledger.proofs.toll_ledger_topup_due.Reads as due-reads
-use Rattle.calls_replayed.specs.Runs.{Step, event-step, batch-step, balance-step, topup-due-step}
+use Rattle.toll_ledger.proofs.toll_ledger_debtor.Kinds as debtor-kinds
+use Rattle.toll_ledger.proofs.toll_ledger_debtor.Reads as debtor-reads
+use Rattle.calls_replayed.specs.Runs.{Step, event-step, batch-step, balance-step, topup-due-step, debtor-step}
 
 -- toll_ledger_open: the arguments a, the number n, the tables at exit e
 pub open-contract : (κs : Lfts 5) (a : Dens κs open-kinds.ps) (n : ℤ) (e : AtExit (ended_of 5 open-kinds.ps open-kinds.r) κs) → open-reads.Learnt κs a n e
@@ -46,3 +48,9 @@ pub due-contract : (κs : Lfts 5) (a : Dens κs due-kinds.ps) (n : ℤ) (e : AtE
     → due-reads.Learnt κs a n e
     → Step (tables_at a.0.now a.1.0.now a.1.1.0.now a.1.1.1.0.now) (tables_at a.0.now a.1.0.now a.1.1.0.now a.1.1.1.0.now)
 due-contract κs a n e g = topup-due-step a.1.1.1.1.0 n e.1.1.1.1.1.0.now g refl
+
+-- toll_ledger_debtor
+pub debtor-contract : (κs : Lfts 6) (a : Dens κs debtor-kinds.ps) (n : ℤ) (e : AtExit (ended_of 6 debtor-kinds.ps debtor-kinds.r) κs)
+    → debtor-reads.Learnt κs a n e
+    → Step (tables_at a.0.now a.1.0.now a.1.1.0.now a.1.1.1.0.now) (tables_at a.0.now a.1.0.now a.1.1.0.now a.1.1.1.0.now)
+debtor-contract κs a n e g = debtor-step a.1.1.1.1.0 n e.1.1.1.1.1.0.now e.1.1.1.1.1.1.0.now g refl

@@ -8,7 +8,7 @@ use Rattle.rules.specs.Calls.{Gives, open_call}
 use Rattle.replay.specs.Replay.{Report}
 use Rattle.replay.specs.Demand3.{Call, single, batch, called, tables_after, reports}
 use Rattle.replay.proofs.Claim.{demand-3}
-use Rattle.calls_replayed.specs.Runs.{Step, event-step, batch-step, balance-step, topup-due-step, Run, none, more, step_reports, run_reports, CallsReplayed, HolidaysStay}
+use Rattle.calls_replayed.specs.Runs.{Step, event-step, batch-step, balance-step, topup-due-step, debtor-step, Run, none, more, step_reports, run_reports, CallsReplayed, HolidaysStay}
 use Rattle.rules.proofs.HolidaysKept.{event_call-keeps-holidays, batch_call-keeps-holidays, open_call-keeps-holidays}
 
 -- ---- a step
@@ -19,6 +19,7 @@ step_calls (event-step e w v n g) = single e w ∷ []
 step_calls (batch-step es w v n g) = batch es w ∷ []
 step_calls (balance-step account n value g same) = []
 step_calls (topup-due-step account n value g same) = []
+step_calls (debtor-step account n heavy rows g same) = []
 
 -- the calls after it go on from the tables that it leaves
 tables_step : {t u : Tables} (s : Step t u) (cs : List Call) → tables_after t (step_calls s ++ cs) ≡ tables_after u cs
@@ -27,6 +28,7 @@ tables_step (event-step e w v n g) cs = rw (← g.tables)
 tables_step (batch-step es w v n g) cs = rw (← g.tables)
 tables_step (balance-step account n value g same) cs = ap (λ (x : Tables). tables_after x cs) (sym same)
 tables_step (topup-due-step account n value g same) cs = ap (λ (x : Tables). tables_after x cs) (sym same)
+tables_step (debtor-step account n heavy rows g same) cs = ap (λ (x : Tables). tables_after x cs) (sym same)
 
 reports-step : {t u : Tables} (s : Step t u) (cs : List Call) → reports t (step_calls s ++ cs) ≡ step_reports s ++ reports u cs
 unfolding step_calls step_reports reports called
@@ -34,6 +36,7 @@ reports-step {t} (event-step e w v n g) cs = rw (← g.tables)
 reports-step {t} (batch-step es w v n g) cs = rw (← g.tables)
 reports-step (balance-step account n value g same) cs = ap (λ (x : Tables). reports x cs) (sym same)
 reports-step (topup-due-step account n value g same) cs = ap (λ (x : Tables). reports x cs) (sym same)
+reports-step (debtor-step account n heavy rows g same) cs = ap (λ (x : Tables). reports x cs) (sym same)
 
 -- ---- a run
 
@@ -69,6 +72,7 @@ step-keeps {t} (event-step e w v n g) = ap (λ (x : Tables). x.holidays) g.table
 step-keeps {t} (batch-step es w v n g) = ap (λ (x : Tables). x.holidays) g.tables ∙ batch_call-keeps-holidays t es w
 step-keeps (balance-step account n value g same) = ap (λ (x : Tables). x.holidays) same
 step-keeps (topup-due-step account n value g same) = ap (λ (x : Tables). x.holidays) same
+step-keeps (debtor-step account n heavy rows g same) = ap (λ (x : Tables). x.holidays) same
 
 run-keeps : {t u : Tables} → Run t u → u.holidays ≡ t.holidays
 run-keeps none = refl

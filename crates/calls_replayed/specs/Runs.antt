@@ -2,7 +2,7 @@
 -- exports these functions with the same clauses.
 use Rattle.std.specs.Prelude.{◌≡◌, List, [], ◌++◌, ℤ, pos}
 use Rattle.rules.specs.Tables.{Tables, book_of}
-use Rattle.rules.specs.Calls.{Event, Gives, Replies, open_call, event_call, batch_call, balance_call, topup_due_call}
+use Rattle.rules.specs.Calls.{Event, Gives, Replies, RepliesDebtor, open_call, event_call, batch_call, balance_call, topup_due_call, debtor_call}
 use Rattle.replay.specs.Replay.{Replay, Report, replay}
 use Rattle.replay.specs.Demand3.{single, batch, reports_at, Demand3, replay_start}
 
@@ -13,6 +13,7 @@ pub data Step (t u : Tables) : Type 0 where
   batch-step : (es : List Event) (w v : List ℤ) (n : ℤ) → Gives (batch_call t es w) n u v → Step t u
   balance-step : (account n value : ℤ) → Replies (balance_call t account) n value → u ≡ t → Step t u
   topup-due-step : (account n value : ℤ) → Replies (topup_due_call t account) n value → u ≡ t → Step t u
+  debtor-step : (account n heavy rows : ℤ) → RepliesDebtor (debtor_call t account) n heavy rows → u ≡ t → Step t u
 
 -- calls in order, from the tables t to the tables u, each on the tables as the last one left them: so each is lent the holidays that the
 -- first was (HolidaysKept)
@@ -26,6 +27,7 @@ step_reports {t} (event-step e w v n g) = reports_at t (single e w)
 step_reports {t} (batch-step es w v n g) = reports_at t (batch es w)
 step_reports (balance-step account n value g same) = []
 step_reports (topup-due-step account n value g same) = []
+step_reports (debtor-step account n heavy rows g same) = []
 
 -- the reports of a run, in order
 unfoldable pub run_reports : {t u : Tables} → Run t u → List Report

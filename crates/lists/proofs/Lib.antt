@@ -8,3 +8,4 @@ pub mod ExistsLaws
 pub mod PassLaws
 pub mod SignLaws
 pub mod SearchLaws
+pub mod LeastLaws

@@ -45,6 +45,15 @@ module _ {A : Type 0} where
   tabulate f zero = []
   tabulate f (suc n) = tabulate f n ++ (f n ∷ [])
 
+-- the first of i, i + 1, .. of which the test holds, of k numbers, and the one after them where it holds of none
+unfoldable pub first_from : (ℕ → Bool) → ℕ → ℕ → ℕ
+first_from t i zero = i
+first_from t i (suc k) = cond (t i) i (first_from t (i + 1) k)
+
+-- the least number below n of which the test holds, n where it holds of none
+abbrev pub least : (ℕ → Bool) → ℕ → ℕ
+least t n = first_from t 0 n
+
 -- what each element, its number in view, adds to a list
 unfoldable pub gather_from : {A B : Type 0} → (ℕ → A → List B) → ℕ → List A → List B
 gather_from f i [] = []

@@ -97,6 +97,10 @@ most_held_days = 29
 abbrev pub low_height : ℕ
 low_height = 90
 
+-- "exceed 25,000 cents": the debt that an account may have and be no heavy debtor (document 02, No. 7)
+abbrev pub heavy_debt : ℕ
+heavy_debt = 25000
+
 -- the days of a week
 abbrev pub week_days : ℕ
 week_days = 7

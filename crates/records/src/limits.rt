@@ -48,6 +48,8 @@ pub const MOST_HELD_DAYS: u64 = 29;
 
 pub const LOW_HEIGHT: u64 = 90;
 
+pub const HEAVY_DEBT: u64 = 25000;
+
 pub const WEEK_DAYS: u64 = 7;
 
 pub const MOST_HOLIDAYS: usize = 400;

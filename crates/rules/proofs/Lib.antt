@@ -5,6 +5,7 @@ pub mod SettlementStepsLaws
 pub mod SettlementAccountsLaws
 pub mod SoundnessLaws
 pub mod BalanceLaws
+pub mod DebtorLaws
 pub mod PostingLaws
 pub mod RefusalLaws
 pub mod Computing
@@ -28,4 +29,5 @@ pub mod TopupExamples
 pub mod ReserveExamples
 pub mod RankExamples
 pub mod BusinessDayExamples
+pub mod DebtorExamples
 pub mod BusinessDayLaws

@@ -10,6 +10,7 @@ use Rattle.records.specs.Limits.{most_events}
 use Rattle.rules.specs.Schedule.{rates_fit, schedule_fits}
 use Rattle.rules.specs.BusinessDays.{holidays_fit}
 use Rattle.rules.specs.Book.{Instruction, Answer, state_unused, Book, with_holidays, account, balance, topup_due}
+use Rattle.rules.specs.Debtors.{heavy, rows_read}
 use Rattle.rules.specs.Posting.{post, Posted, refusal_by, book_after, answers_to}
 use Rattle.rules.specs.Opening.{opening, day_fits}
 use Rattle.rules.specs.Tables.{Tables, accounts_in, room_in, rows_used, holidays_in, schedule_from, rates_from, book_of, tables_of, lengths_fit, sound_tables}
@@ -127,6 +128,25 @@ balance_call t a = question balance t a
 -- "top-up due (1 yes, 0 no)"
 unfoldable pub topup_due_call : Tables → ℤ → Reply
 topup_due_call t a = question (λ b n. pos (cond (topup_due b n) 1 0)) t a
+
+-- "the reply is the same as from reading all rows. It carries the number of rows read" (document 02, No. 7)
+pub record DebtorReply : Type 0 where
+  pub number : ℕ
+  pub heavy : ℤ
+  pub rows : ℤ
+
+-- the question gave the number n, yes or no, and the count r: just what q says
+pub record RepliesDebtor (q : DebtorReply) (n v r : ℤ) : Type 0 where
+  pub number : n ≡ pos q.number
+  pub heavy : v ≡ q.heavy
+  pub rows : r ≡ q.rows
+
+-- "this yes or no", 1 or 0, and the rows read; "Unsound and unknown are refused as for the balance, count 0"
+unfoldable pub debtor_call : Tables → ℤ → DebtorReply
+debtor_call t a =
+    let yes : Reply = question (λ b n. pos (cond (heavy b n) 1 0)) t a in
+    let count : Reply = question (λ b n. pos (rows_read b n)) t a in
+    record { number = yes.number; heavy = yes.value; rows = count.value }
 
 -- "the ten words as the very part of the lent journal, an empty part where the book is unsound or the row isn't used"
 unfoldable pub row_call : Tables → ℤ → List ℤ

@@ -6,6 +6,7 @@ pub mod Rows
 pub mod Settlement
 pub mod SettlementSteps
 pub mod Book
+pub mod Debtors
 pub mod Events
 pub mod Tick
 pub mod Refusals

@@ -4,14 +4,15 @@
 
 ghost use Rattle.std.specs.Prelude.{◌≡◌, [], pos};
 ghost use Rattle.records.specs.Outcomes.{number_by};
-ghost use Rattle.call_questions.specs.Values.{value_of};
-ghost use Rattle.rules.specs.Calls.{Gives, Replies, open_call, event_call, batch_call, balance_call, topup_due_call};
+ghost use Rattle.call_questions.specs.Values.{value_of, heavy_of, rows_read_of};
+ghost use Rattle.rules.specs.Calls.{Gives, Replies, RepliesDebtor, open_call, event_call, batch_call, balance_call, topup_due_call, debtor_call};
 ghost use Rattle.rules.specs.Tables.{tables_at};
 
+use balances::debtor::Debtor;
 use call_batch::batch_call;
 use call_event::event_call;
 use call_opening::open_book;
-use call_questions::{balance, topup_due};
+use call_questions::{balance, debtor, topup_due};
 use lent::{Tables, TablesMut};
 use records::Event;
 use records::refusals::Refusal;
@@ -38,6 +39,26 @@ fn reply(outcome: Result<i64, Refusal>, value: &mut i64) -> i64
         }
         Err(refusal) => {
             *value = 0;
+            i64::from(refusal)
+        }
+    }
+}
+
+// The number that the question about a debtor gives the host; its two values, 0 where it is refused, are put in their places.
+fn tell_debtor(outcome: Result<Debtor, Refusal>, heavy: &mut i64, rows_read: &mut i64) -> i64
+    ensures number { result ≡ pos (number_by outcome) }
+    ensures heavy { heavy.new ≡ heavy_of outcome }
+    ensures rows { rows_read.new ≡ rows_read_of outcome }
+{
+    match outcome {
+        Ok(d) => {
+            *heavy = i64::from(d.heavy);
+            *rows_read = i64::from(d.rows);
+            0
+        }
+        Err(refusal) => {
+            *heavy = 0;
+            *rows_read = 0;
             i64::from(refusal)
         }
     }
@@ -130,6 +151,31 @@ pub fn toll_ledger_topup_due(
     };
     let due = topup_due(t, holidays, account);
     reply(due.map(i64::from), value)
+}
+
+// 1 where the account is a heavy debtor, 0 where it is not, and how many rows were read to tell; both 0 where the question is refused.
+pub fn toll_ledger_debtor(
+    header: &[i64],
+    accounts: &[i64],
+    journal: &[i64],
+    holidays: &[i64],
+    account: i64,
+    heavy: &mut i64,
+    rows_read: &mut i64,
+) -> i64
+    ensures { RepliesDebtor (debtor_call (tables_at header.now accounts.now journal.now holidays.now)
+        account)
+        result
+        heavy.new
+        rows_read.new }
+{
+    let t = Tables {
+        header,
+        accounts,
+        journal,
+    };
+    let outcome = debtor(t, holidays, account);
+    tell_debtor(outcome, heavy, rows_read)
 }
 
 // Posts the events in order, going on after a refusal, and gives 0; a batch that is refused writes nothing.

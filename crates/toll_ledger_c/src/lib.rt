@@ -4,7 +4,7 @@
 #![tactic(auto)]
 
 ghost use Rattle.std.specs.Prelude.{[]};
-ghost use Rattle.rules.specs.Calls.{Gives, Replies, open_call, event_call, batch_call, balance_call, topup_due_call};
+ghost use Rattle.rules.specs.Calls.{Gives, Replies, RepliesDebtor, open_call, event_call, batch_call, balance_call, topup_due_call, debtor_call};
 ghost use Rattle.rules.specs.Tables.{tables_at};
 
 use records::Event;
@@ -79,6 +79,28 @@ pub extern "C" fn toll_ledger_topup_due(
         value.new }
 {
     toll_ledger::toll_ledger_topup_due(header, accounts, journal, holidays, account, value)
+}
+
+// 1 where the account is a heavy debtor, 0 where it is not, and how many rows were read to tell; both 0 where the question is refused.
+#[unsafe(no_mangle)]
+pub extern "C" fn toll_ledger_debtor(
+    header: &[i64],
+    accounts: &[i64],
+    journal: &[i64],
+    holidays: &[i64],
+    account: i64,
+    heavy: &mut i64,
+    rows_read: &mut i64,
+) -> i64
+    ensures { RepliesDebtor (debtor_call (tables_at header.now accounts.now journal.now holidays.now)
+        account)
+        result
+        heavy.new
+        rows_read.new }
+{
+    toll_ledger::toll_ledger_debtor(
+        header, accounts, journal, holidays, account, heavy, rows_read,
+    )
 }
 
 // Posts the events in order, going on after a refusal, and gives 0; a batch that is refused writes nothing.
