@@ -70,6 +70,8 @@ cases =
     -- of a returned check the fee of 1,000 counts, the reversal of 30,000 does not
     ∷ (asked 1 (event 3 1 30_000 3 0 0 0 ∷ event 4 1 1 500 0 0 0 ∷ []) gives 0 ∷ 3 ∷ [])
     ∷ (asked 1 (event 3 1 30_000 3 0 0 0 ∷ event 4 1 1 500 0 0 0 ∷ toll 1 41 tag ∷ []) gives 1 ∷ 4 ∷ [])
+    -- also where it is owed: 25,000 of it, since the check had paid a toll
+    ∷ (asked 1 (toll 1 41 tag ∷ event 3 1 30_000 3 0 0 0 ∷ event 4 1 2 500 0 0 0 ∷ []) gives 0 ∷ 4 ∷ [])
     -- the call: yes; no; 3 of an account that is unused or outside the table, and 1, without a count
     ∷ record { got = reply (debtor_call sound (pos 1)); want = pos 0 ∷ pos 1 ∷ pos 4 ∷ [] }
     ∷ record { got = reply (debtor_call sound (pos 2)); want = pos 0 ∷ pos 0 ∷ pos 5 ∷ [] }
