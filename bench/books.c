@@ -68,12 +68,17 @@ void copy_tables(struct tables *to, const struct tables *from)
     memcpy(to->journal, from->journal, from->journal_words * sizeof(int64_t));
 }
 
+bool is_live(const struct book *b, int64_t account)
+{
+    return within(TOLL_LEDGER_STATE_OPEN, b->accounts[account - 1].state, TOLL_LEDGER_STATE_PENDING);
+}
+
 /* An account that is open or pending, where a few draws find one. */
 static int64_t live_account(struct host *host, const struct book *b)
 {
     int64_t n = draw(host, 1, (int64_t)b->count);
     for (int tries = 0; tries < 20; tries++) {
-        if (within(TOLL_LEDGER_STATE_OPEN, b->accounts[n - 1].state, TOLL_LEDGER_STATE_PENDING))
+        if (is_live(b, n))
             return n;
         n = draw(host, 1, (int64_t)b->count);
     }
@@ -164,9 +169,29 @@ static event fitting_event(struct host *host, const struct book *b)
     return toll_for(host, b, live_account(host, b));
 }
 
+/* The toll for a closed account instead, the first from number `from` on: where no successor takes its
+ * tolls, the account of the toll is named as that. The toll itself where no account is closed. */
+static event passing_event(const struct book *b, event toll, uint64_t from)
+{
+    for (size_t i = 0; i < b->count; i++) {
+        const size_t n = (size_t)(from + i) % b->count;
+        const struct account *x = &b->accounts[n];
+        if (x->state != TOLL_LEDGER_STATE_CLOSED)
+            continue;
+        if (x->successor == 0 || !is_live(b, x->successor))
+            return (event){.kind = TOLL_LEDGER_EVENT_SUCCESSOR, .account = (int64_t)n + 1, .a = toll.account};
+        toll.account = (int64_t)n + 1;
+        break;
+    }
+    return toll;
+}
+
+/* One word more is drawn whatever comes of it: so as many are as for all books in docs/SPEED.md. */
 event next_event(struct host *host, const struct book *b)
 {
     const event e = fitting_event(host, b);
-    random_word(host); /* unused: so as many are drawn as for all books in docs/SPEED.md */
-    return e;
+    const uint64_t word = random_word(host);
+    if (e.kind != TOLL_LEDGER_EVENT_TOLL || word % 1000 >= (uint64_t)host->mix.passes)
+        return e;
+    return passing_event(b, e, word / 1000);
 }

@@ -36,9 +36,10 @@ struct library {
 
 extern const struct library ours, plain;
 
-/* How often a host sends each kind of event, in a thousand; the rest are tolls. */
+/* How often a host sends each kind of event, in a thousand; the rest are tolls, of which so many in a
+ * thousand name an account that is closed. */
 struct mix {
-    int payments, returns, disputes, decisions, topups, closes, ticks;
+    int payments, returns, disputes, decisions, topups, closes, ticks, passes;
 };
 
 /* Where random numbers and fresh passage numbers come from. */
@@ -57,6 +58,8 @@ struct book book_of(struct tables *t);
 /* Tables of so many accounts and rows, full of words that no book has. */
 void shape(struct tables *t, size_t accounts, size_t rows);
 void copy_tables(struct tables *to, const struct tables *from); /* lengths and words */
+
+bool is_live(const struct book *b, int64_t account); /* open or pending */
 
 event next_event(struct host *host, const struct book *b);
 event toll_for(struct host *host, const struct book *b, int64_t account);

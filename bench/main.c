@@ -11,13 +11,16 @@
 
 #define ACCOUNTS TOLL_LEDGER_MOST_ACCOUNTS
 #define SIZES 3
-#define CALLS 7
+#define CALLS 8
 #define CALL_RUNS 2001
 #define BATCH_RUNS 61
 #define PART 1024 /* events of a batch onto a book with rows */
 #define LIST_DAYS 12 /* from one rate list to the next: the last has begun when a book is timed */
 #define MOST_RUNS CALL_RUNS
-#define HEAVY 0 /* in the place of an event's kind: a heavy debtor by an early row */
+/* In the place of an event's kind: a heavy debtor by an early row; a toll for a closed account, which
+ * its successor takes. */
+#define HEAVY 0
+#define PASSED_ON (-1)
 
 static const size_t sizes[SIZES] = {512, 2048, 8192};
 static const int64_t schedule[TOLL_LEDGER_SCHEDULE_WORDS] = {1,   30,  500, 2500, 3000, 250,
@@ -25,7 +28,7 @@ static const int64_t schedule[TOLL_LEDGER_SCHEDULE_WORDS] = {1,   30,  500, 2500
 static const struct mix filling = {.payments = 300, .returns = 15, .disputes = 60, .decisions = 15,
                                    .topups = 30, .closes = 4};
 static const struct mix batched = {.payments = 330, .returns = 10, .disputes = 20, .decisions = 10,
-                                   .topups = 15, .closes = 5, .ticks = 10};
+                                   .topups = 15, .closes = 5, .ticks = 10, .passes = 100};
 /* The same but for the events that read the journal by their rule: a tick, and a decision that upholds. */
 static const struct mix searching = {.payments = 330, .returns = 10, .disputes = 20, .topups = 15,
                                      .closes = 5};
@@ -112,6 +115,7 @@ static void ask_debtor(const struct library *library, const event *e)
 }
 
 static size_t batch_events; /* how many the timed batch has */
+static long batch_passed;   /* of them tolls that are passed on */
 
 static void post_batch(const struct library *library, const event *e)
 {
@@ -181,10 +185,24 @@ static void fill_book(struct host *host, size_t rows, size_t used)
     }
 }
 
+/* Each closed account has the next one after it that is open or pending as its successor. */
+static void name_successors(void)
+{
+    const struct book b = book_of(book);
+    for (int64_t n = 1; n <= ACCOUNTS; n++) {
+        int64_t next = n % ACCOUNTS + 1;
+        while (next != n && !is_live(&b, next))
+            next = next % ACCOUNTS + 1;
+        const event e = {.kind = TOLL_LEDGER_EVENT_SUCCESSOR, .account = n, .a = next};
+        must(post_to_book(&e) == TOLL_LEDGER_POSTED || b.accounts[n - 1].state != TOLL_LEDGER_STATE_CLOSED,
+             "a successor is named");
+    }
+}
+
 static void print_book(void)
 {
     const struct book b = book_of(book);
-    long kinds[TOLL_LEDGER_KIND_REFUND + 1] = {0}, settled = 0, held = 0;
+    long kinds[TOLL_LEDGER_KIND_REFUND + 1] = {0}, settled = 0, held = 0, closed = 0;
     for (size_t i = 0; i < rows_used(&b); i++) {
         kinds[b.rows[i].kind]++;
         settled += b.rows[i].kind == TOLL_LEDGER_KIND_TOLL && left_of(&b.rows[i]) == 0;
@@ -196,17 +214,20 @@ static void print_book(void)
            kinds[TOLL_LEDGER_KIND_FEE], kinds[TOLL_LEDGER_KIND_REVERSAL],
            kinds[TOLL_LEDGER_KIND_PAYMENT], kinds[TOLL_LEDGER_KIND_CREDIT],
            kinds[TOLL_LEDGER_KIND_REFUND], (long)b.header->day);
+    for (size_t i = 0; i < b.count; i++)
+        closed += b.accounts[i].state == TOLL_LEDGER_STATE_CLOSED;
     copy_tables(&lent, book);
     const struct book next = book_of(&lent);
     const struct answer a = tick(&next);
-    printf("    its tick raises %ld tolls and adds %ld rows\n", (long)a.raised, (long)a.new_rows);
+    printf("    its tick raises %ld tolls and adds %ld rows; %ld accounts are closed and have successors\n",
+           (long)a.raised, (long)a.new_rows, closed);
 }
 
-static int64_t drawn_account(struct host *host)
+static int64_t drawn_account(struct host *host, bool closed)
 {
     const struct book b = book_of(book);
     int64_t n = draw(host, 1, ACCOUNTS);
-    while (b.accounts[n - 1].state == TOLL_LEDGER_STATE_CLOSED)
+    while ((b.accounts[n - 1].state == TOLL_LEDGER_STATE_CLOSED) != closed)
         n = draw(host, 1, ACCOUNTS);
     return n;
 }
@@ -214,10 +235,10 @@ static int64_t drawn_account(struct host *host)
 /* An event of one case: a payment, a toll or a tick. A question takes the account alone. */
 static event timed_event(struct host *host, const struct book *b, int64_t kind)
 {
-    const int64_t account = drawn_account(host);
+    const int64_t account = drawn_account(host, kind == PASSED_ON);
     if (kind == TOLL_LEDGER_EVENT_TICK)
         return (event){.kind = kind};
-    if (kind == TOLL_LEDGER_EVENT_TOLL)
+    if (kind == TOLL_LEDGER_EVENT_TOLL || kind == PASSED_ON)
         return toll_for(host, b, account);
     event e = payment_for(host, b, account);
     e.b = TOLL_LEDGER_METHOD_CARD; /* never barred */
@@ -253,13 +274,14 @@ static void print_pair(const char *name, size_t rows, struct pair p)
 static const struct {
     const char *name;
     work *task;
-    int64_t kind; /* of the events drawn, or HEAVY, which changes the book and comes last */
+    int64_t kind; /* of the events drawn; HEAVY changes the book and comes last */
 } calls[CALLS] = {{"payment", post_drawn, TOLL_LEDGER_EVENT_PAYMENT},
                   {"toll", post_drawn, TOLL_LEDGER_EVENT_TOLL},
                   {"tick", post_drawn, TOLL_LEDGER_EVENT_TICK},
                   {"balance", ask_balance, TOLL_LEDGER_EVENT_PAYMENT},
                   {"top-up due", ask_topup_due, TOLL_LEDGER_EVENT_PAYMENT},
                   {"debtor", ask_debtor, TOLL_LEDGER_EVENT_PAYMENT},
+                  {"toll passed on", post_drawn, PASSED_ON},
                   {"debtor, heavy by an early row", ask_debtor, HEAVY}};
 
 static void measure_calls(struct pair medians[CALLS][SIZES])
@@ -269,6 +291,7 @@ static void measure_calls(struct pair medians[CALLS][SIZES])
         hosts[s] = (struct host){.state = 1 + s, .mix = filling};
         book = &books[s];
         fill_book(&hosts[s], sizes[s], sizes[s] - sizes[s] / 16);
+        name_successors();
         print_book();
     }
     for (size_t c = 0; c < CALLS; c++) {
@@ -298,21 +321,25 @@ static void draw_batch(struct host *host, size_t first, size_t count)
 {
     copy_tables(&lent, book);
     const struct book b = book_of(&lent);
+    batch_passed = 0;
     for (size_t i = 0; i < count; i++) {
         events[i] = i < first ? opening_of(host, (int64_t)i + 1) : next_event(host, &b);
-        post(&b, &events[i]);
+        const struct answer a = post(&b, &events[i]);
+        batch_passed += a.first_row > 0 && events[i].kind == TOLL_LEDGER_EVENT_TOLL &&
+                        b.rows[a.first_row - 1].account != events[i].account;
     }
     batch_events = count;
 }
 
 static void print_batch_events(void)
 {
-    long kinds[TOLL_LEDGER_EVENT_TICK + 1] = {0};
+    long kinds[TOLL_LEDGER_EVENT_SUCCESSOR + 1] = {0};
     for (size_t i = 0; i < batch_events; i++)
         kinds[events[i].kind]++;
     printf("\nThe batch of %zu, by kind:", batch_events);
-    for (int kind = TOLL_LEDGER_EVENT_OPEN; kind <= TOLL_LEDGER_EVENT_TICK; kind++)
+    for (int kind = TOLL_LEDGER_EVENT_OPEN; kind <= TOLL_LEDGER_EVENT_SUCCESSOR; kind++)
         printf(" %ld", kinds[kind]);
+    printf("; tolls passed on: %ld", batch_passed);
     printf("\n%-34s %6s %10s %10s %8s\n", "batch, us", "rows", "ours", "plain C", "ratio");
 }
 

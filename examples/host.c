@@ -5,8 +5,8 @@
  *
  * Loads the book saved in BOOK, or opens a fresh one where there is no such file, with the days of the
  * file HOLIDAYS, one a line; posts the events of the file EVENTS, one a line as
- * kind,account,a,b,c,d,e,f,g; prints what was refused and a statement of every account; saves the
- * book. Ends with 0, or with 1 and nothing saved where something is wrong.
+ * kind,account,a,b,c,d,e,f,g; prints what was refused or passed on and a statement of every account;
+ * saves the book. Ends with 0, or with 1 and nothing saved where something is wrong.
  */
 #include <errno.h>
 #include <inttypes.h>
@@ -41,7 +41,7 @@ struct book {
 static const char *const number_names[] = {
     "posted",    "unsound", "malformed", "unknown",  "taken",    "closed", "unclassed", "misdated",
     "duplicate", "barred",  "no row",    "untimely", "last day", "full",   "ceiling",   "list",
-    "reserve",   "holidays"};
+    "reserve",   "holidays", "successor"};
 
 static _Noreturn void fail(const char *what, const char *why)
 {
@@ -193,7 +193,16 @@ static struct toll_ledger_event_record *read_events(const char *path, size_t *co
     return events;
 }
 
-/* Posts events in batches of the most that one call takes, and prints the refused ones. */
+/* Whether it is a toll that was passed on: its row then carries another number than the event. */
+static int is_passed_on(const struct book *b, const struct toll_ledger_event_record *event, const int64_t *answer, int64_t *to)
+{
+    if (event->kind != TOLL_LEDGER_EVENT_TOLL)
+        return 0;
+    *to = b->journal[(answer[TOLL_LEDGER_ANSWER_FIRST_ROW] - 1) * TOLL_LEDGER_ROW_WORDS + TOLL_LEDGER_ROW_ACCOUNT];
+    return *to != event->account;
+}
+
+/* Posts events in batches of the most that one call takes, and prints what was refused or passed on. */
 static void post(struct book *b, const struct toll_ledger_event_record *events, size_t count)
 {
     static int64_t answers[TOLL_LEDGER_MOST_EVENTS * TOLL_LEDGER_ANSWER_WORDS];
@@ -204,11 +213,13 @@ static void post(struct book *b, const struct toll_ledger_event_record *events, 
         if (ran != TOLL_LEDGER_POSTED)
             fail("batch", number_names[ran]);
         for (size_t i = 0; i < part; i++) {
-            const int64_t number = answers[i * TOLL_LEDGER_ANSWER_WORDS + TOLL_LEDGER_ANSWER_NUMBER];
-            if (number == TOLL_LEDGER_POSTED)
-                posted++;
-            else
+            const int64_t *answer = answers + i * TOLL_LEDGER_ANSWER_WORDS, number = answer[TOLL_LEDGER_ANSWER_NUMBER];
+            int64_t to;
+            if (number != TOLL_LEDGER_POSTED)
                 printf("event %zu refused: %s\n", done + i + 1, number_names[number]);
+            else if (is_passed_on(b, &events[done + i], answer, &to))
+                printf("event %zu passed on to account %" PRId64 "\n", done + i + 1, to);
+            posted += number == TOLL_LEDGER_POSTED;
         }
         done += part;
     }
@@ -254,6 +265,15 @@ static const char *heavy_text(int64_t heavy, int64_t rows_read)
     return text;
 }
 
+static const char *successor_text(const int64_t *account)
+{
+    static char text[32];
+    if (account[TOLL_LEDGER_ACCOUNT_SUCCESSOR] == 0)
+        return "";
+    snprintf(text, sizeof text, ", successor %" PRId64, account[TOLL_LEDGER_ACCOUNT_SUCCESSOR]);
+    return text;
+}
+
 static void print_statement(const struct book *b)
 {
     static const char *const states[] = {"unused", "open", "pending", "closed"};
@@ -267,8 +287,8 @@ static void print_statement(const struct book *b)
             toll_ledger_topup_due(TABLES(b), n, &due) != TOLL_LEDGER_POSTED ||
             toll_ledger_debtor(TABLES(b), n, &heavy, &rows_read) != TOLL_LEDGER_POSTED)
             continue; /* unused */
-        printf("account %" PRId64 ", %s, balance %s%s%s\n", n, states[account[TOLL_LEDGER_ACCOUNT_STATE]],
-               dollars(balance), heavy_text(heavy, rows_read), due_text(account, due));
+        printf("account %" PRId64 ", %s, balance %s%s%s%s\n", n, states[account[TOLL_LEDGER_ACCOUNT_STATE]],
+               dollars(balance), heavy_text(heavy, rows_read), due_text(account, due), successor_text(account));
         for (int64_t r = 1; r <= used; r++) {
             const int64_t *row = b->journal + (r - 1) * TOLL_LEDGER_ROW_WORDS;
             if (row[TOLL_LEDGER_ROW_ACCOUNT] == n)

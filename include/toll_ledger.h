@@ -30,8 +30,8 @@
 
 /* The version of this interface: the first number rises where a host must change or its stored
  * books no longer fit, the second where something is added, the third where neither is. */
-#define TOLL_LEDGER_VERSION_MAJOR 4
-#define TOLL_LEDGER_VERSION_MINOR 1
+#define TOLL_LEDGER_VERSION_MAJOR 5
+#define TOLL_LEDGER_VERSION_MINOR 0
 #define TOLL_LEDGER_VERSION_PATCH 0
 
 /* For compilers that can warn: a call's number must not be ignored, and no pointer may be null. */
@@ -45,12 +45,12 @@
 extern "C" {
 #endif
 
-/* Sizes. A header has exactly 62 words; accounts are 1 to 256 of 8 words each, numbered from 1; a
+/* Sizes. A header has exactly 62 words; accounts are 1 to 256 of 9 words each, numbered from 1; a
  * journal is 1 to 8,192 rows of 10 words each, numbered from 1. How many accounts and rows a book
  * has room for is the host's choice at opening, told by the tables' lengths. Holidays are 0 to 400
  * words, a day each. */
 #define TOLL_LEDGER_HEADER_WORDS 62
-#define TOLL_LEDGER_ACCOUNT_WORDS 8
+#define TOLL_LEDGER_ACCOUNT_WORDS 9
 #define TOLL_LEDGER_ROW_WORDS 10
 #define TOLL_LEDGER_MOST_ACCOUNTS 256
 #define TOLL_LEDGER_MOST_ROWS 8192
@@ -80,7 +80,10 @@ enum toll_ledger_number {
                                    on the new one's first day or later */
     TOLL_LEDGER_UNKNOWN = 3,    /* the account is unused, or not from 1 to the table's count */
     TOLL_LEDGER_TAKEN = 4,      /* event 1: the account is used */
-    TOLL_LEDGER_CLOSED = 5,     /* events 2, 3, 7, 8, 11: the account is closed */
+    TOLL_LEDGER_CLOSED = 5,     /* events 2, 3, 7, 8, 11: the account is closed, and for event 2 has
+                                   no successor that is open or pending */
+    TOLL_LEDGER_SUCCESSOR = 18, /* event 12: the account isn't closed, or the successor is itself,
+                                   unused or not from 1 to the table's count */
     TOLL_LEDGER_UNCLASSED = 6,  /* event 2: one axle above 90 inches */
     TOLL_LEDGER_MISDATED = 7,   /* event 2: a passage after today or over 60 days back */
     TOLL_LEDGER_DUPLICATE = 8,  /* event 2: the passage number stands in the journal */
@@ -121,7 +124,7 @@ enum toll_ledger_list_word {
     TOLL_LEDGER_LIST_RATES = 1      /* here begin its six rates, in the order of the first list's */
 };
 
-/* The words of an account: account n has the words from 8 * (n - 1) on. */
+/* The words of an account: account n has the words from 9 * (n - 1) on. */
 enum toll_ledger_account_word {
     TOLL_LEDGER_ACCOUNT_STATE = 0,         /* enum toll_ledger_state */
     TOLL_LEDGER_ACCOUNT_REQUEST_DAY = 1,   /* of its close request, 0 without one */
@@ -130,7 +133,8 @@ enum toll_ledger_account_word {
     TOLL_LEDGER_ACCOUNT_TOPUP = 4,         /* top-up amount, 0: no top-up */
     TOLL_LEDGER_ACCOUNT_DECLINES = 5,      /* in a row: 0 to 2 */
     TOLL_LEDGER_ACCOUNT_LAST_DECLINE = 6,  /* its day, 0 without one */
-    TOLL_LEDGER_ACCOUNT_RESERVE = 7        /* 1: a reserve card; only beside a top-up, else 0 */
+    TOLL_LEDGER_ACCOUNT_RESERVE = 7,       /* 1: a reserve card; only beside a top-up, else 0 */
+    TOLL_LEDGER_ACCOUNT_SUCCESSOR = 8      /* the account that tolls after closing go to, 0: none */
 };
 
 enum toll_ledger_state {
@@ -184,8 +188,8 @@ enum toll_ledger_dispute {
  * Events: nine words each, kind, account, a, b, c, d, e, f, g. Words that a kind doesn't name are
  * 0. Every accepted event ends with settlement: unused sources of an account, in row order, pay its
  * unsettled tolls that aren't held, in row order, then its unsettled fees and reversals that aren't
- * held, together in row order. What is settled stays so. An event but the tick changes its own
- * account alone, a rate list none.
+ * held, together in row order. What is settled stays so. An event but the tick touches the account
+ * that it names alone; a toll that is passed on touches the successor alone, a rate list none.
  */
 enum toll_ledger_event_kind {
     /* a threshold, b top-up amount: 0 to 1,000,000 each, a 0 if b is. Opens an unused account. */
@@ -194,7 +198,9 @@ enum toll_ledger_event_kind {
      * to 999 inches, e mode. Adds a toll at the rate of its class and mode, due in L days. Class 1:
      * up to 2 axles, at most 90 inches; 2: 2 axles above 90, 3 and 4 axles; 3: 5 axles or more. The
      * rate is that of the list in force on the passage day: the last one that begins on that day or
-     * earlier, and the first list where none does. */
+     * earlier, and the first list where none does. For a closed account whose successor is open or
+     * pending the toll is the successor's: its row carries the successor's number, and its money
+     * settles it. A successor's successor isn't asked. */
     TOLL_LEDGER_EVENT_TOLL = 2,
     /* a amount 1 to 1,000,000, b method: card, cash or check. Adds a payment. */
     TOLL_LEDGER_EVENT_PAYMENT = 3,
@@ -225,7 +231,12 @@ enum toll_ledger_event_kind {
     TOLL_LEDGER_EVENT_RATE_LIST = 10,
     /* a 1 adds a reserve card beside the primary, the top-up's own; 0 removes it. Event 7 tells
      * when it is asked: one added after the second decline is asked next. */
-    TOLL_LEDGER_EVENT_RESERVE = 11
+    TOLL_LEDGER_EVENT_RESERVE = 11,
+    /* a successor, another used account in any state. The account is closed; from now on tolls for
+     * it post on the successor while that is open or pending (event 2). It replaces an earlier
+     * successor. Where a returned check makes the account pending again, it keeps its successor and
+     * takes its own tolls until it is closed once more. */
+    TOLL_LEDGER_EVENT_SUCCESSOR = 12
 };
 
 /* Business days are all days but Saturdays, Sundays and the book's holidays. Day 1 is a Saturday.
@@ -271,19 +282,20 @@ enum toll_ledger_answer_word {
  * 36,525. The rate lists in use come first, each with rates in 1 to 1,000,000 and a first day in 1
  * to 36,525 that is after the list before it begins; unused lists are all 0. The first "rows used"
  * rows have kinds 1 to 6; later rows and unused accounts are all 0. The request day is 0 in state
- * open, in pending and closed from 1 to today; returned checks are the account's payments with
- * mark 4; threshold and top-up amount lie in 0 to 1,000,000, declines in 0 to 2, last decline in 0
- * to today, the reserve is 0 or 1, declines and last decline are 0 together, all five 0 where the
- * amount is. Rows name used accounts, days 1 to today, and references of the right kind in an
- * earlier row of the same account. Amounts are at least 1 and at most 1,000,000 (toll, reversal,
- * payment), 100,000 (fee), 1,300,000 (credit), 10,649,600,000 (refund); settled is 0 to amount, a
- * refund's all of it. Passage numbers differ. A toll of stage k is named by at most k - 1 fees
- * (none at 0). An unsettled toll under stage 4 that isn't held is due after today and by today +
- * L, other tolls from 1 to today + L. Hold start is 0 but for a held toll, then from today - 29 to
- * today and at least 1, the toll unsettled, due by hold start + L and, under stage 4, after hold
- * start. Per account, used sources = settled debits, no unused source stands beside an unsettled
- * debit that isn't held, and a closed account has nothing unused or unsettled. Holidays are at most
- * 400, days 1 to 36,525, each after the one before it.
+ * open, in pending and closed from 1 to today; returned checks are the account's payments with mark
+ * 4; threshold and top-up amount lie in 0 to 1,000,000, declines in 0 to 2, last decline in 0 to
+ * today, the reserve is 0 or 1, declines and last decline are 0 together, all five 0 where the
+ * amount is; the successor is 0 or another used account. Rows name used accounts, days 1 to today,
+ * and references of the right kind in an earlier row of the same account. Amounts are at least 1
+ * and at most 1,000,000 (toll, reversal, payment), 100,000 (fee), 1,300,000 (credit),
+ * 10,649,600,000 (refund); settled is 0 to amount, a refund's all of it. Passage numbers differ. A
+ * toll of stage k is named by at most k - 1 fees (none at 0). An unsettled toll under stage 4 that
+ * isn't held is due after today and by today + L, other tolls from 1 to today + L. Hold start is 0
+ * but for a held toll, then from today - 29 to today and at least 1, the toll unsettled, due by
+ * hold start + L and, under stage 4, after hold start. Per account, used sources = settled debits,
+ * no unused source stands beside an unsettled debit that isn't held, and a closed account has
+ * nothing unused or unsettled. Holidays are at most 400, days 1 to 36,525, each after the one
+ * before it.
  *
  * Opening makes a sound book, and every call leaves a sound book sound. So a host meets "unsound"
  * only where something else wrote the tables, or where their lengths changed. With other holidays

@@ -94,7 +94,8 @@ static void taken(struct book *b)
     CHECK(post(b, TOLL_LEDGER_EVENT_OPEN, 7, 0, 0) == TOLL_LEDGER_TAKEN);
 }
 
-/* 5 closed: 15 days after its close request is day 16, a Sunday; from Monday on the account is closed. */
+/* 5 closed: 15 days after its close request is day 16, a Sunday; from Monday on the account is closed,
+ * and has no successor that takes its tolls. */
 static void closed(struct book *b)
 {
     CHECK(post(b, TOLL_LEDGER_EVENT_OPEN, 7, 0, 0) == TOLL_LEDGER_POSTED);
@@ -104,6 +105,25 @@ static void closed(struct book *b)
     ticks(b, 1);
     CHECK(post(b, TOLL_LEDGER_EVENT_PAYMENT, 7, 500, 2) == TOLL_LEDGER_CLOSED);
     CHECK(post(b, TOLL_LEDGER_EVENT_RESERVE, 7, 1) == TOLL_LEDGER_CLOSED);
+    CHECK(post(b, TOLL_LEDGER_EVENT_TOLL, 7, 41, 17, 2, 60, 2) == TOLL_LEDGER_CLOSED);
+}
+
+/* 18 successor: account 7 is open, then pending. Once it is closed, its successor is neither itself nor
+ * account 9, which is unused, nor 65 or 0, which the table hasn't. Account 8 it may be. */
+static void successor(struct book *b)
+{
+    CHECK(post(b, TOLL_LEDGER_EVENT_OPEN, 7, 0, 0) == TOLL_LEDGER_POSTED);
+    CHECK(post(b, TOLL_LEDGER_EVENT_OPEN, 8, 0, 0) == TOLL_LEDGER_POSTED);
+    CHECK(post(b, TOLL_LEDGER_EVENT_SUCCESSOR, 7, 8) == TOLL_LEDGER_SUCCESSOR);
+    CHECK(post(b, TOLL_LEDGER_EVENT_CLOSE_REQUEST, 7) == TOLL_LEDGER_POSTED);
+    CHECK(post(b, TOLL_LEDGER_EVENT_SUCCESSOR, 7, 8) == TOLL_LEDGER_SUCCESSOR);
+    ticks(b, 16);
+    CHECK(post(b, TOLL_LEDGER_EVENT_SUCCESSOR, 7, 7) == TOLL_LEDGER_SUCCESSOR);
+    CHECK(post(b, TOLL_LEDGER_EVENT_SUCCESSOR, 7, 9) == TOLL_LEDGER_SUCCESSOR);
+    CHECK(post(b, TOLL_LEDGER_EVENT_SUCCESSOR, 7, 65) == TOLL_LEDGER_SUCCESSOR);
+    CHECK(post(b, TOLL_LEDGER_EVENT_SUCCESSOR, 7, 0) == TOLL_LEDGER_SUCCESSOR);
+    CHECK(post(b, TOLL_LEDGER_EVENT_SUCCESSOR, 7, 8) == TOLL_LEDGER_POSTED);
+    CHECK(account_of(b, 7)[TOLL_LEDGER_ACCOUNT_SUCCESSOR] == 8);
 }
 
 /* 6 unclassed: one axle above 90 inches. */
@@ -355,6 +375,73 @@ static void business_days(struct book *b)
 }
 /* examples: end */
 
+/* examples: begin, of successors */
+/* Whose the toll in a row is. */
+static int64_t debtor_of(struct book *b, int64_t row)
+{
+    CHECK(row_of(b, row)[TOLL_LEDGER_ROW_KIND] == TOLL_LEDGER_KIND_TOLL);
+    return row_of(b, row)[TOLL_LEDGER_ROW_ACCOUNT];
+}
+
+/* Account 7, closed on day 17, has account 8 as its successor: the toll for 7 in row 4 is of 8, and paid
+ * from its money. A check of 7 that comes back makes 7 pending: it keeps its successor and takes the toll
+ * in row 7 itself. With all paid it closes again, and row 9 is of 8. Account 8 closes too, and 9 is its
+ * successor: a toll for 7 is refused, as 8 doesn't take it, until 9 is named for 7 as well. */
+static void passed_on(struct book *b)
+{
+    for (int64_t n = 7; n <= 9; n++)
+        CHECK(post(b, TOLL_LEDGER_EVENT_OPEN, n, 0, 0) == TOLL_LEDGER_POSTED);
+    CHECK(post(b, TOLL_LEDGER_EVENT_PAYMENT, 7, 700, 3) == TOLL_LEDGER_POSTED);
+    CHECK(post(b, TOLL_LEDGER_EVENT_CLOSE_REQUEST, 7) == TOLL_LEDGER_POSTED);
+    ticks(b, 16); /* row 2 refunds the 700 */
+    CHECK(post(b, TOLL_LEDGER_EVENT_SUCCESSOR, 7, 8) == TOLL_LEDGER_POSTED);
+    CHECK(post(b, TOLL_LEDGER_EVENT_PAYMENT, 8, 800, 1) == TOLL_LEDGER_POSTED); /* row 3 */
+    CHECK(post(b, TOLL_LEDGER_EVENT_TOLL, 7, 41, 17, 2, 60, 2) == TOLL_LEDGER_POSTED);
+    CHECK(b->answer[TOLL_LEDGER_ANSWER_FIRST_ROW] == 4 && debtor_of(b, 4) == 8);
+    CHECK(row_of(b, 4)[TOLL_LEDGER_ROW_SETTLED] == 500 && balance(b, 8) == 300 && balance(b, 7) == 0);
+    CHECK(post(b, TOLL_LEDGER_EVENT_RETURNED_CHECK, 7, 1, 0) == TOLL_LEDGER_POSTED); /* rows 5 and 6 */
+    CHECK(post(b, TOLL_LEDGER_EVENT_TOLL, 7, 42, 17, 2, 60, 2) == TOLL_LEDGER_POSTED);
+    CHECK(debtor_of(b, 7) == 7 && account_of(b, 7)[TOLL_LEDGER_ACCOUNT_SUCCESSOR] == 8);
+    CHECK(post(b, TOLL_LEDGER_EVENT_PAYMENT, 7, 1700, 2) == TOLL_LEDGER_POSTED); /* row 8 */
+    ticks(b, 1);
+    CHECK(post(b, TOLL_LEDGER_EVENT_TOLL, 7, 43, 18, 1, 60, 1) == TOLL_LEDGER_POSTED);
+    CHECK(debtor_of(b, 9) == 8 && balance(b, 8) == 50);
+    CHECK(post(b, TOLL_LEDGER_EVENT_CLOSE_REQUEST, 8) == TOLL_LEDGER_POSTED);
+    ticks(b, 15); /* row 10 refunds the 50 */
+    CHECK(post(b, TOLL_LEDGER_EVENT_SUCCESSOR, 8, 9) == TOLL_LEDGER_POSTED);
+    CHECK(post(b, TOLL_LEDGER_EVENT_TOLL, 7, 44, 18, 2, 60, 2) == TOLL_LEDGER_CLOSED);
+    CHECK(post(b, TOLL_LEDGER_EVENT_SUCCESSOR, 7, 9) == TOLL_LEDGER_POSTED);
+    CHECK(post(b, TOLL_LEDGER_EVENT_TOLL, 7, 44, 18, 2, 60, 2) == TOLL_LEDGER_POSTED);
+    CHECK(debtor_of(b, 11) == 9);
+}
+/* examples: end */
+
+/* examples: begin, of older books */
+/* Puts accounts of `width` words each into b's table: the old words first, then 0 for the new ones. */
+static void widen(struct book *b, const int64_t *old, size_t width)
+{
+    for (size_t n = 0; n < b->accounts_words / TOLL_LEDGER_ACCOUNT_WORDS; n++)
+        for (size_t word = 0; word < TOLL_LEDGER_ACCOUNT_WORDS; word++)
+            b->accounts[TOLL_LEDGER_ACCOUNT_WORDS * n + word] = word < width ? old[width * n + word] : 0;
+}
+
+/* The three accounts of a book as 4.1.0 left them: 1 has a top-up that was declined once, and a reserve,
+ * 2 is pending, 3 unused. Widened they are those of the same events by this version. */
+static void older_book(struct book *b)
+{
+    const int64_t old[3 * 8] = {1, 0, 0, 100, 2000, 1, 1, 1, 2, 1, 0, 0, 0, 0, 0, 0};
+    CHECK(post(b, TOLL_LEDGER_EVENT_OPEN, 1, 100, 2000) == TOLL_LEDGER_POSTED);
+    CHECK(post(b, TOLL_LEDGER_EVENT_TOPUP_RESULT, 1, 0, 0) == TOLL_LEDGER_POSTED);
+    CHECK(post(b, TOLL_LEDGER_EVENT_RESERVE, 1, 1) == TOLL_LEDGER_POSTED);
+    CHECK(post(b, TOLL_LEDGER_EVENT_OPEN, 2, 0, 0) == TOLL_LEDGER_POSTED);
+    CHECK(post(b, TOLL_LEDGER_EVENT_CLOSE_REQUEST, 2) == TOLL_LEDGER_POSTED);
+    int64_t *words = copy_words(b);
+    widen(b, old, 8);
+    CHECK(same_words(b, words) && sound(b) == TOLL_LEDGER_POSTED);
+    free(words);
+}
+/* examples: end */
+
 /* As near to 14 as a book comes: a journal of credits for one settled toll, and a single free row. */
 static void largest_refund(struct book *b)
 {
@@ -492,6 +579,7 @@ int main(void)
         {rates_ahead, 64, 512, 1}, {held_topup, 64, 512, 1}, {reserve, 64, 512, 1},
         {reserve_life, 64, 512, 1}, {tolls_first, 64, 512, 1},
         {holidays, 64, 512, 1}, {business_days, 64, 512, 1}, {heavy_debtors, 64, 512, 1},
+        {successor, 64, 512, 1}, {passed_on, 64, 512, 1}, {older_book, 3, 8, 1},
     };
     for (size_t i = 0; i < sizeof examples / sizeof examples[0]; i++) {
         struct book b = open_book(examples[i].accounts, examples[i].rows, examples[i].first_day);

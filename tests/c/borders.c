@@ -1,6 +1,6 @@
 /* The borders of the calls: lengths of every kind, words of every size, rate lists, holidays,
- * reserves, the order of payment, heavy debtors, answer tables, batches, and full books. Every table
- * stands in a place of exactly its size. */
+ * reserves, the order of payment, heavy debtors, successors, answer tables, batches, and full books.
+ * Every table stands in a place of exactly its size. */
 #include "book.h"
 
 #include <string.h>
@@ -46,7 +46,7 @@ static int64_t batch(struct book *book, const struct toll_ledger_event_record *e
 }
 
 /* A book with a row of every kind, every state of an account, a held toll with a fee, rate lists
- * begun and to begin, and holidays gone by and to come. */
+ * begun and to begin, holidays gone by and to come, and a successor. */
 static struct book varied_book(void)
 {
     static const int64_t days[] = {1, 17, 18, 62, 400, 36525};
@@ -71,6 +71,7 @@ static struct book varied_book(void)
     CHECK(add_list(&b, 50, 300) == 0 && add_list(&b, 61, 400) == 0 && add_list(&b, 500, 600) == 0);
     CHECK(b.header[TOLL_LEDGER_HEADER_ROWS_USED] == 10);
     CHECK(account_of(&b, 3)[0] == 3 && account_of(&b, 4)[0] == 2 && account_of(&b, 5)[0] == 0);
+    CHECK(post(&b, TOLL_LEDGER_EVENT_SUCCESSOR, 3, 1) == 0);
     return b;
 }
 
@@ -88,15 +89,15 @@ static void all_refuse_as_unsound(struct book *b)
 
 static int fits(size_t header, size_t accounts, size_t journal)
 {
-    return header == 62 && accounts % 8 == 0 && accounts >= 8 && accounts <= 256 * 8 &&
+    return header == 62 && accounts % 9 == 0 && accounts >= 9 && accounts <= 256 * 9 &&
            journal % 10 == 0 && journal >= 10 && journal <= 8192 * 10;
 }
 
 static void lengths_of_tables(void)
 {
     const size_t headers[] = {0, 1, 12, 13, 61, 62, 63, 69, 124};
-    const size_t accounts[] = {0, 1, 7, 8, 9, 14, 15, 16, 24,
-                               256 * 8 - 1, 256 * 8, 256 * 8 + 1, 257 * 8};
+    const size_t accounts[] = {0, 1, 7, 8, 9, 10, 16, 17, 18, 27,
+                               256 * 8, 256 * 9 - 1, 256 * 9, 256 * 9 + 1, 257 * 9};
     const size_t journals[] = {0, 1, 9, 10, 11, 19, 20, 30, 8192 * 10 - 1, 8192 * 10, 8192 * 10 + 1, 8193 * 10};
     for (size_t h = 0; h < sizeof headers / sizeof headers[0]; h++)
         for (size_t a = 0; a < sizeof accounts / sizeof accounts[0]; a++)
@@ -147,7 +148,7 @@ static void lengths_of_a_sound_book(void)
             memcpy(b.accounts, whole.accounts, (which == 1 && more < 12 ? *words : whole.accounts_words) * sizeof(int64_t));
             memcpy(b.journal, whole.journal, (which == 2 && more < 12 ? *words : whole.journal_words) * sizeof(int64_t));
             /* whole records more, and unused ones less, leave a sound book */
-            const int keeps = which == 1 ? more == 4 || more == 12 || more == 20
+            const int keeps = which == 1 ? more == 3 || more == 12 || more == 21
                                          : which == 2 ? more == 2 || more == 12 || more == 22 : more == 12;
             if (keeps)
                 CHECK(sound(&b) == TOLL_LEDGER_POSTED);
@@ -158,21 +159,23 @@ static void lengths_of_a_sound_book(void)
     free_book(&whole);
 }
 
-/* Accounts of seven words, as books of older versions have them: five have no length of this one,
- * eight have that of seven here, but no such words. */
-static void older_accounts(void)
+/* Accounts of eight words, or of seven, as books of older versions have them. Five have no length of
+ * this one; nine have that of as many accounts here as each had words, and are sound where few are used. */
+static void older_accounts(size_t width)
 {
     struct book whole = varied_book(), b = whole;
-    b.accounts_words = 5 * 7;
+    b.accounts_words = 5 * width;
     b.accounts = new_table(b.accounts_words);
-    for (int n = 0; n < 5; n++)
-        memcpy(b.accounts + 7 * n, account_of(&whole, n + 1), 7 * sizeof(int64_t));
+    for (size_t n = 0; n < 5; n++)
+        memcpy(b.accounts + width * n, account_of(&whole, (int64_t)n + 1), width * sizeof(int64_t));
     all_refuse_as_unsound(&b);
     free_table(b.accounts, b.accounts_words);
     free_book(&whole);
-    b = open_book(7, 3, 1);
-    for (int n = 0; n < 8; n++)
-        b.accounts[7 * n + TOLL_LEDGER_ACCOUNT_STATE] = TOLL_LEDGER_STATE_OPEN;
+    b = open_book(width, 3, 1);
+    b.accounts[TOLL_LEDGER_ACCOUNT_STATE] = TOLL_LEDGER_STATE_OPEN;
+    CHECK(b.accounts_words == 9 * width && sound(&b) == TOLL_LEDGER_POSTED);
+    for (size_t n = 1; n < 9; n++)
+        b.accounts[width * n + TOLL_LEDGER_ACCOUNT_STATE] = TOLL_LEDGER_STATE_OPEN;
     all_refuse_as_unsound(&b);
     free_book(&b);
 }
@@ -184,11 +187,11 @@ static void lengths_of_schedules(void)
         int64_t *before = copy_words(&b), *schedule = new_table(words);
         for (size_t i = 0; i < words; i++)
             schedule[i] = i < 11 ? example_schedule[i] : 1;
-        const int64_t number = toll_ledger_open(b.header, 62, b.accounts, 16, b.journal, 30, b.holidays, 0, schedule, words);
+        const int64_t number = toll_ledger_open(b.header, 62, b.accounts, 18, b.journal, 30, b.holidays, 0, schedule, words);
         CHECK(number == (words == 11 ? TOLL_LEDGER_POSTED : TOLL_LEDGER_MALFORMED));
         if (number != 0)
             CHECK(same_words(&b, before));
-        CHECK(toll_ledger_open(b.header, 61, b.accounts, 16, b.journal, 30, b.holidays, 0, schedule, words) == TOLL_LEDGER_UNSOUND);
+        CHECK(toll_ledger_open(b.header, 61, b.accounts, 18, b.journal, 30, b.holidays, 0, schedule, words) == TOLL_LEDGER_UNSOUND);
         free_table(schedule, words);
         free(before);
         free_book(&b);
@@ -208,7 +211,7 @@ static void ranges_of_schedules(void)
             int64_t schedule[11], *before = copy_words(&b);
             memcpy(schedule, example_schedule, sizeof schedule);
             schedule[word] = values[v];
-            const int64_t number = toll_ledger_open(b.header, 62, b.accounts, 16, b.journal, 30, b.holidays, 0, schedule, 11);
+            const int64_t number = toll_ledger_open(b.header, 62, b.accounts, 18, b.journal, 30, b.holidays, 0, schedule, 11);
             CHECK(number == (v < 2 ? TOLL_LEDGER_POSTED : TOLL_LEDGER_MALFORMED));
             if (v < 2) {
                 CHECK(b.header[0] == schedule[0] && b.header[1] == 0);
@@ -241,7 +244,7 @@ static void lengths_of_events_and_answers(void)
                     e[i] = i < 2; /* opens account 1 */
                 const int64_t want = damaged ? TOLL_LEDGER_UNSOUND
                                      : words == 9 && room >= 5 ? TOLL_LEDGER_POSTED : TOLL_LEDGER_MALFORMED;
-                CHECK(toll_ledger_event(b.header, 62, b.accounts, 16, b.journal, 30, b.holidays, 0, e, words, answer, room) == want);
+                CHECK(toll_ledger_event(b.header, 62, b.accounts, 18, b.journal, 30, b.holidays, 0, e, words, answer, room) == want);
                 CHECK(want == TOLL_LEDGER_POSTED || same_words(&b, before));
                 for (size_t i = 0; i < room; i++)
                     CHECK(answer[i] == (room < 5 || i >= 5 ? -77 : i == 0 ? want : 0));
@@ -270,12 +273,13 @@ static void wild_words_in_tables(void)
     free_book(&b);
 }
 
-/* A negative or huge word in an event is malformed, an account that isn't there, or no row. */
+/* A negative or huge word in an event is malformed, an account or successor that isn't there, or no
+ * row. */
 static void wild_words_in_events(void)
 {
     const int64_t good[][9] = {{1, 5, 100, 2000}, {2, 1, 43, 61, 2, 60, 2}, {3, 1, 500, 1}, {4, 4, 8, 100}, {5, 1, 1},
                                {6, 1, 1, 1},      {7, 1, 0, 1},             {8, 1},         {9},
-                               {10, 0, 501, 1, 2, 3, 4, 5, 6}, {11, 1, 0}};
+                               {10, 0, 501, 1, 2, 3, 4, 5, 6}, {11, 1, 0}, {12, 3, 4}};
     struct book b = varied_book();
     for (size_t k = 0; k < sizeof good / sizeof good[0]; k++)
         for (size_t word = 0; word < 9; word++)
@@ -286,6 +290,7 @@ static void wild_words_in_events(void)
                 const int64_t kind = good[k][0];
                 const int64_t want = word == 1 && kind != 9 && kind != 10  ? TOLL_LEDGER_UNKNOWN
                                      : word == 2 && kind >= 4 && kind <= 6 ? TOLL_LEDGER_NO_ROW
+                                     : word == 2 && kind == 12             ? TOLL_LEDGER_SUCCESSOR
                                                                            : TOLL_LEDGER_MALFORMED;
                 CHECK(post_words(&b, e) == want);
             }
@@ -324,8 +329,17 @@ static void ranges_of_events(void)
         {{11, 1, -1}, 2},      {{11, 6, 2}, 2},          {{11, 5, 1}, 3},
         {{11, 0, 1}, 3},       {{11, 3, 1}, 5},          {{11, 3, 0}, 5},
         {{11, 2, 1}, 11},      {{11, 2, 0}, 11},         {{11, 4, 1}, 11},
-        {{12, 1, 1}, 2},       {{11, 1, 0, 1}, 2},       {{11, 1, 0, 0, 1}, 2},
+        {{13, 1, 1}, 2},       {{11, 1, 0, 1}, 2},       {{11, 1, 0, 0, 1}, 2},
         {{11, 1, 0, 0, 0, 1}, 2}, {{11, 1, 0, 0, 0, 0, 1}, 2},
+        {{12, 3, 1}, 0},       {{12, 3, 2}, 0},          {{12, 3, 4}, 0},
+        {{12, 3, 0}, 18},      {{12, 3, 3}, 18},         {{12, 3, 5}, 18},
+        {{12, 3, 6}, 18},      {{12, 3, 257}, 18},       {{12, 1, 2}, 18},
+        {{12, 4, 1}, 18},      {{12, 1, 1}, 18},         {{12, 5, 1}, 3},
+        {{12, 6, 1}, 3},       {{12, 0, 1}, 3},          {{12, 5, 5}, 3},
+        {{12, 3, 1, 1}, 2},    {{12, 3, 1, 0, 1}, 2},    {{12, 3, 1, 0, 0, 1}, 2},
+        {{12, 3, 1, 0, 0, 0, 1}, 2},  {{12, 3, 3, 1}, 2},  {{12, 5, 1, 1}, 2},
+        {{2, 3, 7, 61, 2, 60, 1}, 0}, {{2, 3, 7, 61, 1, 91, 1}, 6}, {{2, 3, 7, 62, 2, 60, 1}, 7}, {{2, 3, 41, 61, 2, 60, 1}, 8},
+        {{3, 3, 1, 1}, 5},     {{7, 3, 0, 1}, 5},        {{8, 3}, 5},
     };
     for (size_t i = 0; i < sizeof cases / sizeof cases[0]; i++) {
         struct book b = varied_book();
@@ -340,7 +354,7 @@ static void last_words_of_events(void)
 {
     const int64_t good[][9] = {{1, 5, 100, 2000}, {2, 1, 43, 61, 2, 60, 2}, {3, 1, 500, 1}, {4, 4, 8, 100}, {5, 1, 1},
                                {6, 1, 1, 1},      {7, 1, 0, 1},             {8, 1},         {9},
-                               {11, 1, 0}};
+                               {11, 1, 0},        {12, 3, 4}};
     struct book b = varied_book();
     for (size_t k = 0; k < sizeof good / sizeof good[0]; k++)
         for (size_t word = 7; word < 9; word++) {
@@ -787,7 +801,7 @@ static void result_after(int64_t declines, int64_t at, int64_t paid)
     }
     const int third = declines == 2, removed = third && !paid, counts = !third && !paid;
     const int64_t want[] = {TOLL_LEDGER_STATE_OPEN, 0, 0, removed ? 0 : 100, removed ? 0 : 2000,
-                            counts ? declines + 1 : 0, counts ? today(&b) : 0, !third && at >= 0};
+                            counts ? declines + 1 : 0, counts ? today(&b) : 0, !third && at >= 0, 0};
     CHECK(sizeof want == TOLL_LEDGER_ACCOUNT_WORDS * sizeof(int64_t));
     CHECK(post(&b, TOLL_LEDGER_EVENT_TOPUP_RESULT, 2, 0, paid) == TOLL_LEDGER_POSTED);
     const int64_t answer[] = {TOLL_LEDGER_POSTED, paid, paid, 0, removed};
@@ -1167,6 +1181,227 @@ static void heavy_debtors_of_a_full_journal(void)
     free_book(&b);
 }
 
+/* Accounts 1 to 3 closed on day 17, a Monday: 1 has a check of 700 in row 1, refunded in row 2; 4 is
+ * open, 5 pending with 300 in row 3, 6 unused. */
+static struct book left_book(size_t rows)
+{
+    struct book b = open_book(6, rows, 1);
+    for (int64_t n = 1; n <= 5; n++)
+        CHECK(post(&b, TOLL_LEDGER_EVENT_OPEN, n, 0, 0) == 0);
+    CHECK(post(&b, TOLL_LEDGER_EVENT_PAYMENT, 1, 700, 3) == 0);
+    for (int64_t n = 1; n <= 3; n++)
+        CHECK(post(&b, TOLL_LEDGER_EVENT_CLOSE_REQUEST, n) == 0);
+    ticks(&b, 16);
+    CHECK(post(&b, TOLL_LEDGER_EVENT_CLOSE_REQUEST, 5) == 0);
+    CHECK(post(&b, TOLL_LEDGER_EVENT_PAYMENT, 5, 300, 2) == 0);
+    CHECK(today(&b) == 17 && b.header[TOLL_LEDGER_HEADER_ROWS_USED] == 3);
+    return b;
+}
+
+static int64_t name_successor(struct book *b, int64_t account, int64_t successor)
+{
+    return post(b, TOLL_LEDGER_EVENT_SUCCESSOR, account, successor);
+}
+
+/* Posts a toll of 500 that passed today. */
+static int64_t toll(struct book *b, int64_t account, int64_t passage)
+{
+    return post(b, TOLL_LEDGER_EVENT_TOLL, account, passage, today(b), 2, 60, 2);
+}
+
+/* Event 12 changes one word of a closed account, and no other: its successor may be open, pending or
+ * closed, lead back to it, and be named again or replaced. */
+static void naming_successors(void)
+{
+    const int64_t names[][2] = {{1, 4}, {1, 4}, {1, 5}, {1, 2}, {2, 1}, {2, 3}, {3, 1}, {1, 2}, {3, 5}};
+    struct book b = left_book(3); /* full */
+    for (size_t i = 0; i < sizeof names / sizeof names[0]; i++) {
+        const int64_t n = names[i][0], next = names[i][1];
+        int64_t *want = copy_words(&b);
+        CHECK(name_successor(&b, n, next) == TOLL_LEDGER_POSTED);
+        for (int word = 1; word < TOLL_LEDGER_ANSWER_WORDS; word++)
+            CHECK(b.answer[word] == 0);
+        want[TOLL_LEDGER_HEADER_WORDS + (n - 1) * TOLL_LEDGER_ACCOUNT_WORDS + TOLL_LEDGER_ACCOUNT_SUCCESSOR] = next;
+        CHECK(same_words(&b, want) && sound(&b) == TOLL_LEDGER_POSTED);
+        free(want);
+    }
+    for (int64_t next = -1; next <= 8; next++) /* open, pending, unused, none of the table */
+        for (int64_t n = 4; n <= 7; n++)
+            CHECK(name_successor(&b, n, next) == (n <= 5 ? TOLL_LEDGER_SUCCESSOR : TOLL_LEDGER_UNKNOWN));
+    const int64_t none[] = {INT64_MIN, -1, 0, 1, 6, 7, 257, INT64_MAX};
+    for (size_t i = 0; i < sizeof none / sizeof none[0]; i++)
+        CHECK(name_successor(&b, 1, none[i]) == TOLL_LEDGER_SUCCESSOR);
+    CHECK(account_of(&b, 1)[TOLL_LEDGER_ACCOUNT_SUCCESSOR] == 2);
+    free_book(&b);
+}
+
+/* A toll for account 1 gives the very book that the same toll for its successor gives: it is settled
+ * from the successor's money, and no account changes. */
+static void passing_tolls_on(void)
+{
+    for (int64_t next = 4; next <= 5; next++) {
+        struct book passed = left_book(8), sent = left_book(8);
+        CHECK(name_successor(&passed, 1, next) == 0 && name_successor(&sent, 1, next) == 0);
+        for (int64_t passage = 41; passage <= 42; passage++) {
+            int64_t *before = copy_words(&passed);
+            CHECK(toll(&passed, 1, passage) == TOLL_LEDGER_POSTED);
+            CHECK(toll(&sent, next, passage) == TOLL_LEDGER_POSTED);
+            CHECK(memcmp(passed.answer, sent.answer, sizeof sent.answer) == 0);
+            const int64_t row = passed.answer[TOLL_LEDGER_ANSWER_FIRST_ROW];
+            CHECK(row == passage - 37 && row_of(&passed, row)[TOLL_LEDGER_ROW_ACCOUNT] == next);
+            CHECK(memcmp(before + TOLL_LEDGER_HEADER_WORDS, passed.accounts, passed.accounts_words * sizeof(int64_t)) == 0);
+            free(before);
+            before = copy_words(&sent);
+            CHECK(same_words(&passed, before));
+            free(before);
+        }
+        CHECK(settled(&passed, 4) == (next == 5 ? 300 : 0) && settled(&passed, 5) == 0);
+        CHECK(balance(&passed, 1) == 0 && balance(&passed, next) == (next == 5 ? -700 : -1000));
+        CHECK(post(&passed, TOLL_LEDGER_EVENT_DISPUTE, 1, 5) == TOLL_LEDGER_NO_ROW);
+        CHECK(post(&passed, TOLL_LEDGER_EVENT_DISPUTE, next, 5) == TOLL_LEDGER_POSTED);
+        CHECK(sound(&passed) == TOLL_LEDGER_POSTED);
+        free_book(&passed);
+        free_book(&sent);
+    }
+}
+
+/* Nothing but a toll is passed on. */
+static void tolls_alone_are_passed_on(void)
+{
+    struct book b = left_book(8);
+    CHECK(name_successor(&b, 1, 4) == 0);
+    CHECK(post(&b, TOLL_LEDGER_EVENT_PAYMENT, 1, 700, 1) == TOLL_LEDGER_CLOSED);
+    CHECK(post(&b, TOLL_LEDGER_EVENT_TOPUP_RESULT, 1, 0, 1) == TOLL_LEDGER_CLOSED);
+    CHECK(post(&b, TOLL_LEDGER_EVENT_CLOSE_REQUEST, 1) == TOLL_LEDGER_CLOSED);
+    CHECK(post(&b, TOLL_LEDGER_EVENT_RESERVE, 1, 1) == TOLL_LEDGER_CLOSED);
+    CHECK(post(&b, TOLL_LEDGER_EVENT_OPEN, 1, 0, 0) == TOLL_LEDGER_TAKEN);
+    CHECK(post(&b, TOLL_LEDGER_EVENT_RETURNED_CHECK, 1, 3, 0) == TOLL_LEDGER_NO_ROW);
+    free_book(&b);
+}
+
+/* Without a successor that takes it a toll is refused as closed before all else; with one it meets
+ * what the toll meets there. */
+static void refusals_of_tolls_on_closed_accounts(void)
+{
+    struct book b = left_book(5);
+    CHECK(toll(&b, 4, 41) == 0); /* row 4 */
+    for (int named = 0; named < 3; named++) { /* none, a closed one, an open one */
+        const int takes = named == 2;
+        if (named > 0)
+            CHECK(name_successor(&b, 1, 2 * named) == 0);
+        CHECK(post(&b, TOLL_LEDGER_EVENT_TOLL, 1, 42, 17, 1, 91, 2) == (takes ? TOLL_LEDGER_UNCLASSED : TOLL_LEDGER_CLOSED));
+        CHECK(post(&b, TOLL_LEDGER_EVENT_TOLL, 1, 42, 18, 2, 60, 2) == (takes ? TOLL_LEDGER_MISDATED : TOLL_LEDGER_CLOSED));
+        CHECK(toll(&b, 1, 41) == (takes ? TOLL_LEDGER_DUPLICATE : TOLL_LEDGER_CLOSED));
+        CHECK(post(&b, TOLL_LEDGER_EVENT_TOLL, 1, 0, 17, 2, 60, 2) == TOLL_LEDGER_MALFORMED);
+    }
+    CHECK(toll(&b, 1, 42) == TOLL_LEDGER_POSTED); /* row 5, the last */
+    CHECK(toll(&b, 1, 43) == TOLL_LEDGER_FULL && toll(&b, 2, 43) == TOLL_LEDGER_CLOSED);
+    CHECK(toll(&b, 1, 42) == TOLL_LEDGER_DUPLICATE);
+    free_book(&b);
+}
+
+/* One step alone: where the successor is closed, its own successor isn't asked, and no cycle turns. */
+static void successors_of_successors(void)
+{
+    struct book b = left_book(8);
+    CHECK(name_successor(&b, 1, 2) == 0 && name_successor(&b, 2, 4) == 0 && name_successor(&b, 3, 1) == 0);
+    CHECK(toll(&b, 1, 41) == TOLL_LEDGER_CLOSED && toll(&b, 3, 41) == TOLL_LEDGER_CLOSED);
+    CHECK(toll(&b, 2, 41) == TOLL_LEDGER_POSTED); /* row 4 */
+    CHECK(name_successor(&b, 2, 3) == 0); /* 1, 2, 3 and 1 again */
+    for (int64_t n = 1; n <= 3; n++)
+        CHECK(toll(&b, n, 42) == TOLL_LEDGER_CLOSED);
+    CHECK(post(&b, TOLL_LEDGER_EVENT_RETURNED_CHECK, 1, 1, 0) == 0); /* rows 5 and 6: 1 is pending */
+    CHECK(toll(&b, 2, 42) == TOLL_LEDGER_CLOSED);
+    CHECK(toll(&b, 3, 42) == TOLL_LEDGER_POSTED && row_of(&b, 7)[TOLL_LEDGER_ROW_ACCOUNT] == 1);
+    CHECK(sound(&b) == TOLL_LEDGER_POSTED);
+    free_book(&b);
+}
+
+/* An account that a returned check makes pending keeps its successor and takes its own tolls; once
+ * closed again it passes them on again, while the successor takes them. */
+static void successors_of_reopened_accounts(void)
+{
+    struct book b = left_book(16);
+    const int64_t *x = account_of(&b, 1);
+    CHECK(name_successor(&b, 1, 5) == 0);
+    CHECK(post(&b, TOLL_LEDGER_EVENT_RETURNED_CHECK, 1, 1, 0) == 0); /* rows 4 and 5 */
+    CHECK(x[TOLL_LEDGER_ACCOUNT_STATE] == TOLL_LEDGER_STATE_PENDING && x[TOLL_LEDGER_ACCOUNT_SUCCESSOR] == 5);
+    CHECK(toll(&b, 1, 41) == 0 && row_of(&b, 6)[TOLL_LEDGER_ROW_ACCOUNT] == 1);
+    CHECK(name_successor(&b, 1, 4) == TOLL_LEDGER_SUCCESSOR);
+    CHECK(post(&b, TOLL_LEDGER_EVENT_PAYMENT, 1, 1700, 1) == 0); /* row 7: all that it owes */
+    ticks(&b, 1);
+    CHECK(x[TOLL_LEDGER_ACCOUNT_STATE] == TOLL_LEDGER_STATE_CLOSED && x[TOLL_LEDGER_ACCOUNT_SUCCESSOR] == 5);
+    CHECK(toll(&b, 1, 42) == 0 && row_of(&b, 8)[TOLL_LEDGER_ROW_ACCOUNT] == 5);
+    CHECK(settled(&b, 8) == 300 && post(&b, TOLL_LEDGER_EVENT_PAYMENT, 5, 200, 1) == 0); /* row 9 */
+    ticks(&b, 14); /* day 32, 15 after the request of 5 */
+    CHECK(account_of(&b, 5)[TOLL_LEDGER_ACCOUNT_STATE] == TOLL_LEDGER_STATE_CLOSED);
+    CHECK(toll(&b, 1, 43) == TOLL_LEDGER_CLOSED);
+    CHECK(name_successor(&b, 1, 4) == 0 && toll(&b, 1, 43) == 0 && row_of(&b, 10)[TOLL_LEDGER_ROW_ACCOUNT] == 4);
+    CHECK(sound(&b) == TOLL_LEDGER_POSTED);
+    free_book(&b);
+}
+
+/* Closing, naming, passing on and coming back within one batch, as singly. */
+static void successors_in_a_batch(void)
+{
+    const struct toll_ledger_event_record events[] = {
+        record(2, 1, 41, 1, 2, 60, 2), record(3, 1, 500, 3), record(8, 1), record(3, 3, 900, 1),
+        record(12, 1, 3), record(9), record(9), record(9), record(9), record(9), record(9), record(9), record(9),
+        record(9), record(9), record(9), record(9), record(9), record(9), record(9), record(9), /* day 17 */
+        record(2, 1, 42, 17, 2, 60, 2), record(12, 1, 3), record(2, 1, 42, 17, 2, 60, 2), record(2, 1, 43, 17, 5, 60, 2),
+        record(3, 3, 1200, 1), record(12, 1, 2), record(2, 1, 42, 17, 2, 60, 2), record(2, 1, 44, 17, 2, 60, 2),
+        record(4, 1, 2, 0), record(2, 1, 45, 17, 2, 60, 2), record(3, 1, 1500, 2), record(9),
+        record(2, 1, 46, 18, 2, 60, 2), record(3, 2, 1000, 2), record(12, 3, 1),
+    };
+    const size_t count = sizeof events / sizeof events[0];
+    int64_t answers[5 * sizeof events / sizeof events[0]];
+    struct book b = open_book(3, 20, 1), singly = open_book(3, 20, 1);
+    for (int64_t n = 1; n <= 3; n++)
+        CHECK(post(&b, TOLL_LEDGER_EVENT_OPEN, n, 0, 0) == 0 && post(&singly, TOLL_LEDGER_EVENT_OPEN, n, 0, 0) == 0);
+    CHECK(batch(&b, events, count, answers, 5 * count) == TOLL_LEDGER_POSTED);
+    for (size_t i = 0; i < count; i++) {
+        int64_t words[TOLL_LEDGER_EVENT_WORDS];
+        memcpy(words, &events[i], sizeof words);
+        CHECK(post_words(&singly, words) == answers[5 * i]);
+        CHECK(memcmp(singly.answer, answers + 5 * i, sizeof singly.answer) == 0);
+    }
+    int64_t *want = copy_words(&singly);
+    CHECK(same_words(&b, want));
+    CHECK(answers[5 * 4] == TOLL_LEDGER_SUCCESSOR && answers[5 * 21] == TOLL_LEDGER_CLOSED);
+    CHECK(row_of(&b, answers[5 * 23 + 1])[TOLL_LEDGER_ROW_ACCOUNT] == 3 && answers[5 * 27] == TOLL_LEDGER_DUPLICATE);
+    CHECK(row_of(&b, answers[5 * 28 + 1])[TOLL_LEDGER_ROW_ACCOUNT] == 2);
+    CHECK(row_of(&b, answers[5 * 30 + 1])[TOLL_LEDGER_ROW_ACCOUNT] == 1);
+    CHECK(row_of(&b, answers[5 * 33 + 1])[TOLL_LEDGER_ROW_ACCOUNT] == 2 && answers[5 * 35] == TOLL_LEDGER_SUCCESSOR);
+    free(want);
+    free_book(&b);
+    free_book(&singly);
+}
+
+/* Successors as no ledger writes them, and some that one may, each alone in a sound book. */
+static void damaged_successors(void)
+{
+    struct book b = varied_book(); /* account 3 alone is closed, 5 unused */
+    for (int64_t n = 1; n <= 5; n++)
+        for (int64_t value = -1; value <= 7; value++) {
+            int64_t *successor = account_of(&b, n) + TOLL_LEDGER_ACCOUNT_SUCCESSOR;
+            const int64_t old = *successor;
+            CHECK(old == (n == 3));
+            *successor = value;
+            if (value == 0 || (n < 5 && value != n && value >= 1 && value < 5))
+                CHECK(sound(&b) == TOLL_LEDGER_POSTED);
+            else
+                all_refuse_as_unsound(&b);
+            *successor = old;
+        }
+    b.accounts_words -= TOLL_LEDGER_ACCOUNT_WORDS; /* a table cut short behind the successor's account */
+    account_of(&b, 3)[TOLL_LEDGER_ACCOUNT_SUCCESSOR] = 5;
+    all_refuse_as_unsound(&b);
+    account_of(&b, 3)[TOLL_LEDGER_ACCOUNT_SUCCESSOR] = 4;
+    CHECK(sound(&b) == TOLL_LEDGER_POSTED);
+    b.accounts_words += TOLL_LEDGER_ACCOUNT_WORDS;
+    free_book(&b);
+}
+
 /* Batches of no event, of 4,096 and of one more, with answer tables that just fit, or just not. */
 static void sizes_of_batches(void)
 {
@@ -1252,7 +1487,8 @@ int main(void)
 {
     lengths_of_tables();
     lengths_of_a_sound_book();
-    older_accounts();
+    older_accounts(8);
+    older_accounts(7);
     lengths_of_schedules();
     ranges_of_schedules();
     lengths_of_events_and_answers();
@@ -1286,6 +1522,14 @@ int main(void)
     returned_checks_and_heavy_debts();
     heavy_debtors_that_leave();
     heavy_debtors_of_a_full_journal();
+    naming_successors();
+    passing_tolls_on();
+    tolls_alone_are_passed_on();
+    refusals_of_tolls_on_closed_accounts();
+    successors_of_successors();
+    successors_of_reopened_accounts();
+    successors_in_a_batch();
+    damaged_successors();
     sizes_of_batches();
     full_book();
     return 0;

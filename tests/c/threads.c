@@ -31,7 +31,7 @@ static void next_event(const struct book *b, uint64_t *seed, int64_t *e)
     const int64_t used = b->header[TOLL_LEDGER_HEADER_ROWS_USED], day = b->header[TOLL_LEDGER_HEADER_DAY];
     const int64_t n = 1 + below(seed, accounts), row = 1 + below(seed, used == 0 ? 1 : used);
     memset(e, 0, TOLL_LEDGER_EVENT_WORDS * sizeof *e);
-    switch (below(seed, 14)) {
+    switch (below(seed, 16)) {
     case 0: e[0] = 1, e[1] = n, e[3] = below(seed, 2000), e[2] = e[3] == 0 ? 0 : below(seed, 3000); break;
     case 1: case 2: case 3: /* tolls */
         e[0] = 2, e[1] = n, e[2] = 1 + below(seed, 1000000000), e[3] = day, e[4] = 1 + below(seed, 6);
@@ -49,6 +49,7 @@ static void next_event(const struct book *b, uint64_t *seed, int64_t *e)
             e[word] = 1 + below(seed, 2000);
         break;
     case 12: e[0] = 11, e[1] = n, e[2] = below(seed, 2); break;
+    case 13: case 14: e[0] = 12, e[1] = n, e[2] = 1 + below(seed, accounts); break;
     default: e[0] = 9;
     }
 }

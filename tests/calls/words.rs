@@ -1,7 +1,7 @@
 //! The names of include/toll_ledger.h, without their prefix: `tests/run` compares them, name by name and number by number.
 
 pub const HEADER_WORDS: usize = 62;
-pub const ACCOUNT_WORDS: usize = 8;
+pub const ACCOUNT_WORDS: usize = 9;
 pub const ROW_WORDS: usize = 10;
 pub const MOST_ACCOUNTS: usize = 256;
 pub const MOST_ROWS: usize = 8_192;
@@ -24,6 +24,7 @@ pub const LIST: i64 = 15;
 pub const UNKNOWN: i64 = 3;
 pub const TAKEN: i64 = 4;
 pub const CLOSED: i64 = 5;
+pub const SUCCESSOR: i64 = 18;
 pub const UNCLASSED: i64 = 6;
 pub const MISDATED: i64 = 7;
 pub const DUPLICATE: i64 = 8;
@@ -64,6 +65,7 @@ pub const ACCOUNT_TOPUP: usize = 4;
 pub const ACCOUNT_DECLINES: usize = 5;
 pub const ACCOUNT_LAST_DECLINE: usize = 6;
 pub const ACCOUNT_RESERVE: usize = 7;
+pub const ACCOUNT_SUCCESSOR: usize = 8;
 
 // toll_ledger_state
 pub const STATE_UNUSED: i64 = 0;
@@ -116,6 +118,7 @@ pub const EVENT_CLOSE_REQUEST: i64 = 8;
 pub const EVENT_TICK: i64 = 9;
 pub const EVENT_RATE_LIST: i64 = 10;
 pub const EVENT_RESERVE: i64 = 11;
+pub const EVENT_SUCCESSOR: i64 = 12;
 
 // toll_ledger_mode
 pub const MODE_TAG: i64 = 1;

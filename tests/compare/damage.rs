@@ -11,12 +11,14 @@ use calls::{Book, Table, MODEL};
 #[derive(Default)]
 pub struct Met {
     pub books: u64,
-    pub sound: u64,          // damaged, and sound all the same
-    pub reserves_out: u64,   // unsound by a reserve alone that is neither 0 nor 1
-    pub reserves_alone: u64, // and by one alone beside no top-up
-    pub reserves_sound: u64, // sound, with another reserve
-    pub debtors: [u64; 2],   // debtor questions on sound and on unsound books
-    pub moved_sound: u64,    // sound, with money moved from a toll to a fee or reversal, or back
+    pub sound: u64,            // damaged, and sound all the same
+    pub reserves_out: u64,     // unsound by a reserve alone that is neither 0 nor 1
+    pub reserves_alone: u64,   // and by one alone beside no top-up
+    pub reserves_sound: u64,   // sound, with another reserve
+    pub successors: [u64; 3],  // unsound by a successor alone: itself, an unused account, none of the table
+    pub successors_sound: u64, // sound, with another successor
+    pub debtors: [u64; 2],     // debtor questions on sound and on unsound books
+    pub moved_sound: u64,      // sound, with money moved from a toll to a fee or reversal, or back
     pub holidays: Holidays,
     pub lengths: u64,
     pub answer_tables: u64,
@@ -167,7 +169,7 @@ fn damage(random: &mut Random, t: &mut Book) {
     let i = row(random, t);
     let k = mate(random, t, i);
     let (x, y) = (random.index(t.count()), random.index(t.count()));
-    match random.below(33) {
+    match random.below(37) {
         0..=6 => {
             for _ in 0..random.pick(&[1, 1, 1, 2]) {
                 let word = place(random, &whole, t);
@@ -194,6 +196,7 @@ fn damage(random: &mut Random, t: &mut Book) {
         22..=24 => change_reserve(random, t, x),
         25..=26 => move_between(random, t),
         27..=30 => change_holidays(random, t),
+        33..=36 => change_successor(random, t, x),
         _ => change_topup(random, t, x),
     }
 }
@@ -395,6 +398,52 @@ fn change_reserve(random: &mut Random, t: &mut Book, x: usize) {
     }
 }
 
+/// The successor of a used account, where there is one: another one, itself, an unused account or none of the table.
+fn change_successor(random: &mut Random, t: &mut Book, x: usize) {
+    let count = t.count() as i64;
+    let of = |t: &Book, unused: bool| -> Vec<i64> {
+        (1..=count).filter(|n| (t.state(*n) == STATE_UNUSED) == unused).collect()
+    };
+    let (used, unused) = (of(t, false), of(t, true));
+    let n = if used.is_empty() || random.once_in(12) { x as i64 + 1 } else { random.pick(&used) };
+    let from = match random.below(10) {
+        0 | 1 => vec![n],
+        2 | 3 => unused,
+        4 | 5 => vec![i64::MIN, -1, count + 1, count + 1, MOST_ACCOUNTS as i64 + 1, i64::MAX, (1 << 32) + 1],
+        6 => vec![0],
+        _ => used,
+    };
+    account_of(t, n as usize - 1)[ACCOUNT_SUCCESSOR] = if from.is_empty() { count } else { random.pick(&from) };
+}
+
+pub const ITSELF: usize = 0;
+pub const UNUSED: usize = 1;
+pub const OUTSIDE: usize = 2;
+
+/// What is wrong with the successor of a used account; accounts are counted from 0 here.
+fn successor_fault(t: &Book, x: usize) -> Option<usize> {
+    let (n, next) = (x as i64 + 1, t.accounts[x * ACCOUNT_WORDS + ACCOUNT_SUCCESSOR]);
+    match next {
+        _ if next == 0 || t.state(n) == STATE_UNUSED => None,
+        _ if next == n => Some(ITSELF),
+        _ if !(1..=t.count() as i64).contains(&next) => Some(OUTSIDE),
+        _ => (t.state(next) == STATE_UNUSED).then_some(UNUSED),
+    }
+}
+
+/// The fault of the successors that are all that makes a book unsound, of several the last.
+fn unsound_by_successor(t: &Book) -> Option<usize> {
+    let mut mended = t.clone();
+    let mut fault = None;
+    for x in 0..t.count() {
+        if let Some(found) = successor_fault(t, x) {
+            account_of(&mut mended, x)[ACCOUNT_SUCCESSOR] = 0;
+            fault = Some(found);
+        }
+    }
+    fault.filter(|_| MODEL.is_sound(&mended) && !MODEL.is_sound(t))
+}
+
 /// Whether reserves of a kind are all that makes a book unsound.
 fn unsound_by_reserve(t: &Book, fault: fn(&[i64]) -> bool) -> bool {
     let mut mended = t.clone();
@@ -402,9 +451,9 @@ fn unsound_by_reserve(t: &Book, fault: fn(&[i64]) -> bool) -> bool {
     mended != *t && MODEL.is_sound(&mended) && !MODEL.is_sound(t)
 }
 
-/// Whether an account that both books have has another reserve.
-fn other_reserve(x: &Book, y: &Book) -> bool {
-    x.all_accounts().zip(y.all_accounts()).any(|(a, b)| a[ACCOUNT_RESERVE] != b[ACCOUNT_RESERVE])
+/// Whether an account that both books have has another word at a place.
+fn differs(x: &Book, y: &Book, word: usize) -> bool {
+    x.all_accounts().zip(y.all_accounts()).any(|(a, b)| a[word] != b[word])
 }
 
 /// Whether a toll is paid more in one of two books of the same rows, and a fee or reversal less.
@@ -500,7 +549,11 @@ pub fn run(random: &mut Random, host: &mut Host, whole: &Book, met: &mut Met) ->
     met.sound += sound as u64;
     met.reserves_out += unsound_by_reserve(&damaged, |a| !(0..=1).contains(&a[ACCOUNT_RESERVE])) as u64;
     met.reserves_alone += unsound_by_reserve(&damaged, |a| a[ACCOUNT_TOPUP] == 0 && a[ACCOUNT_RESERVE] == 1) as u64;
-    met.reserves_sound += (sound && other_reserve(&damaged, whole)) as u64;
+    met.reserves_sound += (sound && differs(&damaged, whole, ACCOUNT_RESERVE)) as u64;
+    met.successors_sound += (sound && differs(&damaged, whole, ACCOUNT_SUCCESSOR)) as u64;
+    if let Some(fault) = unsound_by_successor(&damaged) {
+        met.successors[fault] += 1;
+    }
     met.moved_sound += (sound && moved(&damaged, whole)) as u64;
     let lent = damaged.holidays != whole.holidays && random.once_in(3);
     let call = if lent { opening(random) } else { call(random, host, whole, met) };

@@ -1,8 +1,9 @@
 //! Openings and events as a busy host might send them: most of them acceptable, some of them not.
 use crate::debtors::to_border;
+use crate::successors::{name, passing, passing_to, reopening, spoiled};
 use calls::random::Random;
 use calls::words::*;
-use calls::{event, Book, Event, MODEL};
+use calls::{event, Book, Event, EVENT_ACCOUNT, MODEL};
 
 // Limits of documents 01 and 02 that the header has no name for.
 pub const LAST_STAGE: i64 = 4;
@@ -14,6 +15,7 @@ pub const MOST_CREDIT: i64 = 1_300_000;
 pub const MOST_REFUND: i64 = 10_649_600_000;
 pub const MOST_PASSAGE: i64 = 1_000_000_000;
 pub const MOST_BANK_CHARGE: i64 = 99_500;
+pub const RETURN_FEE: i64 = 500;
 pub const RATES: usize = LIST_WORDS - LIST_RATES; // of a rate list
 
 /// Tables for an opening and its schedule.
@@ -108,15 +110,17 @@ pub struct Host {
     passage: i64,
     planned: Vec<Event>, // the next one last; then so many ticks
     ticks: i64,
-    pays: bool,  // debts are paid soon, so that accounts close
-    lists: bool, // rate lists come soon, so that the eighth is in force for long
-    fill: usize, // tolls and payments alone, until so many rows are used
+    pays: bool,   // debts are paid soon, so that accounts close
+    leaves: bool, // accounts leave often, paid by check, so that many are closed and pending again
+    lists: bool,  // rate lists come soon, so that the eighth is in force for long
+    fill: usize,  // tolls and payments alone, until so many rows are used
 }
 
 impl Host {
     pub fn new(random: &mut Random, fill: usize) -> Host {
         let passage = random.pick(&[0, 40, 999_000_000]);
-        Host { passage, planned: Vec::new(), ticks: 0, pays: random.once_in(2), lists: random.once_in(6), fill }
+        let (pays, leaves, lists) = (random.once_in(2), fill == 0 && random.once_in(4), random.once_in(6));
+        Host { passage, planned: Vec::new(), ticks: 0, pays, leaves, lists, fill }
     }
 
     /// The next event for a book.
@@ -160,6 +164,11 @@ impl Host {
                 return payment(random, book, n);
             }
         }
+        if self.leaves && random.once_in(8) {
+            if let Some(n) = account(random, book, |n| book.state(n) == STATE_OPEN) {
+                return self.leave(random, book, n);
+            }
+        }
         if let Some(event) = beside_held(random, book) {
             return event;
         }
@@ -168,6 +177,14 @@ impl Host {
         }
         if let Some(event) = to_border(random, book) {
             return event;
+        }
+        if let Some(event) = self.name_successor(random, book) {
+            return event;
+        }
+        if random.once_in(8) {
+            if let Some(event) = self.reopen(random, book) {
+                return event;
+            }
         }
         if random.once_in(8) {
             if let Some(event) = self.around_fee(random, book) {
@@ -204,16 +221,46 @@ impl Host {
         fit.unwrap_or_else(|| self.toll(random, book))
     }
 
-    /// A close request; half of the time what is owed is paid at once, and ticks follow until past the first day to close on.
+    /// A close request; half of the time, or always where accounts leave often, what is owed is paid at once, and ticks follow until
+    /// past the first day to close on.
     fn leave(&mut self, random: &mut Random, book: &Book, n: i64) -> Event {
-        if random.once_in(2) {
+        if self.leaves || random.once_in(2) {
             self.ticks = CLOSING_DAYS + random.range(0, 4);
             let owed = -balance(book, n);
             if owed > 0 {
-                self.planned = vec![event(EVENT_PAYMENT, n, &[owed.min(MOST_AMOUNT), METHOD_CASH])];
+                let method = if self.leaves { METHOD_CHECK } else { METHOD_CASH };
+                self.planned = vec![event(EVENT_PAYMENT, n, &[owed.min(MOST_AMOUNT), method])];
             }
         }
         event(EVENT_CLOSE_REQUEST, n, &[])
+    }
+
+    /// Event 12, and often tolls for the account right after it.
+    fn name_successor(&mut self, random: &mut Random, book: &Book) -> Option<Event> {
+        let named = name(random, book)?;
+        for _ in 0..random.below(3) {
+            let toll = self.toll_of(random, book, named[EVENT_ACCOUNT]);
+            self.planned.push(spoiled(random, book, toll));
+        }
+        Some(named)
+    }
+
+    /// A check returned on a closed account, then a toll for an account whose successor it is, where there is one; then what it owes by
+    /// the check is paid, and it may close on the next business day, or there is a toll for it.
+    fn reopen(&mut self, random: &mut Random, book: &Book) -> Option<Event> {
+        let (returned, owed) = reopening(random, book)?;
+        let n = returned[EVENT_ACCOUNT];
+        if random.once_in(2) {
+            self.planned = vec![event(EVENT_PAYMENT, n, &[owed.min(MOST_AMOUNT), METHOD_CHECK])];
+            self.ticks = random.range(1, 4);
+        } else {
+            self.planned = vec![self.toll_of(random, book, n)];
+        }
+        if let Some(n) = passing_to(random, book, n) {
+            let toll = self.toll_of(random, book, n);
+            self.planned.push(toll);
+        }
+        Some(returned)
     }
 
     /// Two tolls with a fee of the first between them are held from one day on; then comes money for a part of the three, and
@@ -231,6 +278,18 @@ impl Host {
     }
 
     fn toll(&mut self, random: &mut Random, book: &Book) -> Event {
+        if let Some(n) = passing(random, book) {
+            let toll = self.toll_of(random, book, n);
+            return spoiled(random, book, toll);
+        }
+        let Some(n) = account(random, book, |n| is_live(book, n)) else {
+            let unused = (1..=book.count() as i64).find(|n| book.state(*n) == STATE_UNUSED);
+            return unused.map_or(event(EVENT_TICK, 0, &[]), |n| open(random, n));
+        };
+        self.toll_of(random, book, n)
+    }
+
+    fn toll_of(&mut self, random: &mut Random, book: &Book, n: i64) -> Event {
         self.passage += 1;
         let passage = if random.once_in(20) { (self.passage - random.range(1, 6)).max(1) } else { self.passage };
         let back = if random.once_in(12) { random.range(59, 62) } else { random.range(0, 60) };
@@ -239,10 +298,6 @@ impl Host {
         let axles = random.pick(&[1, 2, 2, 3, 4, 5, 6, 99]);
         let height = random.pick(&[0, 60, 90, 91, 200, 999]);
         let height = if axles == 1 && !random.once_in(6) { height.min(90) } else { height };
-        let Some(n) = account(random, book, |n| is_live(book, n)) else {
-            let unused = (1..=book.count() as i64).find(|n| book.state(*n) == STATE_UNUSED);
-            return unused.map_or(event(EVENT_TICK, 0, &[]), |n| open(random, n));
-        };
         event(EVENT_TOLL, n, &[passage, day, axles, height, random.range(MODE_TAG, MODE_PLATE)])
     }
 }
@@ -274,7 +329,7 @@ fn border(random: &mut Random, book: &Book) -> Option<i64> {
     (!fit.is_empty()).then(|| random.pick(&fit))
 }
 
-fn is_live(book: &Book, n: i64) -> bool {
+pub fn is_live(book: &Book, n: i64) -> bool {
     matches!(book.state(n), STATE_OPEN | STATE_PENDING)
 }
 

@@ -4,13 +4,14 @@ use crate::generate::{
     account_words, is_held, is_low_through_held, is_reopened, Host, Opening, CLOSING_DAYS, LAST_STAGE,
 };
 use crate::pair::{Call, Pair};
+use crate::successors;
 use calls::random::Random;
 use calls::words::*;
 use calls::{Book, Event, Table, EVENT_A, EVENT_ACCOUNT, EVENT_B, EVENT_KIND, MODEL};
 use std::time::{Duration, Instant};
 
-pub const KINDS: usize = EVENT_RESERVE as usize + 1; // of events, with 0
-pub const NUMBERS: usize = RESERVE as usize + 1; // that an event may be answered by
+pub const KINDS: usize = EVENT_SUCCESSOR as usize + 1; // of events, with 0
+pub const NUMBERS: usize = SUCCESSOR as usize + 1; // that an event may be answered by, and HOLIDAYS, which it is not
 
 /// What the lists met: a comparison that met too little shows little.
 #[derive(Default)]
@@ -35,6 +36,7 @@ pub struct Met {
     pub settlements: Settlements,
     pub closings: Closings,
     pub debtors: debtors::Met,
+    pub successors: successors::Met,
 }
 
 /// Tolls accepted, by the rate list of their passage day.
@@ -236,7 +238,7 @@ impl Met {
 
     /// Counts an event by what it does to the model's book.
     fn note(&mut self, before: &Book, event: &Event, answer: &[i64], after: &Book) {
-        let kind = if (EVENT_OPEN..=EVENT_RESERVE).contains(&event[EVENT_KIND]) { event[EVENT_KIND] } else { 0 };
+        let kind = if (EVENT_OPEN..=EVENT_SUCCESSOR).contains(&event[EVENT_KIND]) { event[EVENT_KIND] } else { 0 };
         let number = answer[ANSWER_NUMBER];
         self.events += 1;
         self.answers[kind as usize][number as usize] += 1;
@@ -248,8 +250,17 @@ impl Met {
         }
         match (kind, number) {
             (EVENT_TICK, POSTED) => self.note_tick(before, after),
-            (EVENT_RETURNED_CHECK, POSTED) => self.reopened += became(before, after, STATE_CLOSED, STATE_PENDING),
-            (EVENT_TOLL, POSTED) => self.tolls.note(before, event[EVENT_B]),
+            (EVENT_RETURNED_CHECK, POSTED) => {
+                self.reopened += became(before, after, STATE_CLOSED, STATE_PENDING);
+                self.successors.note_return(before, event, after);
+            }
+            (EVENT_TOLL, POSTED | CLOSED | UNCLASSED | MISDATED | DUPLICATE | FULL) => {
+                if number == POSTED {
+                    self.tolls.note(before, event[EVENT_B]);
+                }
+                self.successors.note_toll(before, event, number, after);
+            }
+            (EVENT_SUCCESSOR, POSTED | SUCCESSOR) => self.successors.note(before, event, number, after),
             (EVENT_TOPUP_RESULT, POSTED) => self.reserves.note_result(before, event),
             (EVENT_RESERVE, POSTED | CLOSED | UNTIMELY | RESERVE) => self.reserves.note(before, event, number),
             (EVENT_TOPUP_RESULT, UNTIMELY) if is_low_through_held(before, event[EVENT_ACCOUNT]) => {

@@ -7,11 +7,14 @@ mod debtors;
 mod generate;
 mod lists;
 mod pair;
+mod successors;
 
 use calls::random::Random;
-use calls::words::{CEILING, EVENT_DECISION, EVENT_PAYMENT, EVENT_TICK, EVENT_TOPUP_RESULT};
-use calls::words::{MOST_ACCOUNTS, MOST_EVENTS, MOST_HOLIDAYS, MOST_ROWS, UNSOUND};
-use damage::{LONG, ORDER, OUT};
+use calls::words::{CEILING, DUPLICATE, FULL, HOLIDAYS, MISDATED, UNCLASSED, UNSOUND};
+use calls::words::{EVENT_DECISION, EVENT_PAYMENT, EVENT_TICK, EVENT_TOPUP_RESULT};
+use calls::words::{MOST_ACCOUNTS, MOST_EVENTS, MOST_HOLIDAYS, MOST_ROWS};
+use calls::words::{STATE_CLOSED, STATE_OPEN, STATE_PENDING};
+use damage::{ITSELF, LONG, ORDER, OUT, OUTSIDE, UNUSED};
 use generate::{Host, Opening};
 use lists::{Plan, BOTH, DECLINES, HOLIDAY, KINDS, NUMBERS, SATURDAY, SUNDAY};
 use pair::{line, Pair};
@@ -19,6 +22,7 @@ use pair::{line, Pair};
 const LISTS: u64 = 480;
 const EVENTS: u64 = 200; // in a list, at least
 const DAMAGES: u64 = 100; // of a list's last book
+const TOLL_REFUSALS: [i64; 3] = [UNCLASSED, MISDATED, DUPLICATE]; // that don't depend on the account
 
 fn stop(seed: u64, number: u64, failure: lists::Failure) -> ! {
     let long = failure.calls.len();
@@ -76,10 +80,12 @@ fn large_books(seed: u64, met: &mut lists::Met, damaged: &mut damage::Met) {
 /// Fails where the events or the damaged books met too little to show anything.
 fn enough(met: &lists::Met, damaged: &damage::Met) -> Result<(), String> {
     let accepted: u64 = (0..KINDS).map(|k| met.accepted(k)).sum();
-    let (r, s, h, d) = (&met.reserves, &met.settlements, &damaged.holidays, &met.debtors);
+    let (r, s, h, d, f) = (&met.reserves, &met.settlements, &damaged.holidays, &met.debtors, &met.successors);
     let by = |of: &[u64; KINDS], event: i64| of[event as usize];
     let by_others = |of: &[u64; KINDS]| of.iter().sum::<u64>() - by(of, EVENT_TICK);
     let both = |of: [u64; 2]| of[0].min(of[1]);
+    let at = |of: &[u64], number: i64| of[number as usize];
+    let least = |of: &[u64], numbers: &[i64]| numbers.iter().map(|n| of[*n as usize]).min().unwrap_or(0);
     let after = |of: &[[u64; DECLINES]; 2], declines: usize| both([of[0][declines], of[1][declines]]);
     let wants = [
         ("events", met.events, 20_000),
@@ -140,12 +146,44 @@ fn enough(met: &lists::Met, damaged: &damage::Met) -> Result<(), String> {
         ("accounts whose reversals would make them heavy debtors", d.reversals, 80),
         ("heavy debtors by fees of returned checks", d.returns, 200),
         ("debtor questions on no account", d.unknown, 500),
+        ("open accounts named as successors", at(&f.named, STATE_OPEN), 100),
+        ("pending accounts named as successors", at(&f.named, STATE_PENDING), 100),
+        ("closed accounts named as successors", at(&f.named, STATE_CLOSED), 50),
+        ("successors named in place of others", f.replaced, 100),
+        ("successors named in a full journal", f.in_full, 50),
+        ("successors that lead back to the account", f.cycles, 20),
+        ("successors refused for open accounts", at(&f.not_closed, STATE_OPEN), 50),
+        ("successors refused for pending accounts", at(&f.not_closed, STATE_PENDING), 50),
+        ("successors refused for accounts closed once", f.reopened, 10),
+        ("accounts refused as their own successors", f.itself, 30),
+        ("unused accounts refused as successors", f.unused, 8),
+        ("successors 0 refused", f.none, 20),
+        ("successors refused that no table has", f.outside, 30),
+        ("tolls passed on to open accounts", at(&f.passed, STATE_OPEN), 100),
+        ("tolls passed on to pending accounts", at(&f.passed, STATE_PENDING), 100),
+        ("tolls passed on to accounts closed once", f.to_reopened, 50),
+        ("tolls passed on and settled there", f.paid, 50),
+        ("tolls passed on by accounts to which successors lead back", f.in_cycles, 8),
+        ("tolls passed on to accounts whose successors take tolls", f.past_live, 4),
+        ("tolls passed on by accounts closed twice", f.once_more, 20),
+        ("tolls to be passed on and refused by 6, 7 or 8", least(&f.refused, &TOLL_REFUSALS), 30),
+        ("tolls to be passed on and refused by 13", at(&f.refused, FULL), 100),
+        ("tolls for closed accounts without a successor", f.without, 100),
+        ("tolls for accounts whose successor is closed", f.closed, 80),
+        ("and whose successor's successor takes tolls", f.chains, 20),
+        ("tolls refused by 5 that meet 6, 7 or 8 too", least(&f.before, &TOLL_REFUSALS), 8),
+        ("tolls taken by accounts closed once beside a successor that takes tolls", f.own, 30),
+        ("returned checks on closed accounts with a successor", f.kept, 15),
         ("debtor questions on damaged books that are sound, or on unsound ones", both(damaged.debtors), 500),
         ("damaged books", damaged.books, 20_000),
         ("damaged books in a hundred that are sound", 100 * damaged.sound / damaged.books, 5),
         ("books unsound by a reserve out of its range alone", damaged.reserves_out, 300),
         ("books unsound by a reserve without a top-up alone", damaged.reserves_alone, 300),
         ("books sound with another reserve", damaged.reserves_sound, 100),
+        ("books unsound by an account as its own successor alone", damaged.successors[ITSELF], 100),
+        ("books unsound by an unused successor alone", damaged.successors[UNUSED], 100),
+        ("books unsound by a successor that the table hasn't alone", damaged.successors[OUTSIDE], 100),
+        ("books sound with another successor", damaged.successors_sound, 200),
         ("books sound with money moved from a toll to a fee or reversal, or back", damaged.moved_sound, 40),
         ("books unsound by too many holidays alone", h.unsound[LONG], 300),
         ("books unsound by a holiday out of its range alone", h.unsound[OUT], 300),
@@ -169,7 +207,7 @@ fn enough(met: &lists::Met, damaged: &damage::Met) -> Result<(), String> {
             return Err(format!("event {kind}: accepted {} of {} times", met.accepted(kind), met.tried(kind)));
         }
     }
-    let never = [UNSOUND, CEILING].map(|n| n as usize); // by an event on a sound book
+    let never = [UNSOUND, HOLIDAYS, CEILING].map(|n| n as usize); // by an event on a sound book
     let rare = |n: &usize| !never.contains(n) && met.answers.iter().map(|k| k[*n]).sum::<u64>() < 20;
     match (0..NUMBERS).find(rare) {
         Some(n) => Err(format!("answer {n} was met fewer than 20 times")),
@@ -184,7 +222,7 @@ fn main() {
     small_books(seed, &mut met, &mut damaged);
     large_books(seed, &mut met, &mut damaged);
     let accepted: Vec<String> = (1..KINDS).map(|k| format!("{}/{}", met.accepted(k), met.tried(k))).collect();
-    println!("{} events from {} openings; events 1 to 11 accepted: {}", met.events, met.lists, accepted.join(" "));
+    println!("{} events from {} openings; events 1 to 12 accepted: {}", met.events, met.lists, accepted.join(" "));
     println!(
         "{} tolls raised, {} holds ended, {} accounts closed; {} damaged books, {} of them sound",
         met.raised, met.holds_ended, met.closed, damaged.books, damaged.sound
@@ -211,7 +249,7 @@ fn main() {
     println!("refused: closed {:?}, without a top-up {:?}, reserve {:?}", r.closed, r.untimely, r.refused);
     println!("results declined, paid, by declines: with a reserve {:?}, without {:?}", r.results, r.alone);
     let s = &met.settlements;
-    println!("settlements that pay a toll past an older fee or reversal, by events 0 to 11: {:?}", s.past);
+    println!("settlements that pay a toll past an older fee or reversal, by events 0 to 12: {:?}", s.past);
     println!("that go on to fees or reversals after tolls {:?}", s.on);
     println!("that leave a fee paid in part before a toll that is owed {:?}", s.beside);
     let d = &met.debtors;
@@ -223,6 +261,27 @@ fn main() {
         "owing 25,000 {}, 25,001 {}; heavy but for held debts {}, but for reversals {}; heavy by fees of returned checks {}; on \
          damaged books, sound and unsound {:?}",
         d.at_most, d.one_more, d.held, d.reversals, d.returns, damaged.debtors
+    );
+    let f = &met.successors;
+    println!(
+        "successors named, by states {:?}: in place of others {}, in a full journal {}, leading back {}; refused for accounts not closed {:?}, closed once {}; \
+         itself {}, unused {}, 0 {}, outside {}",
+        f.named, f.replaced, f.in_full, f.cycles, f.not_closed, f.reopened, f.itself, f.unused, f.none, f.outside
+    );
+    println!(
+        "tolls passed on, by states {:?}: to accounts closed once {}, settled there {}, by accounts led back to {}, closed twice {}, \
+         to those whose successors take tolls {}; refused 6, 7, 8, 13 {:?}",
+        f.passed, f.to_reopened, f.paid, f.in_cycles, f.once_more, f.past_live,
+        [UNCLASSED, MISDATED, DUPLICATE, FULL].map(|n| f.refused[n as usize])
+    );
+    println!(
+        "tolls refused 5 without a successor {}, with a closed one {}, of them before one that takes tolls {}; with 6, 7, 8 {:?}; taken by \
+         accounts closed once {}, whose successors were kept {}",
+        f.without, f.closed, f.chains, TOLL_REFUSALS.map(|n| f.before[n as usize]), f.own, f.kept
+    );
+    println!(
+        "damaged books unsound by a successor alone: {:?} itself, unused, outside; sound with another {}",
+        damaged.successors, damaged.successors_sound
     );
     println!(
         "damaged books unsound by a reserve alone: {} out of its range, {} without a top-up; sound with another {}, \

@@ -73,6 +73,10 @@ pub fn event(random: &mut Random) -> Event {
             calls::event(EVENT_RATE_LIST, 0, &words)
         }
         14 => calls::event(EVENT_RESERVE, account, &[random.pick(&[0, 1, 1, 0, 1, 1, 0, 2])]),
+        15 if random.once_in(2) => {
+            let successor = random.pick(&[1, 2, 3, 4, 7, 63, 64, 0, 65]);
+            calls::event(EVENT_SUCCESSOR, account, &[successor, random.pick(&[0, 0, 0, 0, 0, 0, 0, 1])])
+        }
         _ => calls::event(EVENT_TICK, 0, &[]),
     }
 }

@@ -56,7 +56,7 @@ struct header {
 };
 
 struct account {
-    int64_t state, request_day, returned, threshold, topup, declines, last_decline, reserve;
+    int64_t state, request_day, returned, threshold, topup, declines, last_decline, reserve, successor;
 };
 
 struct row {

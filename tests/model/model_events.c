@@ -1,4 +1,4 @@
-/* Events 1 to 8, 10 and 11, and settlement. */
+/* Events 1 to 8 and 10 to 12, and settlement. */
 #include "model_book.h"
 
 int64_t balance_of(const struct book *b, int64_t account)
@@ -136,6 +136,8 @@ static bool is_well_formed(const event *e)
         return e->account == 0 && within(1, e->a, TOLL_LEDGER_DAYS) && rates_fit(list_in(e).rates);
     case TOLL_LEDGER_EVENT_RESERVE:
         return within(0, e->a, RESERVE_ADDED) && e->b == 0 && short_form;
+    case TOLL_LEDGER_EVENT_SUCCESSOR: /* a is looked up */
+        return e->b == 0 && short_form;
     default:
         return false;
     }
@@ -193,19 +195,28 @@ static int64_t rate_of(const struct header *h, const event *e)
     return rates[MODES * (class_of(e->c, e->d) - CLASS_1) + e->e - TOLL_LEDGER_MODE_TAG];
 }
 
-/* "Row: rate, stage 0, due today + L." */
-static struct answer post_toll(const struct book *b, const event *e)
+/* "A successor that is open or pending" of a closed account, and no further one; 0 where there is
+ * none. */
+static int64_t heir_of(const struct book *b, const struct account *x)
+{
+    const struct account *s = account_of(b, x->successor);
+    const bool takes = s != NULL && (s->state == TOLL_LEDGER_STATE_OPEN || s->state == TOLL_LEDGER_STATE_PENDING);
+    return x->state == TOLL_LEDGER_STATE_CLOSED && takes ? x->successor : 0;
+}
+
+/* "Row: rate, stage 0, due today + L", of the account named or of its successor. */
+static struct answer post_toll(const struct book *b, int64_t account, const event *e)
 {
     const struct header *h = b->header;
     const int64_t before = h->used, number = toll_refusal(b, e);
     if (number != TOLL_LEDGER_POSTED)
         return refused(number);
     add_row(b, (struct row){.kind = TOLL_LEDGER_KIND_TOLL,
-                            .account = e->account,
+                            .account = account,
                             .amount = rate_of(h, e),
                             .due = h->day + h->length,
                             .reference = e->a});
-    settle(b, e->account);
+    settle(b, account);
     return posted(b, before);
 }
 
@@ -360,6 +371,18 @@ static struct answer change_reserve(const struct book *b, struct account *x, con
     return posted(b, b->header->used);
 }
 
+/* "Event 12 names, for a closed account, a successor"; "18 where the account isn't closed, or the
+ * successor is itself, unused or outside the table". */
+static struct answer name_successor(const struct book *b, struct account *x, const event *e)
+{
+    const struct account *s = account_of(b, e->a);
+    if (x->state != TOLL_LEDGER_STATE_CLOSED || s == NULL || s == x ||
+        s->state == TOLL_LEDGER_STATE_UNUSED)
+        return refused(TOLL_LEDGER_SUCCESSOR);
+    x->successor = e->a;
+    return posted(b, b->header->used);
+}
+
 static struct answer request_close(const struct book *b, struct account *x)
 {
     if (x->state == TOLL_LEDGER_STATE_PENDING)
@@ -402,13 +425,14 @@ struct answer post(const struct book *b, const event *e)
     struct account *x = account_of(b, e->account);
     if (x == NULL || (x->state == TOLL_LEDGER_STATE_UNUSED && e->kind != TOLL_LEDGER_EVENT_OPEN))
         return refused(TOLL_LEDGER_UNKNOWN);
-    if (x->state == TOLL_LEDGER_STATE_CLOSED && needs_open(e->kind))
+    const int64_t heir = e->kind == TOLL_LEDGER_EVENT_TOLL ? heir_of(b, x) : 0;
+    if (x->state == TOLL_LEDGER_STATE_CLOSED && heir == 0 && needs_open(e->kind))
         return refused(TOLL_LEDGER_CLOSED);
     switch (e->kind) {
     case TOLL_LEDGER_EVENT_OPEN:
         return open_account(b, x, e);
     case TOLL_LEDGER_EVENT_TOLL:
-        return post_toll(b, e);
+        return post_toll(b, heir == 0 ? e->account : heir, e);
     case TOLL_LEDGER_EVENT_PAYMENT:
         return post_payment(b, x, e);
     case TOLL_LEDGER_EVENT_RETURNED_CHECK:
@@ -421,6 +445,8 @@ struct answer post(const struct book *b, const event *e)
         return topup_result(b, x, e);
     case TOLL_LEDGER_EVENT_RESERVE:
         return change_reserve(b, x, e);
+    case TOLL_LEDGER_EVENT_SUCCESSOR:
+        return name_successor(b, x, e);
     default:
         return request_close(b, x);
     }

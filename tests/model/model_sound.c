@@ -190,7 +190,7 @@ static bool state_fits(const struct account *x, int64_t today)
     switch (x->state) {
     case TOLL_LEDGER_STATE_UNUSED:
         return (x->request_day | x->returned | x->threshold | x->topup | x->declines |
-                x->last_decline | x->reserve) == 0;
+                x->last_decline | x->reserve | x->successor) == 0;
     case TOLL_LEDGER_STATE_OPEN:
         return x->request_day == 0;
     case TOLL_LEDGER_STATE_PENDING:
@@ -207,6 +207,13 @@ static bool topup_fits(const struct account *x, int64_t today)
            within(0, x->declines, LAST_DECLINE - 1) && within(0, x->last_decline, today) &&
            (x->declines == 0) == (x->last_decline == 0) && within(0, x->reserve, RESERVE_ADDED) &&
            (x->topup != 0 || (x->threshold == 0 && x->declines == 0 && x->reserve == 0));
+}
+
+/* "The account's new word is 0 or another used account's number." */
+static bool successor_fits(const struct book *b, const struct account *x)
+{
+    const struct account *s = account_of(b, x->successor);
+    return x->successor == 0 || (s != NULL && s != x && s->state != TOLL_LEDGER_STATE_UNUSED);
 }
 
 /* "Used sources = settled debits, no unused source beside an unsettled unheld debit, and in state 3
@@ -233,7 +240,8 @@ static bool accounts_fit(const struct check *c)
 {
     for (size_t i = 0; i < c->book->count; i++) {
         const struct account *x = &c->book->accounts[i];
-        if (!state_fits(x, c->today) || !topup_fits(x, c->today) || !sums_fit(x, &c->sums[i]))
+        if (!state_fits(x, c->today) || !topup_fits(x, c->today) ||
+            !successor_fits(c->book, x) || !sums_fit(x, &c->sums[i]))
             return false;
     }
     return true;

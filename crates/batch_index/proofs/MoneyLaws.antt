@@ -19,7 +19,7 @@ use Rattle.lists.proofs.SumLaws.{sum_by-snoc, sum_by-set-same, sum_by-at-le, sum
 use Rattle.rules.specs.Rows.{Row, Test, kind_toll, kind_payment, blank, row_no, with_mark, remaining, source, debit, unsettled, held_toll, held, source_of, payable}
 use Rattle.rules.specs.Settlement.{money, debt, moved}
 use Rattle.rules.specs.Book.{Instruction, Book, settled}
-use Rattle.rules.specs.Events.{open_account, post_toll, post_payment, return_check, hold_toll, uphold, reject, decide, pay_topup, decline_topup, topup_result, request_close, add_list, set_reserve}
+use Rattle.rules.specs.Events.{open_account, post_toll, post_payment, return_check, hold_toll, uphold, reject, decide, pay_topup, decline_topup, topup_result, request_close, add_list, set_reserve, set_successor}
 use Rattle.rules.specs.Soundness.{sound}
 use Rattle.rules.specs.SoundFacts.{Sound}
 use Rattle.rules.specs.Refusals.{change_of, after, unknown, no_row, untimely, answer_number}
@@ -342,7 +342,7 @@ Claim b e k =
 
 -- an accepted event of every kind
 change-follows : (b : Book) (e : Instruction) → Sound b → (k : ℕ) → Claim b e k
-unfolding change_of open_account post_toll post_payment return_check hold_toll request_close add_list set_reserve unknown
+unfolding change_of open_account post_toll post_payment return_check hold_toll request_close add_list set_reserve set_successor unknown
 change-follows b e s =
     let n : ℕ = e.account in
     by_kind (Claim b e) (record {
@@ -361,6 +361,7 @@ change-follows b e s =
       tick = λ ne d q k. absurd (ne refl);
       rate-list = λ ne d q k. gains-follow b _ s k n (gains-same n b.rows);
       reserve = λ ne d q k. gains-follow b _ s k n (gains-same n b.rows);
+      successor = λ ne d q k. gains-follow b _ s k n (gains-same n b.rows);
       none = λ ne d q k. gains-follow b _ s k n (gains-same n b.rows);
       past = λ i ne d q k. gains-follow b _ s k n (gains-same n b.rows);
     })

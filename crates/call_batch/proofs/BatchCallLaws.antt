@@ -21,7 +21,7 @@ use Rattle.lists.proofs.TestLaws.{or_right, first-none}
 use Rattle.records.specs.Limits.{most_events}
 use Rattle.rules.specs.Book.{Instruction, Answer, Book}
 use Rattle.rules.specs.Soundness.{sound}
-use Rattle.rules.specs.Posting.{post, book_after, answers_to}
+use Rattle.rules.specs.Posting.{receive, book_after, answers_to}
 use Rattle.rules.specs.Tables.{Tables, book_of, tables_of, sound_tables}
 use Rattle.rules.specs.Calls.{Event, Gives, batch_refusals, batch_call, written}
 use Rattle.rules.proofs.PostingLaws.{book_after-append, answers_to-append, length-answers_to, batch_call-refused}
@@ -117,11 +117,11 @@ module _ (t : Tables) (es : List Event) (w : List ℤ) (r : Taken t es w) where
       count : length (answers_to b (first_of es i)) ≡ i
       count = length-answers_to b (first_of es i) ∙ length-take-le i (map instruction_of es) (rw (length-map es instruction_of) h.within)
 
-      book-next : book_after b (first_of es (i + 1)) ≡ (post (book_of u) e).book
+      book-next : book_after b (first_of es (i + 1)) ≡ (receive (book_of u) e).book
       unfolding book_after
       book-next = rw (next, book_after-append b (first_of es i) (e ∷ []), read-after)
 
-      answers_next : answers_to b (first_of es (i + 1)) ≡ answers_to b (first_of es i) ++ ((post (book_of u) e).answer ∷ [])
+      answers_next : answers_to b (first_of es (i + 1)) ≡ answers_to b (first_of es i) ++ ((receive (book_of u) e).answer ∷ [])
       unfolding answers_to
       answers_next = rw (next, answers_to-append b (first_of es i) (e ∷ []), read-after)
 
@@ -135,7 +135,7 @@ module _ (t : Tables) (es : List Event) (w : List ℤ) (r : Taken t es w) where
       }
         where
           a : Answer
-          a = (post (book_of u) e).answer
+          a = (receive (book_of u) e).answer
 
           written-more : put_all v (i * answer_width) 0 (answer_words a) ≡ written (answers_to b (first_of es i) ++ (a ∷ [])) w
           written-more =

@@ -14,7 +14,8 @@ use Rattle.lists.specs.Tests.{first}
 use Rattle.records.specs.Limits.{most_events}
 use Rattle.rules.specs.Book.{Book}
 use Rattle.rules.specs.Soundness.{sound}
-use Rattle.rules.specs.Posting.{post, book_after, answers_to}
+use Rattle.rules.specs.Successors.{forwarded}
+use Rattle.rules.specs.Posting.{receive, book_after, answers_to}
 use Rattle.rules.specs.Tables.{Tables, book_of, tables_of, sound_tables}
 use Rattle.rules.specs.Calls.{Event, event_refusals, answered, event_call, batch_call, written}
 use Rattle.rules.proofs.PostingLaws.{length-answers_to, batch_call-runs}
@@ -47,17 +48,17 @@ module _ (w : List ℤ) (five : length w ≡ answer_width) where
     unfolding event_refusals first
     runs = rw (t-sound, eq-eqb (length (event_words x)) event_width (width x), le-ltb (length w) answer_width enough)
 
-    sent-tables : (sent (tables_of b) w x).tables ≡ tables_of (post b (instruction_of x)).book
+    sent-tables : (sent (tables_of b) w x).tables ≡ tables_of (receive b (instruction_of x)).book
     sent-tables =
         let k = book_of-event_call (tables_of b) (event_words x) w t-sound (width x) enough in
         sym (tables_of-book_of (sent (tables_of b) w x).tables (event_call-keeps-sound (tables_of b) (event_words x) w t-sound))
         ∙ ap tables_of (k ∙ rw (book_of-sound b s, read-words x))
 
-    sent-answers : (sent (tables_of b) w x).answers ≡ answer_words (post b (instruction_of x)).answer
+    sent-answers : (sent (tables_of b) w x).answers ≡ answer_words (receive b (instruction_of x)).answer
     unfolding event_call answered written write_all
     sent-answers =
         let d : drop answer_width w ≡ [] = ap (λ (n : ℕ). drop n w) (sym five) ∙ drop-length w in
-        let a : List ℤ = answer_words (post b (instruction_of x)).answer in
+        let a : List ℤ = answer_words (receive b (instruction_of x)).answer in
         rw (runs, le-leb answer_width (length w) enough, book_of-sound b s, read-words x, d) (append-nil (a ++ []) ∙ append-nil a)
 
   -- ---- events in order
@@ -66,13 +67,13 @@ module _ (w : List ℤ) (five : length w ≡ answer_width) where
   unfolding tables_singly book_after
   tables-in-turn [] b s = refl
   tables-in-turn (x ∷ es) b s =
-      rw (sent-tables b s x) (tables-in-turn es (post b (instruction_of x)).book (post-keeps-sound b (instruction_of x) s))
+      rw (sent-tables b s x) (tables-in-turn es (receive b (instruction_of x)).book (post-keeps-sound b (forwarded b (instruction_of x)) s))
 
   answers-in-turn : (es : List Event) (b : Book) → sound b ≡ true → answers_singly (tables_of b) w es ≡ write_all answer_words (answers_to b (map instruction_of es))
   unfolding answers_singly answers_to write_all
   answers-in-turn [] b s = refl
   answers-in-turn (x ∷ es) b s =
-      rw (sent-tables b s x, sent-answers b s x, answers-in-turn es (post b (instruction_of x)).book (post-keeps-sound b (instruction_of x) s))
+      rw (sent-tables b s x, sent-answers b s x, answers-in-turn es (receive b (instruction_of x)).book (post-keeps-sound b (forwarded b (instruction_of x)) s))
 
   -- ---- a batch
 

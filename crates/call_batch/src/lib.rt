@@ -6,7 +6,7 @@ ghost use Rattle.std.specs.Prelude.{◌≡◌, true, pos};
 ghost use Rattle.records.specs.Outcomes.{number_by, answer_of};
 ghost use Rattle.rules.specs.Tables.{tables_with, sound_tables};
 ghost use Rattle.rules.specs.Calls.{Gives, batch_call};
-ghost use Rattle.posting.specs.Posts.{Posts};
+ghost use Rattle.event_heirs.specs.Heirs.{Receives};
 ghost use Rattle.batch_index.specs.Index.{Indexed};
 ghost use Rattle.call_words.specs.Answers.{AnswerIn};
 ghost use Rattle.call_batch.specs.BatchCalls.{RecordPosted};
@@ -15,13 +15,15 @@ ghost use Rattle.lent.specs.Lent.{lent_mut, SameTables};
 use batch_index::Index;
 use call_refusals::batch::check_batch;
 use call_words::write_answer;
+use event_heirs::forward;
 use event_refusals::admit;
 use events::post_admitted;
 use lent::TablesMut;
 use records::refusals::Refusal;
 use records::{Answer, Event, Instruction, Posting};
 
-// One event of the batch: only where it is admitted is it looked up in the index and posted, and the index brought up to the journal.
+// One event of the batch, on the account that takes it: only where it is admitted is it looked up in the index and posted, and the index
+// brought up to the journal.
 fn post_indexed(
     t: &mut TablesMut,
     holidays: &[i64],
@@ -31,12 +33,13 @@ fn post_indexed(
     requires { (sound_tables (tables_with holidays.now (lent_mut t.old)) ≡ true)
         × Indexed (lent_mut t.old) index.old }
     ensures same { SameTables t.old t.new }
-    ensures posts { Posts (tables_with holidays.now (lent_mut t.old))
+    ensures posts { Receives (tables_with holidays.now (lent_mut t.old))
         (tables_with holidays.now (lent_mut t.new))
         e
         (answer_of result) }
     ensures indexed { Indexed (lent_mut t.new) index.new }
 {
+    let e = forward(t, e);
     let x = admit(t, e)?;
     let before = t.used() as usize;
     let k = index.look_up(t, e);

@@ -18,13 +18,14 @@ use Rattle.records.specs.Encoding.{instruction_from, answer_words}
 use Rattle.lists.specs.Tests.{◌is◌, first}
 use Rattle.lists.proofs.TestLaws.{or_left, or_right, first-none}
 use Rattle.rules.specs.Book.{Answer}
-use Rattle.rules.specs.Posting.{refusal_by, post}
+use Rattle.rules.specs.Successors.{forwarded}
+use Rattle.rules.specs.Posting.{refusal_by, receive}
 use Rattle.rules.specs.Tables.{Tables, book_of, tables_of, sound_tables}
 use Rattle.rules.specs.Calls.{Gives, event_refusals, answered, event_call}
 use Rattle.rules.proofs.TableLaws.{tables_of-book_of}
 use Rattle.preservation.proofs.CallsKept.{event_call-keeps-sound, book_of-event_call}
 use Rattle.tables.specs.Changes.{put_all}
-use Rattle.posting.specs.Posts.{Posts}
+use Rattle.event_heirs.specs.Heirs.{Receives}
 use Rattle.call_words.proofs.AnswerLaws.{small-storable, refusal-small, answer-storable}
 use Rattle.call_words.proofs.WrittenLaws.{written_one}
 use Rattle.call_refusals.proofs.RefusalLaws.{event-refusals-by}
@@ -76,17 +77,17 @@ refused-answers t e w r q =
     }
 
 -- posted: the tables are those of the book after the event, which are the same where it is refused
-pub posted-answers : (t u : Tables) (e w : List ℤ) (x : Answer) → 0 ≡ first (event_refusals t e w) → Posts t u (instruction_from e) x → AnswersTo t u e w x
+pub posted-answers : (t u : Tables) (e w : List ℤ) (x : Answer) → 0 ≡ first (event_refusals t e w) → Receives t u (instruction_from e) x → AnswersTo t u e w x
 unfolding call_answer
 posted-answers t u e w x q p =
     let k = taken t e w q in
     record {
       answer = rw (← q) p.answer;
       tables = p.tables ∙ sym (event_call-tables t e w k);
-      storable = answer-storable t k.sound (instruction_from e) x p.answer;
+      storable = answer-storable t k.sound (forwarded (book_of t) (instruction_from e)) x p.answer;
     }
   where
-    event_call-tables : (t : Tables) (e w : List ℤ) → Taken t e w → (event_call t e w).tables ≡ tables_of (post (book_of t) (instruction_from e)).book
+    event_call-tables : (t : Tables) (e w : List ℤ) → Taken t e w → (event_call t e w).tables ≡ tables_of (receive (book_of t) (instruction_from e)).book
     event_call-tables t e w k =
         sym (tables_of-book_of (event_call t e w).tables (event_call-keeps-sound t e w k.sound))
         ∙ ap tables_of (book_of-event_call t e w k.sound k.event k.room)

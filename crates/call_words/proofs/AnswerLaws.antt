@@ -7,7 +7,7 @@ use mathlib.Core.List.{[], ◌∷◌, map}
 use lib.ListN.{length, length-map}
 use lib.Dec.{eqb, leb}
 use borrow.Author.Tests.{leb-true, ltb-false, eqb-true}
-use Rattle.records.specs.Numbers.{answer_reserve}
+use Rattle.records.specs.Numbers.{answer_successor}
 use Rattle.records.specs.Codes.{event_tick}
 use Rattle.lists.specs.Tests.{all_of, Cases, first, ◌is◌}
 use Rattle.lists.proofs.TestLaws.{and_left, and_right, cond_either}
@@ -29,7 +29,7 @@ use Rattle.call_words.specs.Answers.{StorableAnswer}
 
 -- the highest number of a refusal
 abbrev pub last_number : ℕ
-last_number = answer_reserve
+last_number = answer_successor
 
 pub record SmallAnswer (x : Answer) : Type 0 where
   pub number : x.number ≤ last_number

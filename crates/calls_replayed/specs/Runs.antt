@@ -40,7 +40,7 @@ CallsReplayed =
     (t u v : Tables) (w : List ℤ) → Gives (open_call t w) (pos 0) u [] → (run : Run u v) →
     let start : Replay = replay_start t w in
     let hs : List Report = run_reports run in
-    Demand3 (book_of v) start hs (replay start hs).entries
+    Demand3 (book_of v) start hs (replay start hs)
 
 -- and each call of such a run was lent the very list of holidays that the opening took: "that list itself stays as the book's fourth table"
 -- (document 02, No. 6)

@@ -1,3 +1,4 @@
 pub mod OpenLaws
 pub mod RequestLaws
 pub mod ReserveLaws
+pub mod SuccessorLaws

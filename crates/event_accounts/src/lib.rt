@@ -1,22 +1,23 @@
-// Events 1, 8 and 11, which change an account alone.
+// Events 1, 8, 11 and 12, which change an account alone.
 #![tactic(auto)]
 
 ghost use Rattle.std.specs.Prelude.{◌≡◌, true, Ok};
 ghost use Rattle.records.specs.Outcomes.{answer_of, number_by};
 ghost use Rattle.lists.specs.Tests.{first};
 ghost use Rattle.rules.specs.Book.{Book, account};
-ghost use Rattle.rules.specs.Tables.{sound_tables};
+ghost use Rattle.rules.specs.Tables.{book_of, sound_tables};
 ghost use Rattle.posting.specs.Posts.{PostsAny};
 ghost use Rattle.event_refusals.specs.Admissions.{Admitted, Names};
-ghost use Rattle.records.specs.Codes.{event_open, event_close_request, event_reserve};
-ghost use Rattle.event_accounts.specs.AccountEvents.{reserve_refusals};
+ghost use Rattle.records.specs.Codes.{event_open, event_close_request, event_reserve, event_successor};
+ghost use Rattle.event_accounts.specs.AccountEvents.{reserve_refusals, successor_refusals};
 ghost use Rattle.lent.specs.Lent.{lent_mut, SameTables};
 
 use event_ends::put_account;
 use lent::TablesMut;
-use records::codes::STATE_PENDING;
+use records::codes::{STATE_CLOSED, STATE_PENDING};
 use records::refusals::Refusal;
 use records::{Account, Instruction, Posting};
+use table_accounts::other_used;
 
 // Event 1: the account is opened. Admitted, it is not refused.
 pub fn open_account(t: &mut TablesMut, e: Instruction) -> Posting
@@ -70,4 +71,30 @@ pub fn set_reserve(t: &mut TablesMut, e: Instruction, x: Account) -> Result<Post
     check_reserve(e, x)?;
     let reserved = x.set_reserve(e.a);
     Ok(put_account(t, e, reserved, false))
+}
+
+// 18: the account is not closed, or the successor would be itself, unused or outside the table.
+fn check_successor(t: &TablesMut, e: Instruction, x: Account) -> Result<(), Refusal>
+    requires { Names (lent_mut t.now) e x }
+    ensures { number_by result ≡ first (successor_refusals (book_of (lent_mut t.now)) e) }
+{
+    let nameable = (x.state == STATE_CLOSED) & other_used(t.accounts, t.count(), e.account, e.a);
+    if !nameable {
+        return Err(Refusal::Successor);
+    }
+    Ok(())
+}
+
+// Event 12: the successor is named, in the place of one named before.
+pub fn set_successor(t: &mut TablesMut, e: Instruction, x: Account) -> Result<Posting, Refusal>
+    requires { (sound_tables (lent_mut t.old) ≡ true)
+        × (e.kind ≡ event_successor)
+        × Admitted (lent_mut t.old) e
+        × Names (lent_mut t.old) e x }
+    ensures same { SameTables t.old t.new }
+    ensures posts { PostsAny (lent_mut t.old) (lent_mut t.new) e (answer_of result) }
+{
+    check_successor(t, e, x)?;
+    let named = x.set_successor(e.a);
+    Ok(put_account(t, e, named, false))
 }

@@ -2,15 +2,15 @@
 #![tactic(auto)]
 
 ghost use Rattle.std.specs.Prelude.{◌≡◌};
-ghost use Rattle.rules.specs.Refusals.{zero_from-f, zero_from-c, open_form, toll_form, payment_form, return_form, dispute_form};
-ghost use Rattle.rules.specs.Refusals.{decision_form, result_form, request_form, tick_form, list_form, reserve_form, well_formed};
+ghost use Rattle.rules.specs.Refusals.{zero_from-f, zero_from-c, zero_from-b, open_form, toll_form, payment_form, return_form, dispute_form};
+ghost use Rattle.rules.specs.Refusals.{decision_form, result_form, request_form, tick_form, list_form, reserve_form, successor_form, well_formed};
 ghost use Rattle.rules.specs.Schedule.{rates_fit};
 ghost use Rattle.rules.specs.RateLists.{list_of};
 
 use records::Instruction;
 use records::codes::{
     CODE_YES, EVENT_CLOSE_REQUEST, EVENT_DECISION, EVENT_DISPUTE, EVENT_OPEN, EVENT_PAYMENT,
-    EVENT_RATE_LIST, EVENT_RESERVE, EVENT_RETURNED_CHECK, EVENT_TICK, EVENT_TOLL,
+    EVENT_RATE_LIST, EVENT_RESERVE, EVENT_RETURNED_CHECK, EVENT_SUCCESSOR, EVENT_TICK, EVENT_TOLL,
     EVENT_TOPUP_RESULT, METHOD_CARD, METHOD_CHECK, MODE_PLATE, MODE_TAG,
 };
 use records::limits::{
@@ -28,6 +28,12 @@ fn zero_from_c(e: Instruction) -> bool
     ensures { result ≡ zero_from-c e }
 {
     (e.c == 0) & (e.d == 0) & (e.e == 0) & zero_from_f(e)
+}
+
+fn zero_from_b(e: Instruction) -> bool
+    ensures { result ≡ zero_from-b e }
+{
+    (e.b == 0) & zero_from_c(e)
 }
 
 // Kept, here and below: a range is two comparisons; a library's range would take the number by reference and say no more.
@@ -65,7 +71,7 @@ fn return_form(e: Instruction) -> bool
 fn dispute_form(e: Instruction) -> bool
     ensures { result ≡ dispute_form e }
 {
-    (e.b == 0) & zero_from_c(e)
+    zero_from_b(e)
 }
 
 fn decision_form(e: Instruction) -> bool
@@ -83,13 +89,13 @@ fn result_form(e: Instruction) -> bool
 fn request_form(e: Instruction) -> bool
     ensures { result ≡ request_form e }
 {
-    (e.a == 0) & ((e.b == 0) & zero_from_c(e))
+    (e.a == 0) & zero_from_b(e)
 }
 
 fn tick_form(e: Instruction) -> bool
     ensures { result ≡ tick_form e }
 {
-    (e.account == 0) & ((e.a == 0) & ((e.b == 0) & zero_from_c(e)))
+    (e.account == 0) & ((e.a == 0) & zero_from_b(e))
 }
 
 // The six rates of a list, words b to g.
@@ -113,7 +119,13 @@ fn list_form(e: Instruction) -> bool
 fn reserve_form(e: Instruction) -> bool
     ensures { result ≡ reserve_form e }
 {
-    (e.a <= CODE_YES) & ((e.b == 0) & zero_from_c(e))
+    (e.a <= CODE_YES) & zero_from_b(e)
+}
+
+fn successor_form(e: Instruction) -> bool
+    ensures { result ≡ successor_form e }
+{
+    zero_from_b(e)
 }
 
 // The event has the words of its kind; a kind that is none of these has no form.
@@ -134,6 +146,7 @@ pub fn well_formed(e: Instruction) -> bool
         EVENT_TICK => tick_form(e),
         EVENT_RATE_LIST => list_form(e),
         EVENT_RESERVE => reserve_form(e),
+        EVENT_SUCCESSOR => successor_form(e),
         _ => false,
     }
 }

@@ -6,7 +6,6 @@ use Rattle.lists.specs.Tests.{◌is◌}
 use Rattle.lists.specs.Lists.{only, exists}
 use Rattle.rules.specs.Rows.{Test, toll, remaining, source_of, debit_of}
 use Rattle.rules.specs.Book.{Instruction, topup_due}
-use Rattle.rules.specs.Refusals.{posts_on}
 use Rattle.rules.specs.Tables.{Tables, rows_used, book_of}
 use Rattle.event_lookups.specs.declared.Lookup.{Lookup}
 
@@ -21,5 +20,5 @@ pub record LooksUp (t : Tables) (e : Instruction) (k : Lookup) : Type 0 where
   pub due : e.kind ≡ event_topup_result → k.due ≡ topup_due (book_of t) e.account
   pub source_in : k.source ≤ rows_used t
   pub debit-in : k.debit ≤ rows_used t
-  pub sources : NothingLeft (source_of (posts_on (book_of t) e)) t.journal k.source
-  pub debits : NothingLeft (debit_of (posts_on (book_of t) e)) t.journal k.debit
+  pub sources : NothingLeft (source_of e.account) t.journal k.source
+  pub debits : NothingLeft (debit_of e.account) t.journal k.debit

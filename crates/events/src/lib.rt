@@ -7,12 +7,14 @@ ghost use Rattle.records.specs.Outcomes.{answer_of};
 ghost use Rattle.rules.specs.Tables.{tables_with, sound_tables};
 ghost use Rattle.event_lookups.specs.Lookups.{LooksUp};
 ghost use Rattle.posting.specs.Posts.{Posts};
+ghost use Rattle.event_heirs.specs.Heirs.{Receives};
 ghost use Rattle.event_refusals.specs.Admissions.{Admitted, Names};
 ghost use Rattle.lent.specs.Lent.{lent_mut, SameTables};
 
-use event_accounts::{open_account, request_close, set_reserve};
+use event_accounts::{open_account, request_close, set_reserve, set_successor};
 use event_decision::decide;
 use event_dispute::hold_toll;
+use event_heirs::forward;
 use event_list::add_list;
 use event_lookups::{Lookup, look_up};
 use event_payment::post_payment;
@@ -24,14 +26,15 @@ use event_topup::topup_result;
 use lent::TablesMut;
 use records::codes::{
     EVENT_CLOSE_REQUEST, EVENT_DECISION, EVENT_DISPUTE, EVENT_OPEN, EVENT_PAYMENT, EVENT_RATE_LIST,
-    EVENT_RESERVE, EVENT_RETURNED_CHECK, EVENT_TICK, EVENT_TOLL, EVENT_TOPUP_RESULT,
+    EVENT_RESERVE, EVENT_RETURNED_CHECK, EVENT_SUCCESSOR, EVENT_TICK, EVENT_TOLL,
+    EVENT_TOPUP_RESULT,
 };
 use records::refusals::Refusal;
 use records::{Account, Instruction, Posting};
 
 // An admitted event, of the account x and with what has been looked up for it. No other kind is admitted. The tick alone reads the
 // holidays.
-// Kept: the three go on one by one, since three of the eleven functions take them all, and each asks for no more than it uses; so do the
+// Kept: the three go on one by one, since three of the twelve functions take them all, and each asks for no more than it uses; so do the
 // facts of them (Admitted, Names, LooksUp), which are about the tables too.
 pub fn post_admitted(
     t: &mut TablesMut,
@@ -64,19 +67,21 @@ pub fn post_admitted(
         EVENT_TICK => tick(t, holidays, e),
         EVENT_RATE_LIST => Ok(add_list(t, e)),
         EVENT_RESERVE => set_reserve(t, e, x),
+        EVENT_SUCCESSOR => set_successor(t, e, x),
         _ => Err(Refusal::Malformed),
     }
 }
 
-// One event by itself: only where it is admitted is the journal searched for it.
+// One event by itself, on the account that takes it: only where it is admitted is the journal searched for it.
 pub fn post_event(t: &mut TablesMut, holidays: &[i64], e: Instruction) -> Result<Posting, Refusal>
     requires { sound_tables (tables_with holidays.now (lent_mut t.old)) ≡ true }
     ensures same { SameTables t.old t.new }
-    ensures posts { Posts (tables_with holidays.now (lent_mut t.old))
+    ensures posts { Receives (tables_with holidays.now (lent_mut t.old))
         (tables_with holidays.now (lent_mut t.new))
         e
         (answer_of result) }
 {
+    let e = forward(t, e);
     let x = admit(t, e)?;
     let k = look_up(t, e);
     post_admitted(t, holidays, e, x, k)

@@ -12,7 +12,8 @@ use Rattle.records.specs.Encoding.{instruction_from}
 use Rattle.lists.specs.Tests.{◌is◌, first}
 use Rattle.decimal.specs.Decimal.{is_numbers, numbers_of}
 use Rattle.rules.specs.Book.{Book, Instruction, Answer}
-use Rattle.rules.specs.Posting.{post}
+use Rattle.rules.specs.Successors.{forwarded}
+use Rattle.rules.specs.Posting.{receive}
 use Rattle.rules.specs.Tables.{Tables, book_of, tables_of, whole_records, lengths_fit, sound_tables}
 use Rattle.rules.specs.Calls.{Gives, opening_refusals, opened_book, open_call}
 use Rattle.rules.proofs.SoundnessLaws.{facts-sound}
@@ -20,7 +21,7 @@ use Rattle.rules.proofs.TableLaws.{sound-book, sound_tables-tables_of}
 use Rattle.rules.proofs.OpeningLaws.{open_call-sound, book_of-open_call}
 use Rattle.preservation.proofs.SoundKept.{post-keeps-sound}
 use Rattle.preservation.proofs.CallsKept.{book_of-sound}
-use Rattle.posting.specs.Posts.{Posts}
+use Rattle.event_heirs.specs.Heirs.{Receives}
 use Rattle.listing_rules.specs.Texts.{bad_line, same, opening_names, event_names, answer_text}
 use Rattle.listing_rules.specs.Listing.{listed_accounts, listed_rows, listing_tables, opens, is_good, posted, book_by, good_text}
 use Rattle.listing_rules.specs.Sizes.{most_answer_bytes, most_bad_line_bytes}
@@ -218,14 +219,14 @@ module _ (l : List ℕ) where
   event-good (suc (suc zero)) h = absurd (omega arith)
   event-good (suc (suc (suc n))) h = refl
 
-  pub event-text : (n : ℕ) (b : Book) → 3 ≤ n → good_text n b l ≡ answer_text (n - 2) (post b (instruction_from (numbers_of l))).answer
+  pub event-text : (n : ℕ) (b : Book) → 3 ≤ n → good_text n b l ≡ answer_text (n - 2) (receive b (instruction_from (numbers_of l))).answer
   unfolding good_text posted
   event-text zero b h = absurd (omega arith)
   event-text (suc zero) b h = absurd (omega arith)
   event-text (suc (suc zero)) b h = absurd (omega arith)
   event-text (suc (suc (suc n))) b h = refl
 
-  event-book : (n : ℕ) (b : Book) → 3 ≤ n → book_by n b l ≡ (post b (instruction_from (numbers_of l))).book
+  event-book : (n : ℕ) (b : Book) → 3 ≤ n → book_by n b l ≡ (receive b (instruction_from (numbers_of l))).book
   unfolding book_by posted
   event-book zero b h = absurd (omega arith)
   event-book (suc zero) b h = absurd (omega arith)
@@ -234,16 +235,16 @@ module _ (l : List ℕ) where
 
 -- an event line's event is posted on sound tables
 module _ (n : ℕ) (t u : Tables) (l : List ℕ) (w : List ℤ) (e : Instruction) (a : Answer) (h : 3 ≤ n) (s : sound_tables t ≡ true) (v : w ≡ numbers_of l)
-    (i : e ≡ instruction_from w) (p : Posts t u e a) where
-  book-kept : sound_tables (tables_of (post (book_of t) e).book) ≡ true
-  book-kept = sound_tables-tables_of _ (post-keeps-sound (book_of t) e (facts-sound (book_of t) (sound-book t s)))
+    (i : e ≡ instruction_from w) (p : Receives t u e a) where
+  book-kept : sound_tables (tables_of (receive (book_of t) e).book) ≡ true
+  book-kept = sound_tables-tables_of _ (post-keeps-sound (book_of t) (forwarded (book_of t) e) (facts-sound (book_of t) (sound-book t s)))
 
   pub posted-text : answer_text (n - 2) a ≡ good_text n (book_of t) l
   posted-text = ap (answer_text (n - 2)) p.answer ∙ rw (i, v) (sym (event-text l n (book_of t) h))
 
   pub posted-book : book_of u ≡ book_by n (book_of t) l
   posted-book =
-      ap book_of p.tables ∙ book_of-sound _ (post-keeps-sound (book_of t) e (facts-sound (book_of t) (sound-book t s))) ∙ rw (i, v) (sym (event-book l n (book_of t) h))
+      ap book_of p.tables ∙ book_of-sound _ (post-keeps-sound (book_of t) (forwarded (book_of t) e) (facts-sound (book_of t) (sound-book t s))) ∙ rw (i, v) (sym (event-book l n (book_of t) h))
 
   pub posted-sound : sound_tables u ≡ true
   posted-sound = rw p.tables book-kept

@@ -5,7 +5,7 @@ use Rattle.records.specs.Encoding.{instruction_from}
 use Rattle.lists.specs.Tests.{◌is◌, first}
 use Rattle.decimal.specs.Decimal.{is_numbers, numbers_of}
 use Rattle.rules.specs.Book.{Book}
-use Rattle.rules.specs.Posting.{Posted, post}
+use Rattle.rules.specs.Posting.{Posted, receive}
 use Rattle.rules.specs.Tables.{Tables, book_of}
 use Rattle.rules.specs.Calls.{opening_refusals, opened_book}
 use Rattle.listing_rules.specs.Texts.{bytes_of, same, lines_of, opening_names, event_names, line, answer_text, book_text, bad_line}
@@ -43,7 +43,7 @@ is_good n l = get_or (same l opening_names ∷ opens l ∷ same l event_names �
 
 -- the event of a line, posted
 unfoldable pub posted : Book → List ℕ → Posted
-posted b l = post b (instruction_from (numbers_of l))
+posted b l = receive b (instruction_from (numbers_of l))
 
 -- the book after a good line: line 2 opens it, an event line posts to it
 unfoldable pub book_by : ℕ → Book → List ℕ → Book

@@ -92,10 +92,14 @@ module _ {A B : Type 0} {R : A → B → Type 0} where
   pairs-one true x y q = more (q refl) none
   pairs-one false x y q = none
 
-  pub pairs-change-left : (f : ℕ → A → A) → ((n : ℕ) (x : A) (y : B) → R x y → R (f n x) y) → (i : ℕ) {xs : List A} {ys : List B} → Pairs R xs ys → Pairs R (change_from f i xs) ys
+  -- each element changed, its number in view
+  pub pairs-change : (f : ℕ → A → A) (g : ℕ → B → B) (d : A) (e : B) (i : ℕ) {xs : List A} {ys : List B} → Pairs R xs ys
+      → ((k n : ℕ) → n ≡ i + k → k < length xs → R (get_or xs k d) (get_or ys k e) → R (f n (get_or xs k d)) (g n (get_or ys k e)))
+      → Pairs R (change_from f i xs) (change_from g i ys)
   unfolding change_from
-  pairs-change-left f h i none = none
-  pairs-change-left f h i (more {x} {y} r p) = more (h i x y r) (pairs-change-left f h (i + 1) p)
+  pairs-change f g d e i none h = none
+  pairs-change f g d e i (more r p) h =
+      more (h 0 i (omega arith) (omega arith) r) (pairs-change f g d e (i + 1) p (λ k n q l s. h (suc k) n (omega arith) (omega arith) s))
 
 module _ {A B C D : Type 0} {S : C → D → Type 0} where
   -- what each element adds

@@ -37,7 +37,7 @@ not-below (pos n) h = le-ltb n 0 (omega arith)
 not-below (negsuc n) h = absurd (omega arith)
 
 -- a test that two pass only where they are one does not tell them apart
-same_test : {A : Type 0} (t : A → Bool) (a b : A) → (t a ≡ true → a ≡ b) → (t b ≡ true → a ≡ b) → t a ≡ t b
+pub same_test : {A : Type 0} (t : A → Bool) (a b : A) → (t a ≡ true → a ≡ b) → (t b ≡ true → a ≡ b) → t a ≡ t b
 same_test t a b f g = go (t a) (t b) refl refl
   where
     go : (x y : Bool) → t a ≡ x → t b ≡ y → x ≡ y

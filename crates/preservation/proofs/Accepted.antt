@@ -3,9 +3,9 @@ use mathlib.Core.Path.{◌≡◌, refl}
 use mathlib.Core.Bool.{false, not}
 use Prim.Native.Nat.{ℕ}
 use Rattle.lists.proofs.TestLaws.{positive, case_of, first-zero}
-use Rattle.records.specs.Numbers.{answer_malformed, answer_unknown, answer_taken, answer_closed, answer_unclassed, answer_misdated, answer_duplicate, answer_barred, answer_no_row, answer_untimely, answer_last_day, answer_full, answer_ceiling, answer_list_refused, answer_reserve}
+use Rattle.records.specs.Numbers.{answer_malformed, answer_unknown, answer_taken, answer_closed, answer_unclassed, answer_misdated, answer_duplicate, answer_barred, answer_no_row, answer_untimely, answer_last_day, answer_full, answer_ceiling, answer_list_refused, answer_reserve, answer_successor}
 use Rattle.rules.specs.Book.{Instruction, Book}
-use Rattle.rules.specs.Refusals.{well_formed, list_refused, unknown, taken, on_closed, unclassed, misdated, duplicate, barred, no_row, untimely, reserve_refused, last_day, full, ceiling, refusals, answer_number}
+use Rattle.rules.specs.Refusals.{well_formed, list_refused, unknown, taken, on_closed, successor_refused, unclassed, misdated, duplicate, barred, no_row, untimely, reserve_refused, last_day, full, ceiling, refusals, answer_number}
 
 pub record Accepted (b : Book) (e : Instruction) : Type 0 where
   pub formed : not (well_formed e) ≡ false
@@ -13,6 +13,7 @@ pub record Accepted (b : Book) (e : Instruction) : Type 0 where
   pub known : unknown b e ≡ false
   pub free : taken b e ≡ false
   pub unclosed : on_closed b e ≡ false
+  pub nameable : successor_refused b e ≡ false
   pub classed : unclassed b e ≡ false
   pub dated : misdated b e ≡ false
   pub new : duplicate b e ≡ false
@@ -34,6 +35,7 @@ accepted b e q =
       known = fails answer_unknown;
       free = fails answer_taken;
       unclosed = fails answer_closed;
+      nameable = fails answer_successor;
       classed = fails answer_unclassed;
       dated = fails answer_misdated;
       new = fails answer_duplicate;

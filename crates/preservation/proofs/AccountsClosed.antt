@@ -10,7 +10,7 @@ use lib.Dec.{eqb, leb, ltb}
 use borrow.Author.Tests.{le-leb, eq-eqb}
 use Rattle.records.specs.AccountOperations.{closed}
 use Rattle.lists.specs.Lists.{count, one, change}
-use Rattle.lists.proofs.TestLaws.{and_left, and_both}
+use Rattle.lists.proofs.TestLaws.{and_left, and_both, cond_either}
 use Rattle.lists.proofs.GatherLaws.{gather-each, length-change, change-at, grown-each}
 use Rattle.records.specs.Limits.{final_day, highest_refund}
 use Rattle.rules.specs.Rows.{Row, Test, kind_refund, blank, new_row, with_settled, settle_whole, source, fee_naming}
@@ -18,8 +18,9 @@ use Rattle.rules.specs.Settlement.{money}
 use Rattle.rules.specs.Book.{Account, unused, Book, account, account_no}
 use Rattle.rules.specs.Opening.{day_fits}
 use Rattle.rules.specs.Tick.{closes, close_if, refund_row, use_up, close_accounts}
-use Rattle.rules.specs.Soundness.{kind_fits, most_of, amount_fits, settled_fits, mark_fits, toll_words_fit, no_reference, row_day_fits, due_within, hold_fits, account_used, names, reference_fits, passage, passage_once, fees_fit}
+use Rattle.rules.specs.Soundness.{kind_fits, most_of, amount_fits, settled_fits, mark_fits, toll_words_fit, no_reference, row_day_fits, due_within, hold_fits, account_used, names, reference_fits, passage, passage_once, fees_fit, successor_fits}
 use Rattle.rules.specs.SoundFacts.{Shape, Live, Near}
+use Rattle.preservation.proofs.KeepingLaws.{successor-kept}
 use Rattle.preservation.proofs.CarriedLaws.{carries-grown, reference-carried}
 use Rattle.rules.proofs.StorableLaws.{settled-le}
 use Rattle.preservation.proofs.ClosingLaws.{whole-live, keeps, up-blank, refunds, refund, same-closed, rows', closing, counted-closed, standing-closed}
@@ -45,6 +46,13 @@ module _ (b : Book) where
           let p : length b.accounts ≤ k = omega arith in
           let q : length accounts' ≤ k = rw (length-change (close_if b) 1 b.accounts) p in
           rw (get_or-eq_default accounts' unused q, get_or-eq_default b.accounts unused p)
+
+  successor-closed : (fits : (i : ℕ) → (get_or b.rows i blank).settled ≤ (get_or b.rows i blank).amount) (n : ℕ) (x : Account)
+      → successor_fits b.accounts n x ≡ true → successor_fits accounts' n (close_if b n x) ≡ true
+  unfolding close_if successor_fits
+  successor-closed fits n x e =
+      let kept : successor_fits accounts' n x ≡ true = successor-kept b.accounts accounts' (λ a u. rw (state-of fits a) u) n x e in
+      cond_either (λ (y : Account). successor_fits accounts' n y ≡ true) (closes b n x) (closed x) x kept kept
 
   -- ---- rows
 
@@ -145,6 +153,9 @@ module _ (b : Book) where
         standing = λ k h.
             let l : k < length b.accounts = rw la at h in
             rw (change-at (close_if b) 1 b.accounts unused k (suc k) (omega arith) l) (standing-closed b fits k l (n.standing k l));
+        successors = λ k h.
+            let l : k < length b.accounts = rw la at h in
+            rw (change-at (close_if b) 1 b.accounts unused k (suc k) (omega arith) l) (successor-closed fits (suc k) (get_or b.accounts k unused) (n.successors k l));
         counted = λ k h.
             let l : k < length b.accounts = rw la at h in
             rw (change-at (close_if b) 1 b.accounts unused k (suc k) (omega arith) l) (counted-closed b fits k l (n.counted k l));

@@ -14,7 +14,8 @@ use Rattle.lists.proofs.TestLaws.{all_of-at}
 use Rattle.records.specs.Limits.{most_events}
 use Rattle.rules.specs.Book.{Instruction, Book}
 use Rattle.rules.specs.Soundness.{sound}
-use Rattle.rules.specs.Posting.{post, book_after}
+use Rattle.rules.specs.Successors.{forwarded}
+use Rattle.rules.specs.Posting.{receive, book_after}
 use Rattle.rules.specs.Tables.{Tables, book_of, tables_of, lengths_fit, used_fits, later_rows_zero, unused_lists_zero, sound_tables}
 use Rattle.rules.specs.Calls.{Event, event_refusals, event_call, batch_refusals, batch_call}
 use Rattle.rules.proofs.SoundnessLaws.{sound-facts}
@@ -35,11 +36,11 @@ book_of-sound b s = book_of-tables_of b (sound-facts b s).near
 -- ---- a single event
 
 module _ (t : Tables) (e answers : List ℤ) (s : sound_tables t ≡ true) where
-  after-book : sound (post (book_of t) (instruction_from e)).book ≡ true
-  after-book = post-keeps-sound (book_of t) (instruction_from e) (book-sound t s)
+  after-book : sound (receive (book_of t) (instruction_from e)).book ≡ true
+  after-book = post-keeps-sound (book_of t) (forwarded (book_of t) (instruction_from e)) (book-sound t s)
 
   -- where the call's number is 0, the event was posted
-  posted : (event_call t e answers).number ≡ 0 → (event_call t e answers).tables ≡ tables_of (post (book_of t) (instruction_from e)).book
+  posted : (event_call t e answers).number ≡ 0 → (event_call t e answers).tables ≡ tables_of (receive (book_of t) (instruction_from e)).book
   unfolding event_call
   posted q = rw q
 
@@ -47,23 +48,23 @@ module _ (t : Tables) (e answers : List ℤ) (s : sound_tables t ≡ true) where
   event_call-keeps-sound = go (eqb (event_call t e answers).number 0) refl
     where
       go : (v : Bool) → eqb (event_call t e answers).number 0 ≡ v → sound_tables (event_call t e answers).tables ≡ true
-      go true q = rw (posted (eqb-true (event_call t e answers).number 0 q)) (sound_tables-tables_of (post (book_of t) (instruction_from e)).book after-book)
+      go true q = rw (posted (eqb-true (event_call t e answers).number 0 q)) (sound_tables-tables_of (receive (book_of t) (instruction_from e)).book after-book)
       go false q = rw (event_call-refused-tables t e answers q) s
 
   -- the book afterwards, where the event and the answer table have the right lengths
-  pub book_of-event_call : length e ≡ event_width → answer_width ≤ length answers → book_of (event_call t e answers).tables ≡ (post (book_of t) (instruction_from e)).book
-  book_of-event_call w a = go (eqb (post (book_of t) (instruction_from e)).answer.number 0) refl
+  pub book_of-event_call : length e ≡ event_width → answer_width ≤ length answers → book_of (event_call t e answers).tables ≡ (receive (book_of t) (instruction_from e)).book
+  book_of-event_call w a = go (eqb (receive (book_of t) (instruction_from e)).answer.number 0) refl
     where
       runs : first (event_refusals t e answers) ≡ 0
       runs = unfold event_refusals first in rw (s, eq-eqb (length e) event_width w, le-ltb (length answers) answer_width a)
 
-      number : (event_call t e answers).number ≡ (post (book_of t) (instruction_from e)).answer.number
+      number : (event_call t e answers).number ≡ (receive (book_of t) (instruction_from e)).answer.number
       number = unfold event_call in rw runs
 
-      go : (v : Bool) → eqb (post (book_of t) (instruction_from e)).answer.number 0 ≡ v → book_of (event_call t e answers).tables ≡ (post (book_of t) (instruction_from e)).book
-      go true q = rw (posted (number ∙ eqb-true _ 0 q)) (book_of-sound (post (book_of t) (instruction_from e)).book after-book)
+      go : (v : Bool) → eqb (receive (book_of t) (instruction_from e)).answer.number 0 ≡ v → book_of (event_call t e answers).tables ≡ (receive (book_of t) (instruction_from e)).book
+      go true q = rw (posted (number ∙ eqb-true _ 0 q)) (book_of-sound (receive (book_of t) (instruction_from e)).book after-book)
       go false q =
-          rw (event_call-refused-tables t e answers (ap (λ (n : ℕ). eqb n 0) number ∙ q), post-refused (book_of t) (instruction_from e) (sym (post-number (book_of t) (instruction_from e)) ∙ q))
+          rw (event_call-refused-tables t e answers (ap (λ (n : ℕ). eqb n 0) number ∙ q), post-refused (book_of t) (forwarded (book_of t) (instruction_from e)) (sym (post-number (book_of t) (forwarded (book_of t) (instruction_from e))) ∙ q))
 
 -- ---- a batch
 

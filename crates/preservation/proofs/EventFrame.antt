@@ -10,11 +10,11 @@ use lib.Seq.{get_or-set_other}
 use lib.Dec.{eqb}
 use Rattle.records.specs.Updates.{of_kind, on_row}
 use Rattle.records.specs.Codes.{kind_toll, kind_payment, method_check_returned, event_returned_check, event_dispute, event_decision, event_topup_result, event_tick}
-use Rattle.records.specs.AccountOperations.{opened, check_returned, declined_on, topup_paid, close_requested_on, reserve_set}
+use Rattle.records.specs.AccountOperations.{opened, check_returned, declined_on, topup_paid, close_requested_on, reserve_set, successor_set}
 use Rattle.lists.specs.Tests.{◌from◌to◌}
 use Rattle.rules.specs.Rows.{Row, with_mark}
 use Rattle.rules.specs.Book.{Account, unused, Instruction, Book, account, account_no, row, put_account}
-use Rattle.rules.specs.Events.{open_account, post_toll, post_payment, return_check, hold_from, hold_toll, release, uphold, reject, decide, pay_topup, decline_topup, topup_result, request_close, add_list, set_reserve}
+use Rattle.rules.specs.Events.{open_account, post_toll, post_payment, return_check, hold_from, hold_toll, release, uphold, reject, decide, pay_topup, decline_topup, topup_result, request_close, add_list, set_reserve, set_successor}
 use Rattle.rules.specs.Refusals.{change_of, unknown, no_row}
 use Rattle.rules.specs.SoundFacts.{Near}
 use Rattle.rules.proofs.KindLaws.{by_kind}
@@ -95,7 +95,7 @@ topup-others b e = go (eqb e.b 1)
 -- an event but a tick changes rows of its own account alone
 pub change-others : (b : Book) (e : Instruction) (k : ℕ) → Near b.day b → k ≢ event_tick → Accepted b (of_kind k e)
     → Others e.account b.rows (change_of k b (of_kind k e)).rows
-unfolding change_of open_account post_toll post_payment request_close add_list set_reserve
+unfolding change_of open_account post_toll post_payment request_close add_list set_reserve set_successor
 change-others b e k s ne q =
     let n : ℕ = e.account in
     by_kind (λ k. k ≢ event_tick → Accepted b (of_kind k e) → Others n b.rows (change_of k b (of_kind k e)).rows)
@@ -111,6 +111,7 @@ change-others b e k s ne q =
       tick = λ ne q. absurd (ne refl);
       rate-list = λ ne q. others_same n b.rows;
       reserve = λ ne q. others_same n b.rows;
+      successor = λ ne q. others_same n b.rows;
       none = λ ne q. others_same n b.rows;
       past = λ k ne q. others_same n b.rows;
     }) k ne q
@@ -136,7 +137,7 @@ topup-account b e i ne q = go (eqb e.b 1)
 -- an event but a tick changes no account but its own
 pub change-account : (b : Book) (e : Instruction) (k : ℕ) → k ≢ event_tick → Accepted b (of_kind k e) → (i : ℕ) → i ≢ e.account
     → account (change_of k b (of_kind k e)) i ≡ account b i
-unfolding change_of open_account post_toll post_payment return_check hold_toll request_close add_list set_reserve unknown
+unfolding change_of open_account post_toll post_payment return_check hold_toll request_close add_list set_reserve set_successor unknown
 change-account b e k ne q i w =
     let n : ℕ = e.account in
     by_kind (λ k. k ≢ event_tick → Accepted b (of_kind k e) → account (change_of k b (of_kind k e)) i ≡ account b i)
@@ -152,6 +153,7 @@ change-account b e k ne q i w =
       tick = λ ne q. absurd (ne refl);
       rate-list = λ ne q. refl;
       reserve = λ ne q. put-account b n i (reserve_set e.a (account b n)) _ q.known w;
+      successor = λ ne q. put-account b n i (successor_set e.a (account b n)) _ q.known w;
       none = λ ne q. refl;
       past = λ k ne q. refl;
     }) k ne q

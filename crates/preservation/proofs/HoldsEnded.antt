@@ -142,7 +142,7 @@ end_holds-near b s ne =
     (and_both _ _ (le-leb 1 (b.day + 1) (omega arith)) (le-leb (b.day + 1) final_day (omega arith))) s.schedule s.lists s.holidays s.sizes s.fits
     (λ k l. shape-end_hold (b.day + 1) b.accounts b.rows (suc k) (get_or b.rows k blank) (shape-later b.day b.accounts b.rows (suc k) (get_or b.rows k blank) (s.shape k l)))
     (λ k l. live-end_hold b.day b.schedule.stage (get_or b.rows k blank) (s.live k l))
-    (λ k h. standing-later b.day (get_or b.accounts k unused) (s.standing k h)))
+    (λ k h. standing-later b.day (get_or b.accounts k unused) (s.standing k h)) s.successors)
     (λ k h. counted-map f same b.rows (suc k) (get_or b.accounts k unused) (s.counted k h))
 
 pub before_raising-near : (b : Book) → Near b.day b → b.day ≢ final_day → Near b.day (before_raising b)

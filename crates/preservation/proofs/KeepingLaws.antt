@@ -1,6 +1,6 @@
 -- A row added, a row changed and accounts changed keep a book nearly sound: the generic laws behind the events.
 use mathlib.Core.Path.{◌≡◌, refl, sym, ap, ◌∙◌}
-use mathlib.Core.Bool.{Bool, true, false, not, cond}
+use mathlib.Core.Bool.{Bool, true, false, not, cond, ◌&&◌, ◌||◌}
 use Prim.Native.Nat.{ℕ, zero, suc, ◌-◌, ◌≤◌, ◌<◌}
 use native.Mathlib.Nat.{add-zero}
 use native.Mathlib.Omega.{arith}
@@ -12,7 +12,7 @@ use lib.Dec.{eqb, leb}
 use borrow.Author.Tests.{le-leb, eqb-true}
 use Rattle.lists.specs.Tests.{◌implies◌}
 use Rattle.lists.specs.Lists.{sum_by, only, count}
-use Rattle.lists.proofs.TestLaws.{cond-zero}
+use Rattle.lists.proofs.TestLaws.{and_left, and_right, and_both, cond-zero}
 use Rattle.lists.proofs.SumLaws.{sum_by-snoc, sum_by-set-same, sum_by-map, sum_by-ext}
 use Rattle.rules.specs.Schedule.{schedule_fits}
 use Rattle.rules.specs.RateLists.{lists_fit}
@@ -20,8 +20,9 @@ use Rattle.rules.specs.BusinessDays.{holidays_fit}
 use Rattle.rules.specs.Rows.{Row, Test, blank, toll, remaining, with_due, with_dispute, with_hold_start, fee_naming, source_of, debit_of}
 use Rattle.rules.specs.Settlement.{money, used, paid, owed}
 use Rattle.rules.specs.Book.{Account, unused, Book, with_rows, with_accounts, add_row, account_no}
+use Rattle.rules.specs.Successors.{other_used}
 use Rattle.rules.specs.Opening.{day_fits, sizes_fit}
-use Rattle.rules.specs.Soundness.{account_used, passage, passage_once, fees_fit, returned_of, returned_fits, used_is_paid, closed_clear}
+use Rattle.rules.specs.Soundness.{account_used, passage, passage_once, fees_fit, successor_fits, returned_of, returned_fits, used_is_paid, closed_clear}
 use Rattle.rules.specs.SoundFacts.{Shape, Live, Standing, SumsFit, Near}
 use Rattle.preservation.proofs.CarriedLaws.{carries-map, carries-append, carries-set, shape-carried}
 use Rattle.lists.proofs.ListLaws.{map_at}
@@ -38,6 +39,7 @@ pub record Framed (past : ℕ) (b : Book) : Type 0 where
   pub shape : (k : ℕ) → k < length b.rows → Shape b.day b.accounts b.rows (suc k) (get_or b.rows k blank)
   pub live : (k : ℕ) → k < length b.rows → Live past b.day b.schedule.stage (get_or b.rows k blank)
   pub standing : (k : ℕ) → k < length b.accounts → Standing b.day (get_or b.accounts k unused)
+  pub successors : (k : ℕ) → k < length b.accounts → successor_fits b.accounts (suc k) (get_or b.accounts k unused) ≡ true
 
 pub near-framed : (past : ℕ) (b : Book) → Near past b → Framed past b
 near-framed past b s = record {
@@ -50,6 +52,7 @@ near-framed past b s = record {
   shape = s.shape;
   live = s.live;
   standing = s.standing;
+  successors = s.successors;
 }
 
 pub framed-near : (past : ℕ) (b : Book) → Framed past b → ((k : ℕ) → k < length b.accounts → SumsFit b.rows (suc k) (get_or b.accounts k unused)) → Near past b
@@ -63,6 +66,7 @@ framed-near past b s c = record {
   shape = s.shape;
   live = s.live;
   standing = s.standing;
+  successors = s.successors;
   counted = c;
 }
 
@@ -134,6 +138,7 @@ framed-add past b r s h p w v =
           (λ q. rw q w);
       live = λ k l. grown-row rows r k (λ x. Live past b.day b.schedule.stage x) l (λ q. s.live k q) (λ q. v);
       standing = s.standing;
+      successors = s.successors;
     }
 
 -- the sums of an account where the new row is unsettled, no returned check, and of an account that is not closed
@@ -168,14 +173,33 @@ near-add-quiet past b r s h p q w v =
 
 -- ---- accounts changed
 
--- accounts that are used stay used, and each stands by itself
+-- accounts that are used stay so
+abbrev pub StillUsed : List Account → List Account → Type 0
+StillUsed xs ys = (a : ℕ) → not (eqb (account_no xs a).state 0) ≡ true → not (eqb (account_no ys a).state 0) ≡ true
+
+-- accounts that are used stay so, and each stands by itself and has a successor that fits
 pub record Kept (today : ℕ) (xs ys : List Account) : Type 0 where
   pub size : length ys ≡ length xs
-  pub used : (a : ℕ) → not (eqb (account_no xs a).state 0) ≡ true → not (eqb (account_no ys a).state 0) ≡ true
+  pub used : StillUsed xs ys
   pub standing : (k : ℕ) → k < length ys → Standing today (get_or ys k unused)
+  pub successors : (k : ℕ) → k < length ys → successor_fits ys (suc k) (get_or ys k unused) ≡ true
 
 pub kept_same : (past : ℕ) (b : Book) → Framed past b → Kept b.day b.accounts b.accounts
-kept_same past b s = record { size = refl; used = λ a e. e; standing = s.standing }
+kept_same past b s = record { size = refl; used = λ a e. e; standing = s.standing; successors = s.successors }
+
+-- a successor fits while used accounts stay used
+pub successor-kept : (xs ys : List Account) → StillUsed xs ys → (n : ℕ) (x : Account) → successor_fits xs n x ≡ true → successor_fits ys n x ≡ true
+unfolding successor_fits other_used
+successor-kept xs ys u n x = go (eqb x.successor 0)
+  where
+    other : Bool
+    other = not (eqb x.successor n)
+
+    go : (t : Bool) → t || other && not (eqb (account_no xs x.successor).state 0) ≡ true → t || other && not (eqb (account_no ys x.successor).state 0) ≡ true
+    go true e = refl
+    go false e =
+        let used : Bool = not (eqb (account_no xs x.successor).state 0) in
+        and_both other (not (eqb (account_no ys x.successor).state 0)) (and_left other used e) (u x.successor (and_right other used e))
 
 -- the property of each account where one is another
 pub set-account : (xs : List Account) (k : ℕ) (x : Account) → k < length xs → (i : ℕ) (P : Account → Type 0) → (i ≡ k → P x) → P (get_or xs i unused) → P (get_or (set xs k x) i unused)
@@ -186,14 +210,17 @@ set-account xs k x l i P p q = go (ℕ_discrete i k)
     go (no e) = rw (get_or-set_other xs k i x unused e) q
 
 pub kept_set : (past : ℕ) (b : Book) (k : ℕ) (x : Account) → Near past b → k < length b.accounts → eqb x.state 0 ≡ false → Standing b.day x
-    → Kept b.day b.accounts (set b.accounts k x)
-kept_set past b k x n l z s = record {
+    → successor_fits b.accounts (suc k) x ≡ true → Kept b.day b.accounts (set b.accounts k x)
+kept_set past b k x n l z s f = record {
   size = length-set b.accounts k x;
   used = still;
   standing = λ i h. set-account b.accounts k x l i (Standing b.day) (λ e. s) (n.standing i (rw (length-set b.accounts k x) at h));
+  successors = λ i h. set-account b.accounts k x l i (λ y. successor_fits (set b.accounts k x) (suc i) y ≡ true)
+      (λ e. rw e (successor-kept b.accounts (set b.accounts k x) still (suc k) x f))
+      (successor-kept b.accounts (set b.accounts k x) still (suc i) (get_or b.accounts i unused) (n.successors i (rw (length-set b.accounts k x) at h)));
 }
   where
-    still : (a : ℕ) → not (eqb (account_no b.accounts a).state 0) ≡ true → not (eqb (account_no (set b.accounts k x) a).state 0) ≡ true
+    still : StillUsed b.accounts (set b.accounts k x)
     still zero e = e
     still (suc i) e = set-account b.accounts k x l i (λ y. not (eqb y.state 0) ≡ true) (λ q. rw z) e
 
@@ -226,14 +253,15 @@ near-accounts past b xs n m c = record {
   shape = λ i h. shape-accounts b.day b.accounts xs b.rows (suc i) (get_or b.rows i blank) m (n.shape i h);
   live = n.live;
   standing = m.standing;
+  successors = m.successors;
   counted = c;
 }
 
 -- one account changed
 pub near-account : (past : ℕ) (b : Book) (k : ℕ) (x : Account) → Near past b → k < length b.accounts → eqb x.state 0 ≡ false
-    → Standing b.day x → SumsFit b.rows (suc k) x → Near past (with_accounts (set b.accounts k x) b)
-near-account past b k x n l z s c =
-    near-accounts past b (set b.accounts k x) n (kept_set past b k x n l z s)
+    → Standing b.day x → successor_fits b.accounts (suc k) x ≡ true → SumsFit b.rows (suc k) x → Near past (with_accounts (set b.accounts k x) b)
+near-account past b k x n l z s f c =
+    near-accounts past b (set b.accounts k x) n (kept_set past b k x n l z s f)
     (λ i h. set-account b.accounts k x l i (SumsFit b.rows (suc i)) (λ e. rw e c) (n.counted i (rw (length-set b.accounts k x) at h)))
 
 -- ---- a row changed, and accounts with it
@@ -291,6 +319,7 @@ framed-put past b xs j r s h same m w v =
           (λ q. rw q (shape-accounts b.day b.accounts xs (set rows j r) (suc j) r m (shape-put rows j r same b.day b.accounts (suc j) r (omega arith) w)));
       live = λ k l. set-row rows j r h k (λ x. Live past b.day b.schedule.stage x) (s.live k (rw (length-set b.rows j r) at l)) (λ q. v);
       standing = m.standing;
+      successors = m.successors;
     }
 
 -- a row changed in its due day, dispute and hold alone
@@ -325,8 +354,9 @@ pub framed-map : (past : ℕ) (b : Book) (f : Row → Row) → f blank ≡ blank
     → holidays_fit b.holidays ≡ true → sizes_fit (length b.accounts) b.room ≡ true → leb (length b.rows) b.room ≡ true
     → ((k : ℕ) → k < length b.rows → Shape b.day b.accounts b.rows (suc k) (f (get_or b.rows k blank)))
     → ((k : ℕ) → k < length b.rows → Live past b.day b.schedule.stage (f (get_or b.rows k blank)))
-    → ((k : ℕ) → k < length b.accounts → Standing b.day (get_or b.accounts k unused)) → Framed past (with_rows (map f b.rows) b)
-framed-map past b f rest same d c l y z n w v st =
+    → ((k : ℕ) → k < length b.accounts → Standing b.day (get_or b.accounts k unused))
+    → ((k : ℕ) → k < length b.accounts → successor_fits b.accounts (suc k) (get_or b.accounts k unused) ≡ true) → Framed past (with_rows (map f b.rows) b)
+framed-map past b f rest same d c l y z n w v st su =
     let rows : List Row = b.rows in
     record {
       day = d;
@@ -343,6 +373,7 @@ framed-map past b f rest same d c l y z n w v st =
           (passage-map (f (get_or rows k blank)) ∙ o.passage) (fees-map (suc k) (f (get_or rows k blank)) ∙ o.fees) o);
       live = λ k h. rw (map_at f rows k blank rest) (v k (rw (length-map b.rows f) at h));
       standing = st;
+      successors = su;
     }
   where
     count_map : (t : Test) → ((r : Row) → t (f r) ≡ t r) → count t (map f b.rows) ≡ count t b.rows

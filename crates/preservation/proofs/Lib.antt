@@ -23,6 +23,7 @@ pub mod SoundKept
 pub mod CallsKept
 pub mod EventFrame
 pub mod PostFrame
+pub mod SuccessorFrame
 pub mod NamedLaws
 pub mod OpenTolls
 pub mod RowsKept

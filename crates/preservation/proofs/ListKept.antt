@@ -47,5 +47,6 @@ module _ (b : Book) (i : Instruction) (s : Near b.day b) (q : Accepted b (of_kin
     shape = s.shape;
     live = s.live;
     standing = s.standing;
+    successors = s.successors;
     counted = s.counted;
   }

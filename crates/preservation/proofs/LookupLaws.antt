@@ -14,6 +14,7 @@ use Rattle.records.specs.Limits.{final_day}
 use Rattle.rules.specs.Rows.{Row, blank}
 use Rattle.rules.specs.Book.{Account, unused, Instruction, Book, account, row, put_account, put_row}
 use Rattle.rules.specs.Opening.{day_fits}
+use Rattle.rules.specs.Soundness.{successor_fits}
 use Rattle.rules.specs.Refusals.{change_of, after, full}
 use Rattle.rules.specs.SoundFacts.{Shape, Live, Standing, SumsFit, Near}
 use Rattle.preservation.proofs.SettledLaws.{length-settled}
@@ -43,12 +44,16 @@ module _ (past : ℕ) (b : Book) (s : Near past b) where
   counted_of zero i = absurd (false≢true i)
   counted_of (suc k) i = s.counted k (leb-true (suc k) (length b.accounts) (and_right (leb 1 (suc k)) _ i))
 
+  pub successor_of : (n : ℕ) → n from 1 to length b.accounts ≡ true → successor_fits b.accounts n (account b n) ≡ true
+  successor_of zero i = absurd (false≢true i)
+  successor_of (suc k) i = s.successors k (leb-true (suc k) (length b.accounts) (and_right (leb 1 (suc k)) _ i))
+
   pub near-put_account : (n : ℕ) (x : Account) → n from 1 to length b.accounts ≡ true → eqb x.state 0 ≡ false
-      → Standing b.day x → SumsFit b.rows n x → Near past (put_account n x b)
-  near-put_account zero x i z v c = absurd (false≢true i)
-  near-put_account (suc k) x i z v c =
+      → Standing b.day x → successor_fits b.accounts n x ≡ true → SumsFit b.rows n x → Near past (put_account n x b)
+  near-put_account zero x i z v f c = absurd (false≢true i)
+  near-put_account (suc k) x i z v f c =
       let q : suc k - 1 ≡ k = omega arith in
-      rw q (near-account past b k x s (leb-true (suc k) (length b.accounts) (and_right (leb 1 (suc k)) _ i)) z v c)
+      rw q (near-account past b k x s (leb-true (suc k) (length b.accounts) (and_right (leb 1 (suc k)) _ i)) z v f c)
 
   pub account-put : (n : ℕ) (x : Account) → n from 1 to length b.accounts ≡ true → account (put_account n x b) n ≡ x
   account-put zero x i = absurd (false≢true i)

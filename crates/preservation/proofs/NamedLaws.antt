@@ -9,7 +9,7 @@ use Rattle.records.specs.Codes.{event_tick}
 use Rattle.rules.specs.Rows.{Row}
 use Rattle.rules.specs.Settlement.{moved, settle}
 use Rattle.rules.specs.Book.{Instruction, Book, with_rows, settled}
-use Rattle.rules.specs.Refusals.{posts_on, change_of, after}
+use Rattle.rules.specs.Refusals.{change_of, after}
 use Rattle.rules.proofs.SettlementAccountsLaws.{settle_accounts-same, settle_accounts-one}
 use Rattle.rules.specs.SoundFacts.{Sound}
 use Rattle.preservation.proofs.Accepted.{Accepted}
@@ -43,9 +43,9 @@ settled-unmoved b b' s r e =
     ap (λ (rows : List Row). with_rows rows b')
     (settle_accounts-same (length b'.accounts) b'.rows (λ m i j. rw r (sound-moved b s m i (rw e at j))))
 
-pub after-named : (b : Book) (e : Instruction) → Sound b → e.kind ≢ event_tick → Accepted b e → 1 ≤ posts_on b e → posts_on b e ≤ length b.accounts
+pub after-named : (b : Book) (e : Instruction) → Sound b → e.kind ≢ event_tick → Accepted b e → 1 ≤ e.account → e.account ≤ length b.accounts
     → length (change_of e.kind b e).accounts ≡ length b.accounts
-    → after b e ≡ with_rows (settle (posts_on b e) (change_of e.kind b e).rows) (change_of e.kind b e)
+    → after b e ≡ with_rows (settle (e.account) (change_of e.kind b e).rows) (change_of e.kind b e)
 unfolding after
 after-named b e s ne q l h z =
     settled-named b (change_of e.kind b e) s e.account

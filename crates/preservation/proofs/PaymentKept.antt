@@ -18,12 +18,12 @@ use Rattle.rules.proofs.StorableLaws.{TopupParts, topup-parts}
 use Rattle.rules.specs.Rows.{Row, kind_payment, new_row, with_mark, fee_naming}
 use Rattle.rules.specs.Book.{Account, Instruction, Book, account, add_row, put_account, topup_due, low_balance}
 use Rattle.rules.specs.Events.{post_payment, pay_topup, decline_topup, topup_result}
-use Rattle.rules.specs.Soundness.{kind_fits, most_of, amount_fits, settled_fits, mark_fits, toll_words_fit, no_reference, row_day_fits, due_within, hold_fits, account_used, reference_fits, passage, passage_once, fees_fit, returned_of, state_fits, unused_zero, request_fits, topup_fits, decline_fits, returned_fits, used_is_paid, closed_clear}
+use Rattle.rules.specs.Soundness.{kind_fits, most_of, amount_fits, settled_fits, mark_fits, toll_words_fit, no_reference, row_day_fits, due_within, hold_fits, account_used, reference_fits, passage, passage_once, fees_fit, returned_of, state_fits, unused_zero, request_fits, topup_fits, decline_fits, successor_fits, returned_fits, used_is_paid, closed_clear}
 use Rattle.rules.specs.Refusals.{change_of, well_formed, form_of, payment_form, unknown, on_closed, untimely}
 use Rattle.rules.specs.SoundFacts.{Shape, Live, Standing, SumsFit, Near}
 use Rattle.preservation.proofs.Accepted.{Accepted}
 use Rattle.preservation.proofs.KeepingLaws.{grown, Distinct, Quiet, near-add-quiet}
-use Rattle.preservation.proofs.LookupLaws.{today-fits, day-positive, standing-of, counted_of, near-put_account, account-put, inside, used-state, after-fits}
+use Rattle.preservation.proofs.LookupLaws.{today-fits, day-positive, standing-of, counted_of, successor_of, near-put_account, account-put, inside, used-state, after-fits}
 
 -- ---- a payment row of today, by any of the three methods
 
@@ -130,6 +130,10 @@ module _ (b : Book) (i : Instruction) where
       decline = le-leb 0 b.day (omega arith);
     }
 
+    paid-successor : successor_fits b.accounts i.account (topup_paid it) ≡ true
+    unfolding successor_fits
+    paid-successor = successor_of b.day b s i.account in_table
+
     paid-counted : SumsFit b.rows i.account (topup_paid it)
     unfolding returned_fits used_is_paid closed_clear
     paid-counted = let v = counted_of b.day b s i.account in_table in record { returned = v.returned; used-is-paid = v.used-is-paid; clear = v.clear }
@@ -139,7 +143,7 @@ module _ (b : Book) (i : Instruction) where
     pay_topup-near room =
         let e : account (put_account i.account (topup_paid it) b) i.account ≡ topup_paid it = account-put b.day b s i.account (topup_paid it) in_table in
         near-payment (put_account i.account (topup_paid it) b) i.account it.topup 1
-        (near-put_account b.day b s i.account (topup_paid it) in_table (rw is_open) paid-standing paid-counted)
+        (near-put_account b.day b s i.account (topup_paid it) in_table (rw is_open) paid-standing paid-successor paid-counted)
         (omega (arith, length-append b.rows (payment b i.account it.topup 1 ∷ [])))
         (and_both (leb 1 it.topup) _ (le-leb 1 it.topup has-amount) parts.topup) refl (rw (e, is_open)) (rw (e, is_open))
 
@@ -171,6 +175,12 @@ module _ (b : Book) (i : Instruction) where
           decline = le-leb b.day b.day (omega arith);
         }
 
+    declined-successor : successor_fits b.accounts i.account (declined_on b.day it) ≡ true
+    unfolding successor_fits
+    declined-successor =
+        let e = successor_of b.day b s i.account in_table in
+        declined-cases (λ x. successor_fits b.accounts i.account x ≡ true) b.day it e (λ w. e)
+
     declined-counted : SumsFit b.rows i.account (declined_on b.day it)
     unfolding returned_fits used_is_paid closed_clear
     declined-counted =
@@ -184,7 +194,7 @@ module _ (b : Book) (i : Instruction) where
 
     decline_topup-near : Near b.day (decline_topup b event7)
     unfolding decline_topup
-    decline_topup-near = near-put_account b.day b s i.account (declined_on b.day it) in_table declined-used declined-standing declined-counted
+    decline_topup-near = near-put_account b.day b s i.account (declined_on b.day it) in_table declined-used declined-standing declined-successor declined-counted
 
     pub topup_result-near : Near b.day (change_of event_topup_result b event7)
     unfolding change_of topup_result

@@ -17,7 +17,7 @@ use Rattle.rules.specs.Rows.{Row, blank, row_no, held, held_toll, remaining, pay
 use Rattle.rules.specs.Settlement.{money, debt, moved}
 use Rattle.rules.specs.Book.{Instruction, Book, account, settled}
 use Rattle.rules.specs.Soundness.{account_used, no_idle_money, sound}
-use Rattle.rules.specs.Refusals.{posts_on, change_of, after, answer_number}
+use Rattle.rules.specs.Refusals.{change_of, after, answer_number}
 use Rattle.rules.specs.Posting.{post}
 use Rattle.rules.proofs.SettlementAccountsLaws.{length-settle_accounts, settle_accounts-row, settle_accounts-still}
 use Rattle.rules.specs.SoundFacts.{Near, Sound}
@@ -80,10 +80,10 @@ row-no-idle-money b s i l = go (get_or b.rows i blank).account (not-true _ (s.ne
     go (suc k) e = no-idle-money-moved b.rows (suc k) (s.no-idle-money k (used-inside b.accounts (suc k) e))
 
 module _ (b : Book) (e : Instruction) (s : Sound b) (ne : e.kind ≢ event_tick) (q : Accepted b e) where
-  changed : Others (posts_on b e) b.rows (change_of e.kind b e).rows
+  changed : Others (e.account) b.rows (change_of e.kind b e).rows
   changed = change-others b e e.kind s.near ne q
 
-  after-row : (k : ℕ) → k < length b.rows → (get_or b.rows k blank).account ≢ posts_on b e → get_or (after b e).rows k blank ≡ get_or b.rows k blank
+  after-row : (k : ℕ) → k < length b.rows → (get_or b.rows k blank).account ≢ e.account → get_or (after b e).rows k blank ≡ get_or b.rows k blank
   unfolding after settled moved
   after-row k l w =
       let rows₁ : List Row = (change_of e.kind b e).rows in
@@ -92,37 +92,37 @@ module _ (b : Book) (e : Instruction) (s : Sound b) (ne : e.kind ≢ event_tick)
       let z : moved m rows₁ ≡ 0 = rw (money-others e.account b.rows rows₁ changed m w, debt-others b s.near e.account rows₁ changed m w) (row-no-idle-money b s k l) in
       settle_accounts-still m (length (change_of e.kind b e).accounts) rows₁ k (ap (λ (r : Row). r.account) f) z ∙ f
 
-  after-added : (k : ℕ) → length b.rows ≤ k → k < length (after b e).rows → (get_or (after b e).rows k blank).account ≡ posts_on b e
+  after-added : (k : ℕ) → length b.rows ≤ k → k < length (after b e).rows → (get_or (after b e).rows k blank).account ≡ e.account
   unfolding after settled
   after-added k l h =
       let rows₁ : List Row = (change_of e.kind b e).rows in
       let n : ℕ = length (change_of e.kind b e).accounts in
       ap (λ (r : Row). r.account) (settle_accounts-row n rows₁ k).kept ∙ changed.added k l (rw (length-settle_accounts n rows₁) at h)
 
-  after-account : (n : ℕ) → n ≢ posts_on b e → account (after b e) n ≡ account b n
+  after-account : (n : ℕ) → n ≢ e.account → account (after b e) n ≡ account b n
   unfolding after settled
   after-account n w = change-account b e e.kind ne q n w
 
 -- ---- post
 
 module _ (b : Book) (e : Instruction) (s : sound b ≡ true) (ne : e.kind ≢ event_tick) where
-  pub post-frame-account : (n : ℕ) → n ≢ posts_on b e → account (post b e).book n ≡ account b n
+  pub post-frame-account : (n : ℕ) → n ≢ e.account → account (post b e).book n ≡ account b n
   post-frame-account n w = go (eqb (answer_number b e) 0) refl
     where
       go : (t : Bool) → eqb (answer_number b e) 0 ≡ t → account (post b e).book n ≡ account b n
       go true q = rw (post-accepted b e q) (after-account b e (sound-facts b s) ne (accepted b e (eqb-true (answer_number b e) 0 q)) n w)
       go false q = rw (post-refused b e q)
 
-  pub post-frame-row : (k : ℕ) → k < length b.rows → (get_or b.rows k blank).account ≢ posts_on b e → get_or (post b e).book.rows k blank ≡ get_or b.rows k blank
+  pub post-frame-row : (k : ℕ) → k < length b.rows → (get_or b.rows k blank).account ≢ e.account → get_or (post b e).book.rows k blank ≡ get_or b.rows k blank
   post-frame-row k l w = go (eqb (answer_number b e) 0) refl
     where
       go : (t : Bool) → eqb (answer_number b e) 0 ≡ t → get_or (post b e).book.rows k blank ≡ get_or b.rows k blank
       go true q = rw (post-accepted b e q) (after-row b e (sound-facts b s) ne (accepted b e (eqb-true (answer_number b e) 0 q)) k l w)
       go false q = rw (post-refused b e q)
 
-  pub post-frame-added : (k : ℕ) → length b.rows ≤ k → k < length (post b e).book.rows → (get_or (post b e).book.rows k blank).account ≡ posts_on b e
+  pub post-frame-added : (k : ℕ) → length b.rows ≤ k → k < length (post b e).book.rows → (get_or (post b e).book.rows k blank).account ≡ e.account
   post-frame-added k l h = go (eqb (answer_number b e) 0) refl
     where
-      go : (t : Bool) → eqb (answer_number b e) 0 ≡ t → (get_or (post b e).book.rows k blank).account ≡ posts_on b e
+      go : (t : Bool) → eqb (answer_number b e) 0 ≡ t → (get_or (post b e).book.rows k blank).account ≡ e.account
       go true q = rw (post-accepted b e q) (after-added b e (sound-facts b s) ne (accepted b e (eqb-true (answer_number b e) 0 q)) k l (rw (post-accepted b e q) at h))
       go false q = let h' : k < length b.rows = rw (post-refused b e q) at h in absurd (omega arith)

@@ -14,14 +14,14 @@ use Rattle.records.specs.Updates.{with_state, with_returned, of_kind, on_account
 use Rattle.records.specs.AccountOperations.{check_returned}
 use Rattle.lists.specs.Tests.{◌from◌to◌}
 use Rattle.lists.specs.Lists.{only, count}
-use Rattle.lists.proofs.TestLaws.{and_left, and_right, and_both}
+use Rattle.lists.proofs.TestLaws.{and_left, and_right, and_both, cond_either}
 use Rattle.lists.proofs.SumLaws.{sum_by-set, sum_by-set-same}
 use Rattle.records.specs.Limits.{highest_payment, highest_fee, highest_charge, return_fee}
 use Rattle.rules.specs.Rows.{Row, kind_fee, kind_reversal, blank, row_no, toll, new_row, with_mark, with_reference, fee_naming, source_of, debit_of}
 use Rattle.rules.specs.Settlement.{used, paid}
 use Rattle.rules.specs.Book.{Account, unused, Instruction, Book, with_rows, with_accounts, account_no, add_row}
 use Rattle.rules.specs.Events.{return_check}
-use Rattle.rules.specs.Soundness.{kind_fits, most_of, amount_fits, settled_fits, mark_fits, toll_words_fit, no_reference, row_day_fits, due_within, hold_fits, account_used, names, reference_fits, passage, passage_once, fees_fit, returned_of, state_fits, unused_zero, request_fits, topup_fits, decline_fits, returned_fits, used_is_paid, closed_clear}
+use Rattle.rules.specs.Soundness.{kind_fits, most_of, amount_fits, settled_fits, mark_fits, toll_words_fit, no_reference, row_day_fits, due_within, hold_fits, account_used, names, reference_fits, passage, passage_once, fees_fit, returned_of, state_fits, unused_zero, request_fits, topup_fits, decline_fits, successor_fits, returned_fits, used_is_paid, closed_clear}
 use Rattle.rules.specs.Refusals.{change_of, well_formed, form_of, return_form, unknown, no_row, untimely}
 use Rattle.rules.specs.SoundFacts.{Shape, Live, Standing, SumsFit, Near}
 use Rattle.preservation.proofs.Accepted.{Accepted}
@@ -53,6 +53,11 @@ module _ (today : ℕ) (y : Account) (u : eqb y.state 0 ≡ false) where
       go : (t : Bool) → eqb (with_returned (y.returned + 1) (cond t (with_state 2 y) y)).state 0 ≡ false
       go true = refl
       go false = u
+
+returned-successor : (xs : List Account) (n : ℕ) (y : Account) → successor_fits xs n y ≡ true → successor_fits xs n (check_returned y) ≡ true
+unfolding check_returned successor_fits
+returned-successor xs n y e =
+    cond_either (λ (x : Account). successor_fits xs n (with_returned (y.returned + 1) x) ≡ true) (eqb y.state 3) (with_state 2 y) y e e
 
 returned-unclosed : (y : Account) → eqb (check_returned y).state 3 ≡ false
 unfolding check_returned
@@ -192,7 +197,8 @@ module _ (b : Book) (k j : ℕ) (i : Instruction) where
         framed-near b.day marked
         (framed-put b.day b accounts₁ j (with_mark 4 it) (near-framed b.day b s) row-there (record { kind = refl; account = refl; reference = refl })
         (kept_set b.day b k (check_returned holder) s account-there (returned-used b.day holder account-used)
-        (returned-standing b.day holder account-used (s.standing k account-there)))
+        (returned-standing b.day holder account-used (s.standing k account-there))
+        (returned-successor b.accounts (suc k) holder (s.successors k account-there)))
         marked-shape marked-live)
         (λ i l. marked-counted i (rw (length-set b.accounts k (check_returned holder)) at l))
 

@@ -15,7 +15,7 @@ use Rattle.records.specs.Codes.{method_check_returned, dispute_upheld, kind_toll
 use Rattle.rules.specs.Rows.{Row, blank, with_mark, with_hold_start, with_dispute, remaining, settle_whole, fee_naming, source}
 use Rattle.rules.specs.Settlement.{settle, settle_accounts}
 use Rattle.rules.specs.Book.{Instruction, Book, account, row, settled}
-use Rattle.rules.specs.Events.{open_account, post_toll, post_payment, return_check, hold_from, hold_toll, release, uphold, reject, decide, pay_topup, decline_topup, topup_result, request_close, add_list, set_reserve}
+use Rattle.rules.specs.Events.{open_account, post_toll, post_payment, return_check, hold_from, hold_toll, release, uphold, reject, decide, pay_topup, decline_topup, topup_result, request_close, add_list, set_reserve, set_successor}
 use Rattle.rules.specs.Tick.{next_day, hold_ends, end_hold, end_holds, before_raising, rises, raise, raise_tolls, closes, use_up, close_accounts, tick}
 use Rattle.rules.specs.Refusals.{change_of, after, answer_number, no_row}
 use Rattle.rules.specs.Posting.{post}
@@ -202,7 +202,7 @@ tick-kept b e =
 -- ---- every event
 
 change-kept : (b : Book) (e : Instruction) (k : ℕ) → Accepted b (of_kind k e) → RowsKept b.rows (change_of k b (of_kind k e)).rows
-unfolding change_of open_account post_toll post_payment request_close add_list set_reserve
+unfolding change_of open_account post_toll post_payment request_close add_list set_reserve set_successor
 change-kept b e k q =
     by_kind (λ k. Accepted b (of_kind k e) → RowsKept b.rows (change_of k b (of_kind k e)).rows)
     (record {
@@ -217,6 +217,7 @@ change-kept b e k q =
       tick = λ q. tick-kept b (of_kind event_tick e);
       rate-list = λ q. rows_same b.rows;
       reserve = λ q. rows_same b.rows;
+      successor = λ q. rows_same b.rows;
       none = λ q. rows_same b.rows;
       past = λ k q. rows_same b.rows;
     }) k q

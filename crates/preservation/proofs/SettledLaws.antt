@@ -155,6 +155,7 @@ near-settle past b a s = record {
       let l : k < length b.rows = rw (length-settle a b.rows) at h in
       live-settle past b.day b.schedule.stage a b.rows k (s.live k l);
   standing = s.standing;
+  successors = s.successors;
   counted = λ k h. counted-settle a b.rows (suc k) (get_or b.accounts k unused) (s.counted k h);
 }
 

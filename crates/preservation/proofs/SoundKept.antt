@@ -8,17 +8,18 @@ use borrow.Author.Tests.{eqb-true}
 use Rattle.records.specs.Codes.{event_decision, event_topup_result}
 use Rattle.records.specs.Updates.{of_kind}
 use Rattle.rules.specs.Book.{Instruction, Book}
-use Rattle.rules.specs.Events.{open_account, post_toll, post_payment, return_check, hold_toll, decide, uphold, reject, topup_result, pay_topup, decline_topup, request_close, add_list, set_reserve}
+use Rattle.rules.specs.Successors.{forwarded}
+use Rattle.rules.specs.Events.{open_account, post_toll, post_payment, return_check, hold_toll, decide, uphold, reject, topup_result, pay_topup, decline_topup, request_close, add_list, set_reserve, set_successor}
 use Rattle.rules.specs.Soundness.{sound}
 use Rattle.rules.specs.Refusals.{change_of, after, well_formed, form_of, answer_number}
-use Rattle.rules.specs.Posting.{post, book_after}
+use Rattle.rules.specs.Posting.{post, receive, book_after}
 use Rattle.rules.proofs.PostingLaws.{post-refused, post-accepted}
 use Rattle.rules.specs.SoundFacts.{Near, Sound}
 use Rattle.rules.proofs.SoundnessLaws.{sound-facts, facts-sound}
 use Rattle.rules.proofs.KindLaws.{by_kind}
 use Rattle.preservation.proofs.Accepted.{Accepted, accepted}
 use Rattle.preservation.proofs.SettledLaws.{settled-sound}
-use Rattle.preservation.proofs.AccountKept.{open_account-near, request_close-near, set_reserve-near}
+use Rattle.preservation.proofs.AccountKept.{open_account-near, request_close-near, set_reserve-near, set_successor-near}
 use Rattle.preservation.proofs.TollKept.{post_toll-near}
 use Rattle.preservation.proofs.PaymentKept.{post_payment-near, topup_result-near}
 use Rattle.preservation.proofs.ReturnKept.{return_check-near}
@@ -49,7 +50,7 @@ module _ (b : Book) (e : Instruction) where
 
 change-near : (b : Book) (e : Instruction) (k : ℕ) → Near b.day b → Accepted b (of_kind k e)
     → Near (change_of k b (of_kind k e)).day (change_of k b (of_kind k e))
-unfolding change_of open_account post_toll post_payment return_check hold_toll decide topup_result request_close add_list set_reserve well_formed form_of
+unfolding change_of open_account post_toll post_payment return_check hold_toll decide topup_result request_close add_list set_reserve set_successor well_formed form_of
 change-near b e k s q =
     by_kind (λ k. Accepted b (of_kind k e) → Near (change_of k b (of_kind k e)).day (change_of k b (of_kind k e)))
     (record {
@@ -64,6 +65,7 @@ change-near b e k s q =
       tick = tick-near b e s;
       rate-list = add_list-near b e s;
       reserve = set_reserve-near b e s;
+      successor = set_successor-near b e s;
       none = λ q. absurd (true≢false q.formed);
       past = λ k q. absurd (true≢false q.formed);
     }) k q
@@ -89,4 +91,4 @@ post-keeps-sound b e s = go (eqb (answer_number b e) 0) refl
 pub book_after-keeps-sound : (b : Book) (es : List Instruction) → sound b ≡ true → sound (book_after b es) ≡ true
 unfolding book_after
 book_after-keeps-sound b [] s = s
-book_after-keeps-sound b (e ∷ es) s = book_after-keeps-sound (post b e).book es (post-keeps-sound b e s)
+book_after-keeps-sound b (e ∷ es) s = book_after-keeps-sound (receive b e).book es (post-keeps-sound b (forwarded b e) s)

@@ -308,5 +308,6 @@ raise_tolls-near past b n t room =
           (λ l. live-raised s b.day past (get_or rows k blank) t p.stage (n.live k l))
           (λ j e l. (fees j l).live);
       standing = n.standing;
+      successors = n.successors;
       counted = λ k h. counted-raised s b.day rows (suc k) (get_or b.accounts k unused) (n.counted k h);
     }

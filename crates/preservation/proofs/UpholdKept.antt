@@ -121,7 +121,7 @@ module _ (b : Book) (j : ℕ) (i : Instruction) where
         })
         framed₁.day framed₁.schedule framed₁.lists framed₁.holidays framed₁.sizes framed₁.fits
         (λ k l. shape-forgiven b.day b.accounts rows₁ (suc k) (suc j) (get_or rows₁ k blank) (framed₁.shape k l))
-        (λ k l. live-forgiven b.day b.day b.schedule.stage (suc j) (get_or rows₁ k blank) (framed₁.live k l)) framed₁.standing
+        (λ k l. live-forgiven b.day b.day b.schedule.stage (suc j) (get_or rows₁ k blank) (framed₁.live k l)) framed₁.standing framed₁.successors
 
     -- ---- the toll's fees: of its account, and few
 

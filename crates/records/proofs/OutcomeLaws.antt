@@ -5,7 +5,7 @@ use Rattle.lists.specs.Tests.{◌is◌}
 use Rattle.records.specs.Outcomes.{number_of}
 use Rattle.records.specs.declared.refusals.Refusal.{Refusal}
 use Rattle.records.specs.declared.refusals.Refusal.TheVariants as refusal
-use Rattle.records.specs.declared.refusals.Refusal.TheVariants.{Unsound, Malformed, Unknown, Taken, Closed, Unclassed, Misdated, Duplicate, Barred, NoRow, Untimely, Reserve, LastDay, Full, Ceiling, Holidays}
+use Rattle.records.specs.declared.refusals.Refusal.TheVariants.{Unsound, Malformed, Unknown, Taken, Closed, Unclassed, Misdated, Duplicate, Barred, NoRow, Untimely, Reserve, LastDay, Full, Ceiling, Holidays, Successor}
 
 pub number_of-not_0 : (r : Refusal) → number_of r is 0 ≡ false
 number_of-not_0 Unsound = refl
@@ -25,3 +25,4 @@ number_of-not_0 Full = refl
 number_of-not_0 Ceiling = refl
 number_of-not_0 refusal.List = refl
 number_of-not_0 Holidays = refl
+number_of-not_0 Successor = refl

@@ -1,10 +1,10 @@
--- An account's own operations (document 01, "Events"; document 02, No. 4): what each event makes of the account that it names.
+-- An account's own operations (document 01, "Events"; document 02, Nos. 4 and 8): what each event makes of the account that it names.
 use Rattle.std.specs.Prelude.{ℕ, ◌+◌, Bool, cond, leb}
 use Rattle.lists.specs.Tests.{◌is◌}
 use Rattle.records.specs.declared.Account.{Account}
 use Rattle.records.specs.Codes.{state_open, state_pending, state_closed}
 use Rattle.records.specs.Limits.{most_declines}
-use Rattle.records.specs.Updates.{unused, with_state, with_request, with_returned, with_topup, with_declines, with_reserve}
+use Rattle.records.specs.Updates.{unused, with_state, with_request, with_returned, with_topup, with_declines, with_reserve, with_successor}
 
 -- event 1: "Open: a threshold, b top-up amount"
 abbrev pub opened : ℕ → ℕ → Account
@@ -43,3 +43,7 @@ closed x = with_state state_closed x
 -- event 11: "adds or removes a reserve" (document 02, No. 4)
 abbrev pub reserve_set : ℕ → Account → Account
 reserve_set reserve x = with_reserve reserve x
+
+-- event 12: "names, for a closed account, a successor account" (document 02, No. 8)
+abbrev pub successor_set : ℕ → Account → Account
+successor_set successor x = with_successor successor x

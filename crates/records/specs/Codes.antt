@@ -109,3 +109,6 @@ event_rate_list = 10
 
 abbrev pub event_reserve : ℕ
 event_reserve = 11
+
+abbrev pub event_successor : ℕ
+event_successor = 12

@@ -30,6 +30,7 @@ account_from t p = record {
   declines = word t (p + Layout.declines_place);
   declined = word t (p + Layout.declined_place);
   reserve = word t (p + Layout.reserve_place);
+  successor = word t (p + Layout.successor_place);
 }
 
 -- the row whose words start at a place
@@ -94,9 +95,10 @@ instruction_from t = record {
 -- ---- writing: the words of each record, in order of their places
 
 -- "Accounts, 7 words each: state, close request day, returned checks, top-up threshold, top-up amount, declines, day of last decline",
--- and the reserve (document 02, No. 4)
+-- and the reserve and the successor (document 02, Nos. 4 and 8)
 abbrev pub account_fields : Account → List ℕ
-account_fields x = x.state ∷ x.request ∷ x.returned ∷ x.threshold ∷ x.topup ∷ x.declines ∷ x.declined ∷ x.reserve ∷ []
+account_fields x =
+    x.state ∷ x.request ∷ x.returned ∷ x.threshold ∷ x.topup ∷ x.declines ∷ x.declined ∷ x.reserve ∷ x.successor ∷ []
 
 -- the same numbers as signed words
 unfoldable pub account_words : Account → List ℤ

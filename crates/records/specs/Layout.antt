@@ -97,10 +97,10 @@ list_day_place = 0
 abbrev pub list_rates_place : ℕ
 list_rates_place = 1
 
--- ---- "Accounts, 7 words each"; "The account gains a word" for the reserve (document 02, No. 4)
+-- ---- "Accounts, 7 words each"; "The account gains a word" for the reserve (document 02, No. 4); "The account's new word" (No. 8)
 
 abbrev pub account_width : ℕ
-account_width = 8
+account_width = 9
 
 abbrev pub state_place : ℕ
 state_place = 0
@@ -125,6 +125,9 @@ declined_place = 6
 
 abbrev pub reserve_place : ℕ
 reserve_place = 7
+
+abbrev pub successor_place : ℕ
+successor_place = 8
 
 -- ---- "Journal, 10 words a row"
 

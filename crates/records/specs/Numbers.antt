@@ -69,3 +69,7 @@ answer_reserve = 16
 -- document 02, No. 6: "17 "holidays" at opening for a list that is too long, out of range or not rising"
 abbrev pub answer_holidays : ℕ
 answer_holidays = 17
+
+-- document 02, No. 8: "18 "successor" where the account isn't closed, or the successor is itself, unused or outside the table"
+abbrev pub answer_successor : ℕ
+answer_successor = 18

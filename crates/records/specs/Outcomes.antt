@@ -5,7 +5,7 @@ use Rattle.records.specs.declared.Answer.{Answer}
 use Rattle.records.specs.declared.Posting.{Posting}
 use Rattle.records.specs.declared.refusals.Refusal.{Refusal}
 use Rattle.records.specs.declared.refusals.Refusal.TheVariants as refusal
-use Rattle.records.specs.declared.refusals.Refusal.TheVariants.{Unsound, Malformed, Unknown, Taken, Closed, Unclassed, Misdated, Duplicate, Barred, NoRow, Untimely, Reserve, LastDay, Full, Ceiling, Holidays}
+use Rattle.records.specs.declared.refusals.Refusal.TheVariants.{Unsound, Malformed, Unknown, Taken, Closed, Unclassed, Misdated, Duplicate, Barred, NoRow, Untimely, Reserve, LastDay, Full, Ceiling, Holidays, Successor}
 
 -- the number that the table of answers gives to a refusal
 abbrev pub number_of : Refusal → ℕ
@@ -26,6 +26,7 @@ number_of Full = Numbers.answer_full
 number_of Ceiling = Numbers.answer_ceiling
 number_of refusal.List = Numbers.answer_list_refused
 number_of Holidays = Numbers.answer_holidays
+number_of Successor = Numbers.answer_successor
 
 -- the number that a call gives: 0 where it is not refused
 abbrev pub number_by : {A : Type 0} → Result A Refusal → ℕ

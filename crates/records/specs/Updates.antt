@@ -104,7 +104,8 @@ with_reference v r = record {
 
 -- "unused accounts are all 0"
 abbrev pub unused : Account
-unused = record { state = 0; request = 0; returned = 0; threshold = 0; topup = 0; declines = 0; declined = 0; reserve = 0 }
+unused =
+    record { state = 0; request = 0; returned = 0; threshold = 0; topup = 0; declines = 0; declined = 0; reserve = 0; successor = 0 }
 
 abbrev pub with_state : ℕ → Account → Account
 with_state v x = record {
@@ -116,6 +117,7 @@ with_state v x = record {
   declines = x.declines;
   declined = x.declined;
   reserve = x.reserve;
+  successor = x.successor;
 }
 
 abbrev pub with_request : ℕ → Account → Account
@@ -128,6 +130,7 @@ with_request v x = record {
   declines = x.declines;
   declined = x.declined;
   reserve = x.reserve;
+  successor = x.successor;
 }
 
 abbrev pub with_returned : ℕ → Account → Account
@@ -140,6 +143,7 @@ with_returned v x = record {
   declines = x.declines;
   declined = x.declined;
   reserve = x.reserve;
+  successor = x.successor;
 }
 
 abbrev pub with_topup : ℕ → ℕ → Account → Account
@@ -152,6 +156,7 @@ with_topup t n x = record {
   declines = x.declines;
   declined = x.declined;
   reserve = x.reserve;
+  successor = x.successor;
 }
 
 abbrev pub with_declines : ℕ → ℕ → Account → Account
@@ -164,6 +169,7 @@ with_declines n d x = record {
   declines = n;
   declined = d;
   reserve = x.reserve;
+  successor = x.successor;
 }
 
 abbrev pub with_reserve : ℕ → Account → Account
@@ -176,6 +182,20 @@ with_reserve v x = record {
   declines = x.declines;
   declined = x.declined;
   reserve = v;
+  successor = x.successor;
+}
+
+abbrev pub with_successor : ℕ → Account → Account
+with_successor v x = record {
+  state = x.state;
+  request = x.request;
+  returned = x.returned;
+  threshold = x.threshold;
+  topup = x.topup;
+  declines = x.declines;
+  declined = x.declined;
+  reserve = x.reserve;
+  successor = v;
 }
 
 -- ---- instructions

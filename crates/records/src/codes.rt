@@ -81,3 +81,5 @@ pub const EVENT_TICK: u64 = 9;
 pub const EVENT_RATE_LIST: u64 = 10;
 
 pub const EVENT_RESERVE: u64 = 11;
+
+pub const EVENT_SUCCESSOR: u64 = 12;

@@ -62,7 +62,7 @@ pub const LIST_RATES_PLACE: usize = 1;
 
 // ---- an account
 
-pub const ACCOUNT_WIDTH: usize = 8;
+pub const ACCOUNT_WIDTH: usize = 9;
 
 pub const STATE_PLACE: usize = 0;
 
@@ -79,6 +79,8 @@ pub const DECLINES_PLACE: usize = 5;
 pub const DECLINED_PLACE: usize = 6;
 
 pub const RESERVE_PLACE: usize = 7;
+
+pub const SUCCESSOR_PLACE: usize = 8;
 
 // ---- a row of the journal
 

@@ -10,7 +10,7 @@ pub mod words; // words.rt: a signed word as a number
 
 ghost use Rattle.std.specs.Prelude.{◌≡◌, ◌^◌, ◌<◌};
 ghost use Rattle.records.specs.Encoding.{instruction_of};
-ghost use Rattle.records.specs.AccountOperations.{opened, check_returned, last_decline, declined_on, topup_paid, close_requested_on, closed, reserve_set};
+ghost use Rattle.records.specs.AccountOperations.{opened, check_returned, last_decline, declined_on, topup_paid, close_requested_on, closed, reserve_set, successor_set};
 
 use crate::codes::{STATE_CLOSED, STATE_OPEN, STATE_PENDING};
 use crate::limits::MOST_DECLINES;
@@ -31,8 +31,8 @@ pub struct Row {
     pub reference: u64,
 }
 
-// One account: state, close request day, returned checks, top-up threshold, top-up amount, declines, day of last decline, reserve; by
-// default unused, all words 0.
+// One account: state, close request day, returned checks, top-up threshold, top-up amount, declines, day of last decline, reserve,
+// successor; by default unused, all words 0.
 #[derive(Clone, Copy, Default, PartialEq, Eq)]
 pub struct Account {
     pub state: u64,
@@ -43,6 +43,7 @@ pub struct Account {
     pub declines: u64,
     pub declined: u64,
     pub reserve: u64,
+    pub successor: u64,
 }
 
 // An event as a host hands it over: nine signed words of any value.
@@ -194,6 +195,14 @@ impl Account {
         ensures { result ≡ reserve_set reserve self }
     {
         self.reserve = reserve;
+        self
+    }
+
+    // Event 12: a successor is named, in the place of one named before.
+    pub fn set_successor(mut self, successor: u64) -> Self
+        ensures { result ≡ successor_set successor self }
+    {
+        self.successor = successor;
         self
     }
 }

@@ -24,6 +24,7 @@ pub enum Refusal {
     List = 15,
     Reserve = 16,
     Holidays = 17,
+    Successor = 18,
 }
 
 // The number of its answer, as the answer's words are numbers.

@@ -7,8 +7,9 @@ use borrow.Author.Tests.{eqb-true}
 use Rattle.records.specs.Encoding.{instruction_of, instruction_from}
 use Rattle.lists.specs.Tests.{◌is◌, first}
 use Rattle.rules.specs.Book.{Instruction, Book}
+use Rattle.rules.specs.Successors.{forwarded}
 use Rattle.rules.specs.Refusals.{answer_number}
-use Rattle.rules.specs.Posting.{Posted, post, book_after}
+use Rattle.rules.specs.Posting.{Posted, receive, book_after}
 use Rattle.rules.specs.Soundness.{sound}
 use Rattle.rules.specs.Tables.{Tables, book_of, tables_of, sound_tables}
 use Rattle.rules.specs.Calls.{event_refusals, event_call, batch_refusals, batch_call}
@@ -20,6 +21,7 @@ use Rattle.replay.specs.Replay.{Replay, Report, settled_replay, step_of, replay_
 use Rattle.replay.specs.Demand3.{Call, single, batch, called, tables_after, reports_of, reports_if, reports_at, reports}
 use Rattle.replay.proofs.Relation.{Agrees}
 use Rattle.replay.proofs.SoundRows.{stage-length}
+use Rattle.replay.proofs.PassedOn.{step-forwarded, proper-forwarded}
 use Rattle.replay.proofs.AnyEvent.{accepted-proper, event-agrees}
 use Rattle.replay.proofs.FeesAlong.{FeesOf, later, Advanced, report-advanced, fees-advance, Ends, ends-none, ends_more}
 
@@ -37,25 +39,25 @@ pub record Ended (b : Book) (p : Replay) (days : ℕ → ℕ → ℕ) (hs : List
   pub fees : Ends p days hs
 
 abbrev report_of : Book → Instruction → Report
-report_of b e = record { event = e; accepted = answer_number b e is 0 }
+report_of b e = record { event = e; accepted = answer_number b (forwarded b e) is 0 }
 
 -- ---- one event
 
-report-agrees : (b : Book) (p : Replay) (e : Instruction) → sound b ≡ true → Agrees b p → Agrees (post b e).book (replay_one p (report_of b e))
+report-agrees : (b : Book) (p : Replay) (e : Instruction) → sound b ≡ true → Agrees b p → Agrees (receive b e).book (replay_one p (report_of b e))
 unfolding replay_one
-report-agrees b p e s a = go (answer_number b e is 0) refl
+report-agrees b p e s a = go (answer_number b (forwarded b e) is 0) refl
   where
-    go : (v : Bool) → answer_number b e is 0 ≡ v → Agrees (post b e).book (cond v (settled_replay (step_of e.kind p e)) p)
-    go true z = rw (post-accepted b e z) (event-agrees b e (eqb-true _ _ z) p (sound-facts b s) a)
-    go false z = rw (post-refused b e z) a
+    go : (v : Bool) → answer_number b (forwarded b e) is 0 ≡ v → Agrees (receive b e).book (cond v (settled_replay (step_of e.kind p e)) p)
+    go true z = rw (post-accepted b (forwarded b e) z, ← (step-forwarded b p a e)) (event-agrees b (forwarded b e) (eqb-true _ _ z) p (sound-facts b s) a)
+    go false z = rw (post-refused b (forwarded b e) z) a
 
 advanced : (b : Book) (p : Replay) (e : Instruction) → Advanced p (replay_one p (report_of b e))
-advanced b p e = report-advanced p (report_of b e) (λ z. accepted-proper b e (eqb-true _ _ z))
+advanced b p e = report-advanced p (report_of b e) (λ z. proper-forwarded b e (accepted-proper b (forwarded b e) (eqb-true _ _ z)))
 
 event-underway : (b : Book) (p : Replay) (days : ℕ → ℕ → ℕ) (e : Instruction) → Underway b p days
-    → Underway (post b e).book (replay_one p (report_of b e)) (later p (replay_one p (report_of b e)) days)
+    → Underway (receive b e).book (replay_one p (report_of b e)) (later p (replay_one p (report_of b e)) days)
 event-underway b p days e s = record {
-  is-sound = post-keeps-sound b e s.is-sound;
+  is-sound = post-keeps-sound b (forwarded b e) s.is-sound;
   alike = report-agrees b p e s.is-sound s.alike;
   fees = fees-advance p (replay_one p (report_of b e)) days
       (rw s.alike.schedule at (stage-length b (sound-facts b s.is-sound).near)) (advanced b p e) s.fees;
@@ -69,12 +71,12 @@ unfolding book_after reports_of replay
 events-ended end hs [] b p days s f = f p days s
 events-ended end hs (e ∷ es) b p days s f =
     let q : Replay = replay_one p (report_of b e) in
-    let r : Ended end q (later p q days) (reports_of (post b e).book es ++ hs) = events-ended end hs es (post b e).book q (later p q days) (event-underway b p days e s) f in
+    let r : Ended end q (later p q days) (reports_of (receive b e).book es ++ hs) = events-ended end hs es (receive b e).book q (later p q days) (event-underway b p days e s) f in
     record {
       is-sound = r.is-sound;
       alike = r.alike;
       schedule = r.schedule ∙ (advanced b p e).schedule;
-      fees = ends_more p days (report_of b e) (reports_of (post b e).book es ++ hs) (advanced b p e) r.fees;
+      fees = ends_more p days (report_of b e) (reports_of (receive b e).book es ++ hs) (advanced b p e) r.fees;
     }
 
 -- ---- a call: the events that it stands for
@@ -102,13 +104,16 @@ posted t s es =
 
 -- a single event, posted or refused
 one-posts : (t : Tables) → sound_tables t ≡ true → (e : Instruction)
-    → Posts t (reports_of (book_of t) (e ∷ [])) (cond ((post (book_of t) e).answer.number is 0) (tables_of (post (book_of t) e).book) t)
+    → Posts t (reports_of (book_of t) (e ∷ [])) (cond ((receive (book_of t) e).answer.number is 0) (tables_of (receive (book_of t) e).book) t)
 unfolding book_after
-one-posts t s e = rw (post-number (book_of t) e) (go (answer_number (book_of t) e is 0) refl)
+one-posts t s e = rw (post-number (book_of t) f) (go (answer_number (book_of t) f is 0) refl)
   where
-    go : (v : Bool) → answer_number (book_of t) e is 0 ≡ v → Posts t (reports_of (book_of t) (e ∷ [])) (cond v (tables_of (post (book_of t) e).book) t)
+    f : Instruction
+    f = forwarded (book_of t) e
+
+    go : (v : Bool) → answer_number (book_of t) f is 0 ≡ v → Posts t (reports_of (book_of t) (e ∷ [])) (cond v (tables_of (receive (book_of t) e).book) t)
     go true z = posted t s (e ∷ [])
-    go false z = record { events = e ∷ []; reported = refl; book = sym (ap (λ (x : Posted). x.book) (post-refused (book_of t) e z)); tables-sound = s }
+    go false z = record { events = e ∷ []; reported = refl; book = sym (ap (λ (x : Posted). x.book) (post-refused (book_of t) f z)); tables-sound = s }
 
 call-posts : (t : Tables) → sound_tables t ≡ true → (c : Call) → Posts t (reports_at t c) (called t c).tables
 unfolding reports_at reports_if called event_call batch_call

@@ -1,23 +1,23 @@
 -- Any accepted event keeps the relation: the refusals that do not apply give each event what its law needs.
 use mathlib.Core.Path.{◌≡◌, refl}
-use mathlib.Core.Bool.{Bool, true, false, not, ◌&&◌, ◌||◌}
+use mathlib.Core.Bool.{Bool, true, false, not, ◌&&◌, ◌||◌, false≢true}
 use Prim.Native.Nat.{ℕ, suc, ◌≤◌, ◌<◌}
 use native.Mathlib.Omega.{arith}
 use lib.Dec.{leb, ltb}
 use borrow.Author.Tests.{eqb-true, leb-true, ltb-true, lt-ltb, not-false}
-use Rattle.records.specs.Codes.{event_open, event_dispute, event_decision, event_topup_result}
+use Rattle.records.specs.Codes.{event_open, event_toll, event_payment, event_dispute, event_decision, event_topup_result, event_close_request, event_reserve}
 use Rattle.lists.specs.Tests.{◌is◌}
 use Rattle.lists.proofs.TestLaws.{and_left, and_right, and_then, or_left, or_right}
 use Rattle.rules.specs.Rows.{held_toll, unsettled}
-use Rattle.rules.specs.Book.{state_unused, state_open, Instruction, Book, account, row, topup_due, low_balance}
-use Rattle.rules.specs.Refusals.{whole_book, change_of, after, in_table, state_of, unknown, taken, named_kind, no_row, untimely, answer_number}
+use Rattle.rules.specs.Book.{state_unused, state_open, state_closed, Instruction, Book, account, row, topup_due, low_balance}
+use Rattle.rules.specs.Refusals.{whole_book, change_of, after, in_table, state_of, unknown, taken, on_closed, named_kind, no_row, untimely, answer_number}
 use Rattle.rules.specs.SoundFacts.{Sound}
 use Rattle.rules.proofs.KindLaws.{by_kind}
 use Rattle.preservation.proofs.Accepted.{Accepted, accepted}
 use Rattle.replay.specs.Replay.{Replay, settled_replay, step_of}
 use Rattle.replay.proofs.Relation.{Agrees}
 use Rattle.replay.proofs.Growing.{row-place, settled-agrees}
-use Rattle.replay.proofs.PlainEvents.{open_account-agrees, request_close-agrees, add_list-agrees, set_reserve-agrees, post_toll-agrees, post_payment-agrees, topup_result-agrees}
+use Rattle.replay.proofs.PlainEvents.{open_account-agrees, request_close-agrees, add_list-agrees, set_reserve-agrees, set_successor-agrees, post_toll-agrees, post_payment-agrees, topup_result-agrees}
 use Rattle.replay.proofs.RowEvents.{return_check-agrees, hold_toll-agrees, decide-agrees}
 use Rattle.replay.proofs.Ticking.{tick-agrees}
 use Rattle.replay.proofs.ReplaySteps.{Proper}
@@ -39,6 +39,18 @@ module _ (b : Book) (e : Instruction) (z : answer_number b e ≡ 0) where
   free : e.kind is event_open ≡ true → (account b e.account).state ≡ state_unused
   unfolding taken
   free k = eqb-true _ _ (not-false _ (and_then (e.kind is event_open) _ k acc.free))
+
+  -- 5
+  unclosed : (e.kind is event_toll || e.kind is event_close_request) ≡ true → (account b e.account).state is state_closed ≡ false
+  unfolding on_closed
+  unclosed k = and_then _ _ (some (e.kind is event_toll) (e.kind is event_payment) (e.kind is event_topup_result) (e.kind is event_close_request) (e.kind is event_reserve) k) acc.unclosed
+    where
+      some : (t p r c v : Bool) → t || c ≡ true → t || p || r || c || v ≡ true
+      some true p r c v q = refl
+      some false true r c v q = refl
+      some false false true c v q = refl
+      some false false false true v q = refl
+      some false false false false v q = absurd (false≢true q)
 
   -- 10
   there : (j : ℕ) → named_kind e ≡ suc j → (row b e.a).kind ≡ suc j
@@ -79,16 +91,17 @@ module _ (b : Book) (e : Instruction) (z : answer_number b e ≡ 0) where
       by_kind (λ k. e.kind ≡ k → Agrees (change_of k b e) (step_of k p e))
       (record {
         opened = λ q. open_account-agrees b p e s.near a (free (rw q));
-        toll = λ q. post_toll-agrees b p e s.near a;
+        toll = λ q. post_toll-agrees b p e s.near a (unclosed (rw q refl));
         payment = λ q. post_payment-agrees b p e s.near a;
-        returned-check = λ q. return_check-agrees b p e s.near a (known (rw q)) (there 3 (rw q));
+        returned-check = λ q. return_check-agrees b p e s.near a (there 3 (rw q));
         dispute = λ q. hold_toll-agrees b p e s.near a (there 0 (rw q)) (undisputed (rw q));
         decision = λ q. decide-agrees b p e s.near a (held-still (rw q));
         topup-result = λ q. topup_result-agrees b p e s.near a (known (rw q)) (topped-up (rw q));
-        close-request = λ q. request_close-agrees b p e a;
+        close-request = λ q. request_close-agrees b p e a (unclosed (rw q refl));
         tick = λ q. tick-agrees b p s a e;
         rate-list = λ q. add_list-agrees b p e a;
         reserve = λ q. set_reserve-agrees b p e a (known (rw q));
+        successor = λ q. set_successor-agrees b p e a;
         none = λ q. a;
         past = λ k q. a;
       })

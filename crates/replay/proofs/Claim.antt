@@ -29,6 +29,7 @@ use Rattle.replay.specs.Demand3.{reports, tables_after, line_of_row, line_of_ent
 use Rattle.replay.proofs.Relation.{Match, Named, Noted}
 use Rattle.replay.proofs.SoundRows.{sound-row, stage-length}
 use Rattle.replay.proofs.Growing.{Place, row-place, number_at, rows-no}
+use Rattle.replay.proofs.PlainEvents.{noted-no}
 use Rattle.replay.proofs.RowEvents.{fee-same}
 use Rattle.replay.proofs.Balances.{balance-same}
 use Rattle.replay.proofs.Idle.{idle-none}
@@ -109,7 +110,7 @@ module _ (b : Book) (start : Replay) (days : ℕ → ℕ → ℕ) (hs : List Rep
       twice true w = refl
       twice false w = refl
 
-  pub demand3 : ((n k : ℕ) → 2 ≤ k → attained start n k ≡ false) → Demand3 b start hs (replay start hs).entries
+  pub demand3 : ((n k : ℕ) → 2 ≤ k → attained start n k ≡ false) → Demand3 b start hs (replay start hs)
   demand3 unreached = record {
     balances = balance-same b (replay start hs).entries (pairs-to (λ r x m. m.is.line) ended.alike.rows);
     no-idle-money = idle-none b (replay start hs) facts ended.alike;
@@ -118,13 +119,15 @@ module _ (b : Book) (start : Replay) (days : ℕ → ℕ → ℕ) (hs : List Rep
     lines = lines;
     held = held;
     fee-tolls = pairs-same (pairs-to (λ r x m. m.toll) ended.alike.rows);
+    closed = λ n. (noted-no b (replay start hs) ended.alike n).closed;
+    successors = λ n. (noted-no b (replay start hs) ended.alike n).successor;
   }
 
 -- ---- the opening
 
 notes-noted : (n : ℕ) → Pairs Noted (replicate n unused) (replicate n no_note)
 notes-noted zero = none
-notes-noted (suc n) = more (record { request = refl; topup = λ h. refl }) (notes-noted n)
+notes-noted (suc n) = more (record { request = refl; topup = λ h. refl; successor = refl; closed = refl }) (notes-noted n)
 
 -- no stage is reached where there is no entry
 none-attained : (p : Replay) → p.entries ≡ [] → 1 ≤ p.schedule.stage → (n k : ℕ) → 2 ≤ k → attained p n k ≡ false

@@ -120,10 +120,10 @@ module _ (b : Book) (p : Replay) (sound : Sound b) (a : Agrees b p) where
   abbrev pub closing_now : ℕ → Bool
   closing_now c = closing p.holidays now raised_entries c (note_of c)
 
-  -- the book and the replay judge alike, or the account is closed and has nothing
+  -- the book and the replay judge alike, or the account is closed already and has nothing
   pub data Judged (c : ℕ) : Type 0 where
     same : closes_now c ≡ closing_now c → (closing_now c ≡ true → money_in c raised_entries ≡ money_out c raised_entries + money c (after_raising b p sound a)) → Judged c
-    idle : closes_now c ≡ false → money c (after_raising b p sound a) ≡ 0 → money_in c raised_entries ≡ money_out c raised_entries → Judged c
+    idle : closes_now c ≡ false → money c (after_raising b p sound a) ≡ 0 → money_in c raised_entries ≡ money_out c raised_entries → (account b c).state ≡ state_closed → Judged c
 
   -- an account without a request
   quiet : (c : ℕ) → (account b c).state is state_pending ≡ false → (account b c).request ≡ 0 → Judged c
@@ -177,7 +177,7 @@ module _ (b : Book) (p : Replay) (sound : Sound b) (a : Agrees b p) where
     unfolding closes
     closed-idle e =
         let z = closed_none b p sound a j h e in
-        idle (rw e) z.0 (omega (arith, sums-in, sums-out, after_raising-used-is-paid b p sound a j h, z.0, z.1))
+        idle (rw e) z.0 (omega (arith, sums-in, sums-out, after_raising-used-is-paid b p sound a j h, z.0, z.1)) e
 
     in_table : Judged c
     in_table = go ((account b c).state is state_pending) ((account b c).state is state_closed) refl refl

@@ -17,6 +17,7 @@ pub mod StageFees
 pub mod ReplaySteps
 pub mod TickFees
 pub mod FeesAlong
+pub mod PassedOn
 pub mod AnyEvent
 pub mod AnyCalls
 pub mod Claim

@@ -4,9 +4,10 @@ use mathlib.Core.Path.{◌≡◌, refl}
 use mathlib.Core.Bool.{true, false, cond, false≢true}
 use Prim.Native.Nat.{ℕ, ◌+◌, ◌*◌, ◌≤◌, ◌<◌}
 use mathlib.Core.List.{List}
+use lib.Dec.{eqb}
 use Rattle.lists.proofs.PairLaws.{Pairs}
 use Rattle.rules.specs.Rows.{Row, blank, last_stage, toll, held_toll, unsettled}
-use Rattle.rules.specs.Book.{Account, Book}
+use Rattle.rules.specs.Book.{Account, state_closed, Book}
 use Rattle.replay.specs.Entries.{Entry, no_entry}
 use Rattle.replay.specs.Replay.{Note, Replay}
 use Rattle.replay.specs.Demand3.{toll_named}
@@ -49,6 +50,8 @@ Rows R rows xs = Pairs (Named R rows) rows xs
 pub record Noted (x : Account) (n : Note) : Type 0 where
   pub request : x.request ≡ n.request
   pub topup : 0 < x.topup → x.topup ≡ n.topup
+  pub successor : x.successor ≡ n.successor
+  pub closed : eqb x.state state_closed ≡ n.closed
 
 pub record Agrees (b : Book) (p : Replay) : Type 0 where
   pub day : b.day ≡ p.day

@@ -16,7 +16,7 @@ use Rattle.lists.proofs.PairLaws.{Pairs, none, more, pairs-at, pairs-to, pairs-m
 use Rattle.lists.proofs.CollectLaws.{collect, collect-append, collect-pairs, collect-none}
 use Rattle.rules.proofs.KindLaws.{by_kind}
 use Rattle.replay.specs.Entries.{Entry, kind_fee, no_entry, entry_no, cover_whole, fee_of, unused_of, cover_rank, cover, settle_entries, settle_all_entries}
-use Rattle.replay.specs.Replay.{Replay, note_topup, note_request, note_list, add_toll, add_payment, add_topup, add_return, set_hold, add_credit, free_toll, step_of}
+use Rattle.replay.specs.Replay.{Replay, note_topup, note_request, note_successor, note_list, add_toll, add_payment, add_topup, add_return, set_hold, add_credit, free_toll, step_of}
 use Rattle.replay.proofs.Growing.{number_at}
 
 -- the fee entries that name toll n: amounts and days
@@ -135,7 +135,7 @@ pub record Proper (e : Instruction) : Type 0 where
 -- events but the tick, and kinds of no event
 pub step-steady : (k : ℕ) (p : Replay) (e : Instruction) → k ≢ event_tick → (k ≡ event_dispute → 1 ≤ e.a) → (k ≡ event_decision → 1 ≤ e.a)
     → Stepped p (step_of k p e)
-unfolding step_of note_topup note_request note_list add_toll add_payment add_topup add_return set_hold add_credit free_toll
+unfolding step_of note_topup note_request note_successor note_list add_toll add_payment add_topup add_return set_hold add_credit free_toll
 step-steady k p e =
     by_kind (λ k. k ≢ event_tick → (k ≡ event_dispute → 1 ≤ e.a) → (k ≡ event_decision → 1 ≤ e.a) → Stepped p (step_of k p e))
     (record {
@@ -157,6 +157,7 @@ step-steady k p e =
       tick = λ n f g. absurd (n refl);
       rate-list = λ n f g. record { schedule = refl; steady = steady_self p.entries };
       reserve = λ n f g. record { schedule = refl; steady = steady_self p.entries };
+      successor = λ n f g. record { schedule = refl; steady = steady_self p.entries };
       none = λ n f g. record { schedule = refl; steady = steady_self p.entries };
       past = λ k n f g. record { schedule = refl; steady = steady_self p.entries };
     }) k

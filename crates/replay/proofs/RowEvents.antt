@@ -21,12 +21,12 @@ use Rattle.rules.specs.Book.{Account, state_pending, state_closed, Instruction, 
 use Rattle.rules.specs.Events.{return_check, hold_from, hold_toll, release, reject, with_fees, uphold, decide}
 use Rattle.rules.specs.SoundFacts.{Near}
 use Rattle.replay.specs.Entries.{Entry, no_entry, entry_no, new_entry, with_covered, with_hold, cover_whole, uncovered, fee_of}
-use Rattle.replay.specs.Replay.{Note, Replay, change_entry, add_return, set_hold, toll_and_fees, add_credit, free_toll}
+use Rattle.replay.specs.Replay.{Note, Replay, with_closed, reopen, change_entry, add_return, set_hold, toll_and_fees, add_credit, free_toll}
 use Rattle.replay.specs.Demand3.{toll_named}
 use Rattle.replay.proofs.Relation.{SameLine, Match, Named, Noted, Agrees, counts-other}
 use Rattle.replay.proofs.SoundRows.{sound-row}
 use Rattle.replay.proofs.Growing.{Referring, referring, Kept, kept_self, kind-kept, SameToll, grow, regrow, Place, row-place, number_at, rows-no}
-use Rattle.replay.proofs.PlainEvents.{noted-no, account-agrees}
+use Rattle.replay.proofs.PlainEvents.{noted-no, note-agrees}
 
 -- ---- a row and its entry change
 
@@ -247,22 +247,22 @@ decide-agrees b p e near a h = go (e.b is code_yes)
 
 -- ---- 4
 
-returned-noted : (x : Account) (n : Note) → Noted x n → Noted (check_returned x) n
+returned-noted : (x : Account) (n : Note) → Noted x n → Noted (check_returned x) (with_closed false n)
 unfolding check_returned
-returned-noted x n q = go (x.state is state_closed)
+returned-noted x n q = go (x.state is state_closed) refl
   where
-    go : (v : Bool) → Noted (with_returned (x.returned + 1) (cond v (with_state state_pending x) x)) n
-    go true = record { request = q.request; topup = q.topup }
-    go false = record { request = q.request; topup = q.topup }
+    go : (v : Bool) → x.state is state_closed ≡ v → Noted (with_returned (x.returned + 1) (cond v (with_state state_pending x) x)) (with_closed false n)
+    go true e = record { request = q.request; topup = q.topup; successor = q.successor; closed = refl }
+    go false e = record { request = q.request; topup = q.topup; successor = q.successor; closed = e }
 
-pub return_check-agrees : (b : Book) (p : Replay) (e : Instruction) → Near b.day b → Agrees b p → 1 ≤ e.account → (row b e.a).kind ≡ kind_payment → Agrees (return_check b e) (add_return p e)
+pub return_check-agrees : (b : Book) (p : Replay) (e : Instruction) → Near b.day b → Agrees b p → (row b e.a).kind ≡ kind_payment → Agrees (return_check b e) (add_return p e)
 unfolding return_check add_return toll_named
-return_check-agrees b p e near a h k =
+return_check-agrees b p e near a k =
     let n : ℕ = e.a in
     let place : Place b.rows n = row-place b.rows n 3 k in
     let c : Book = put_account e.account (check_returned (account b e.account)) b in
     let r : Row = with_mark method_check_returned (row b n) in
-    let ac : Agrees c p = account-agrees b p a e.account h (check_returned (account b e.account)) (returned-noted _ _ (noted-no b p a e.account)) in
+    let ac : Agrees c (reopen p e) = note-agrees b p a e.account (check_returned (account b e.account)) _ (returned-noted _ _ (noted-no b p a e.account)) in
     let m = (rows-no a.rows n).is in
     let f = m.line in
     let old : Row = get_or b.rows (n - 1) blank in

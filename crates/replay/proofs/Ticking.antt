@@ -10,19 +10,19 @@ use lib.Dec.{ltb}
 use borrow.Author.Tests.{le-ltb, lt-ltb}
 use Rattle.records.specs.AccountOperations.{closed}
 use Rattle.lists.specs.Tests.{◌is◌}
-use Rattle.lists.specs.Lists.{one, gather}
+use Rattle.lists.specs.Lists.{one, gather, change}
 use Rattle.lists.proofs.TestLaws.{cond_either}
 use Rattle.lists.proofs.ListLaws.{append_at}
-use Rattle.lists.proofs.PairLaws.{Pairs, none, pairs-in, pairs-length, pairs-map-in, pairs-map-self, pairs-gather, pairs-one, pairs-change-left}
+use Rattle.lists.proofs.PairLaws.{Pairs, none, pairs-in, pairs-length, pairs-map-in, pairs-map-self, pairs-gather, pairs-one, pairs-change}
 use Rattle.rules.specs.Rows.{Row, kind_fee, kind_refund, blank, new_row, source, settle_whole, remaining}
 use Rattle.rules.specs.Settlement.{money}
-use Rattle.rules.specs.Book.{Account, unused, Instruction, Book, settled, account}
+use Rattle.rules.specs.Book.{Account, unused, state_closed, Instruction, Book, settled, account}
 use Rattle.rules.specs.Tick.{next_day, end_holds, before_raising, rises, fee_row, raise_tolls, closes, close_if, refund_row, use_up, close_accounts, tick}
 use Rattle.rules.specs.Schedule.{stage_fee}
 use Rattle.rules.specs.SoundFacts.{Sound}
 use Rattle.preservation.proofs.TickSteps.{raise-keeps}
 use Rattle.replay.specs.Entries.{Entry, no_entry, new_entry, with_covered, cover_whole, is_money, money_in, money_out}
-use Rattle.replay.specs.Replay.{Note, no_note, Replay, note_no, closing, add_refund, use_money, close_all, tick_replay}
+use Rattle.replay.specs.Replay.{Note, no_note, with_closed, Replay, note_no, closing, add_refund, use_money, close_note, close_all, tick_replay}
 use Rattle.replay.specs.Demand3.{toll_named}
 use Rattle.replay.proofs.Relation.{Match, Named, Noted, Rows, Agrees, counts-other}
 use Rattle.replay.proofs.Growing.{Referring, Kept, SameToll, grow}
@@ -159,7 +159,7 @@ module _ (b : Book) (p : Replay) (sound : Sound b) (a : Agrees b p) where
 
       by : Judged b p sound a y-account → Match 0 today stage (cond (source r && v) (settle_whole r) r) (cond (is_money y && closing_now b p sound a y-account) (cover_whole y) y)
       by (same t f) = use-same today stage r y m v (closing_now b p sound a y-account) (at_entry ∙ t)
-      by (idle t z i) =
+      by (idle t z i s) =
           use-idle today stage r y m v (closing_now b p sound a y-account) (at_entry ∙ t)
           (λ e. let l : remaining r ≤ 0 = omega (arith, money-least rows_now y-account k h m.line.account e) in omega (arith, after_raising-fits k h))
 
@@ -192,7 +192,7 @@ module _ (b : Book) (p : Replay) (sound : Sound b) (a : Agrees b p) where
           → Pairs S (one (closes_now b p sound a c && ltb 0 (money c rows_now)) (f (money c rows_now)))
           (one (closing_now b p sound a c && ltb (money_out c entries_now) (money_in c entries_now)) (g (money_in c entries_now - money_out c entries_now)))
       by (same t q) = refund-same S f g pair (closes_now b p sound a c) (closing_now b p sound a c) (money c rows_now) (money_in c entries_now) (money_out c entries_now) t q
-      by (idle t z i) = refund-idle S f g (closes_now b p sound a c) (closing_now b p sound a c) (money c rows_now) (money_in c entries_now) (money_out c entries_now) t i
+      by (idle t z i s) = refund-idle S f g (closes_now b p sound a c) (closing_now b p sound a c) (money c rows_now) (money_in c entries_now) (money_out c entries_now) t i
 
   -- ---- the whole
 
@@ -204,9 +204,29 @@ module _ (b : Book) (p : Replay) (sound : Sound b) (a : Agrees b p) where
   unfolding use_money
   use-toll y = cond_either (λ (z : Entry). SameToll y z) (is_money y && closing p.holidays today entries_now y.account (note_no p.notes y.account)) (cover_whole y) y refl refl
 
-  close-noted : (n : ℕ) (x : Account) (y : Note) → Noted x y → Noted (close_if book_now n x) y
-  unfolding close_if
-  close-noted n x y q = cond_either (λ (z : Account). Noted z y) (closes book_now n x) (closed x) x (record { request = q.request; topup = q.topup }) q
+  -- the replay takes an account as closed with the book, or again
+  close-noted : (k n : ℕ) → n ≡ 1 + k → k < length b.accounts → Noted (get_or b.accounts k unused) (get_or p.notes k no_note)
+      → Noted (close_if book_now n (get_or b.accounts k unused)) (close_note p.holidays today entries_now n (get_or p.notes k no_note))
+  unfolding close_if close_note
+  close-noted k n e h q = let z : n ≡ suc k = omega arith in rw z (by (judge b p sound a (suc k)))
+    where
+      x : Account
+      x = get_or b.accounts k unused
+
+      y : Note
+      y = get_or p.notes k no_note
+
+      both : (v : Bool) → Noted (cond v (closed x) x) (cond v (with_closed true y) y)
+      both true = record { request = q.request; topup = q.topup; successor = q.successor; closed = refl }
+      both false = q
+
+      again : x.state ≡ state_closed → (w : Bool) → Noted x (cond w (with_closed true y) y)
+      again s true = record { request = q.request; topup = q.topup; successor = q.successor; closed = rw s refl }
+      again s false = q
+
+      by : Judged b p sound a (suc k) → Noted (cond (closes_now b p sound a (suc k)) (closed x) x) (cond (closing_now b p sound a (suc k)) (with_closed true y) y)
+      by (same t f) = rw t (both (closing_now b p sound a (suc k)))
+      by (idle t z i s) = rw t (again s (closing_now b p sound a (suc k)))
 
   close-rows : Rows (Match 0 today stage) (map (use_up book_now) rows_now ++ gather (refund_row book_now) b.accounts)
       (map (use_money p.holidays today p.notes entries_now) entries_now ++ gather (add_refund p.holidays today entries_now) p.notes)
@@ -216,6 +236,9 @@ module _ (b : Book) (p : Replay) (sound : Sound b) (a : Agrees b p) where
       (pairs-map-in (use_up book_now) (use_money p.holidays today p.notes entries_now) blank no_entry (rows b p sound a) (λ k h m. use-match k h m.is))
       _ _ (pairs-gather (refund_row book_now) (add_refund p.holidays today entries_now) unused no_note 1 b.accounts p.notes (pairs-length a.notes) (refund-pairs _))
 
+  close-notes : Pairs Noted (change (close_if book_now) b.accounts) (change (close_note p.holidays today entries_now) p.notes)
+  close-notes = pairs-change (close_if book_now) (close_note p.holidays today entries_now) unused no_note 1 a.notes close-noted
+
   pub tick-agrees : (e : Instruction) → Agrees (tick b e) (tick_replay p e)
   unfolding tick close_accounts raise_tolls before_raising settled end_holds next_day tick_replay close_all
   tick-agrees e = record {
@@ -224,5 +247,5 @@ module _ (b : Book) (p : Replay) (sound : Sound b) (a : Agrees b p) where
     lists = a.lists;
     holidays = a.holidays;
     rows = rw (← a.day) (rw (← a.day) at close-rows);
-    notes = pairs-change-left (close_if book_now) close-noted 1 a.notes;
+    notes = rw (← a.day) (rw (← a.day) at close-notes);
   }

@@ -7,13 +7,14 @@ use Rattle.lists.specs.Tests.{◌is◌, first}
 use Rattle.lists.specs.Lists.{one, gather, gather_from}
 use Rattle.rules.specs.Schedule.{Schedule}
 use Rattle.rules.specs.Rows.{Row, kind_toll, kind_fee, row_no, held_toll, fee_naming}
-use Rattle.rules.specs.Book.{Instruction, Book, row, balance}
+use Rattle.rules.specs.Book.{state_closed, Instruction, Book, account, row, balance}
+use Rattle.rules.specs.Successors.{forwarded}
 use Rattle.rules.specs.Refusals.{answer_number}
-use Rattle.rules.specs.Posting.{post}
+use Rattle.rules.specs.Posting.{receive}
 use Rattle.rules.specs.Tables.{Tables, accounts_in, holidays_in, schedule_from, rates_from, book_of}
 use Rattle.rules.specs.Calls.{Event, Called, open_call, event_call, batch_call, event_refusals, batch_refusals}
 use Rattle.replay.specs.Entries.{Entry, entry_no, is_money, is_debt, is_toll, covered_whole, on_hold, balance_of}
-use Rattle.replay.specs.Replay.{Replay, Report, replay_one, replay, begin}
+use Rattle.replay.specs.Replay.{Replay, Report, note_no, replay_one, replay, begin}
 
 -- ---- the list of calls
 
@@ -34,10 +35,10 @@ tables_after t (c ∷ cs) = tables_after (called t c).tables cs
 
 -- ---- what the replay is fed
 
--- "Accepted events are exactly those to which no refusal of the table applies"
+-- "Accepted events are exactly those to which no refusal of the table applies"; the replay is fed them as they were handed over
 unfoldable pub reports_of : Book → List Instruction → List Report
 reports_of b [] = []
-reports_of b (e ∷ es) = record { event = e; accepted = answer_number b e is 0 } ∷ reports_of (post b e).book es
+reports_of b (e ∷ es) = record { event = e; accepted = answer_number b (forwarded b e) is 0 } ∷ reports_of (receive b e).book es
 
 -- the events of a call that is not refused, n being its refusal
 unfoldable pub reports_if : ℕ → Book → List Instruction → List Report
@@ -94,24 +95,28 @@ stage_fees s stage reached = gather_from (λ k fee. one (leb k stage && ltb 0 fe
 unfoldable pub fees_naming : ℕ → List Row → List (ℕ × ℕ)
 fees_naming n rows = gather (λ i r. one (fee_naming n r) (r.amount, r.day)) rows
 
--- ---- the claim: b is the book, start the replay at the opening, hs what it is fed
+-- ---- the claim: b is the book, start the replay at the opening, hs what it is fed, p where it ends
 
-pub record Demand3 (b : Book) (start : Replay) (hs : List Report) (xs : List Entry) : Type 0 where
+pub record Demand3 (b : Book) (start : Replay) (hs : List Report) (p : Replay) : Type 0 where
   -- balance = payments + credits - tolls - fees - reversals - refunds
-  pub balances : (a : ℕ) → balance b a ≡ balance_of a xs
+  pub balances : (a : ℕ) → balance b a ≡ balance_of a p.entries
   -- no money of an account is unused while a debt of it that is not held is uncovered
   pub no-idle-money : (i j : ℕ)
-      → is_money (entry_no xs i) && not (covered_whole (entry_no xs i)) ≡ true
-      → is_debt (entry_no xs j) && not (covered_whole (entry_no xs j)) && not (on_hold xs (entry_no xs j)) ≡ true
-      → (entry_no xs i).account ≡ (entry_no xs j).account → ⊥
+      → is_money (entry_no p.entries i) && not (covered_whole (entry_no p.entries i)) ≡ true
+      → is_debt (entry_no p.entries j) && not (covered_whole (entry_no p.entries j))
+      && not (on_hold p.entries (entry_no p.entries j)) ≡ true
+      → (entry_no p.entries i).account ≡ (entry_no p.entries j).account → ⊥
   -- each toll's stage and fees follow from its open days
-  pub stages : (n : ℕ) → (row b n).kind ≡ kind_toll → (row b n).mark ≡ stage_of start.schedule.stage (entry_no xs n)
+  pub stages : (n : ℕ) → (row b n).kind ≡ kind_toll → (row b n).mark ≡ stage_of start.schedule.stage (entry_no p.entries n)
   pub fees : (n : ℕ) → (row b n).kind ≡ kind_toll
       → fees_naming n b.rows ≡ stage_fees start.schedule (row b n).mark (λ k. day_reached n k start hs)
   -- the rows are the entries, the same tolls are held, and each fee names the toll of its entry
-  pub lines : map line_of_row b.rows ≡ map line_of_entry xs
-  pub held : map held_toll b.rows ≡ map (λ x. is_toll x && x.hold) xs
-  pub fee-tolls : map (toll_named b.rows) b.rows ≡ map (λ x. x.toll) xs
+  pub lines : map line_of_row b.rows ≡ map line_of_entry p.entries
+  pub held : map held_toll b.rows ≡ map (λ x. is_toll x && x.hold) p.entries
+  pub fee-tolls : map (toll_named b.rows) b.rows ≡ map (λ x. x.toll) p.entries
+  -- an account is closed exactly where the replay takes it as closed, and has the successor that it notes
+  pub closed : (a : ℕ) → ((account b a).state is state_closed) ≡ (note_no p.notes a).closed
+  pub successors : (a : ℕ) → (account b a).successor ≡ (note_no p.notes a).successor
 
 -- "It starts where opening gave 0": w is the opening's words, t the tables it was given
 unfoldable pub replay_start : Tables → List ℤ → Replay
@@ -125,4 +130,4 @@ Claim3 =
     let opened : Tables = (open_call t w).tables in
     let start : Replay = replay_start t w in
     let hs : List Report = reports opened cs in
-    Demand3 (book_of (tables_after opened cs)) start hs (replay start hs).entries
+    Demand3 (book_of (tables_after opened cs)) start hs (replay start hs)

@@ -1,23 +1,42 @@
--- The replay (document 01, "What demand 3 counts"): it knows no stage, due day, account state or journal.
+-- The replay (document 01, "What demand 3 counts"): it knows no stage, due day or journal, and of an account's state only whether it is
+-- closed, which it tells by the closing rule (document 02, No. 8).
 use Rattle.std.specs.Prelude.{Bool, true, false, not, cond, ◌&&◌, ℕ, ◌+◌, ◌*◌, ◌-◌, List, [], ◌∷◌, ◌++◌, map, length, get_or, set, replicate, leb, ltb}
 use Rattle.records.specs.Codes.{code_yes}
 use Rattle.records.specs.declared.Instruction.{Instruction}
 use Rattle.lists.specs.Tests.{◌is◌}
-use Rattle.lists.specs.Lists.{sum_by, only, exists, one, gather}
+use Rattle.lists.specs.Lists.{sum_by, only, exists, one, gather, change}
 use Rattle.records.specs.Limits.{return_fee, hold_days, closing_days}
 use Rattle.rules.specs.Schedule.{Rates, Schedule, class, rate, stage_fee}
 use Rattle.rules.specs.RateLists.{RateList, in_force, list_of}
 use Rattle.rules.specs.BusinessDays.{business_day}
 use Rattle.replay.specs.Entries.{Entry, EntryTest, kind_toll, kind_fee, kind_reversal, kind_payment, kind_credit, kind_refund, new_entry, with_covered, with_hold, with_ticks, with_open_days, with_toll, entry_no, is_money, is_toll, uncovered, covered_whole, cover_whole, fee_of, money_in, money_out, settle_all_entries}
 
--- "per account the top-up amount and request day"
+-- "per account the top-up amount and request day"; the successor, and whether it is taken as closed (document 02, No. 8)
 pub record Note : Type 0 where
   pub topup : ℕ
   pub request : ℕ
+  pub successor : ℕ
+  pub closed : Bool
 
 -- nothing noted yet
 abbrev pub no_note : Note
-no_note = record { topup = 0; request = 0 }
+no_note = record { topup = 0; request = 0; successor = 0; closed = false }
+
+-- the note with another top-up amount
+abbrev pub with_topup : ℕ → Note → Note
+with_topup v x = record { topup = v; request = x.request; successor = x.successor; closed = x.closed }
+
+-- the note with another request day
+abbrev pub with_request : ℕ → Note → Note
+with_request v x = record { topup = x.topup; request = v; successor = x.successor; closed = x.closed }
+
+-- the note with another successor
+abbrev pub with_successor : ℕ → Note → Note
+with_successor v x = record { topup = x.topup; request = x.request; successor = v; closed = x.closed }
+
+-- the note, closed or not
+abbrev pub with_closed : Bool → Note → Note
+with_closed v x = record { topup = x.topup; request = x.request; successor = x.successor; closed = v }
 
 -- "It keeps the day, per account the top-up amount and request day, and entries"; the schedule is the opening's, the rate lists are those
 -- added so far (document 02, No. 1), the holidays those lent with the opening (No. 6)
@@ -40,20 +59,24 @@ with_entries xs p = record {
   entries = xs;
 }
 
+-- the replay with other notes
+abbrev pub with_notes : List Note → Replay → Replay
+with_notes ns p = record {
+  day = p.day;
+  schedule = p.schedule;
+  lists = p.lists;
+  holidays = p.holidays;
+  notes = ns;
+  entries = p.entries;
+}
+
 -- the note of account n, counted from 1
 abbrev pub note_no : List Note → ℕ → Note
 note_no ns n = get_or (no_note ∷ ns) n no_note
 
 -- the note of account n, written
 abbrev pub put_note : ℕ → Note → Replay → Replay
-put_note n x p = record {
-  day = p.day;
-  schedule = p.schedule;
-  lists = p.lists;
-  holidays = p.holidays;
-  notes = set p.notes (n - 1) x;
-  entries = p.entries;
-}
+put_note n x p = with_notes (set p.notes (n - 1) x) p
 
 -- an entry more
 abbrev pub add_entry : Entry → Replay → Replay
@@ -71,21 +94,32 @@ settled_replay p = with_entries (settle_all_entries (length p.notes) p.entries) 
 abbrev pub Step : Type 0
 Step = Replay → Instruction → Replay
 
--- ---- "1 notes b, 8 the request day"
+-- ---- "1 notes b, 8 the request day"; "the replay therefore notes event 12" (document 02, No. 8)
 
 -- "1 notes b"
 unfoldable pub note_topup : Step
-note_topup p e = put_note e.account (record { topup = e.b; request = (note_no p.notes e.account).request }) p
+note_topup p e = put_note e.account (with_topup e.b (note_no p.notes e.account)) p
 
 -- "8 the request day"
 unfoldable pub note_request : Step
-note_request p e = put_note e.account (record { topup = (note_no p.notes e.account).topup; request = p.day }) p
+note_request p e = put_note e.account (with_request p.day (note_no p.notes e.account)) p
+
+-- "notes event 12": its word a
+unfoldable pub note_successor : Step
+note_successor p e = put_note e.account (with_successor e.a (note_no p.notes e.account)) p
 
 -- ---- "2 adds a toll at its rate, 3 a payment of a, 7 if paid one of the noted b"
 
--- "2 adds a toll at its rate": "Sums of tolls are counted at the lists added before each" (document 02, No. 1)
+-- the account of a toll sent to account n: "A toll for a closed account .. posts on the successor" (document 02, No. 8)
+unfoldable pub toll_goes_to : List Note → ℕ → ℕ
+toll_goes_to ns n = cond (note_no ns n).closed (note_no ns n).successor n
+
+-- "2 adds a toll at its rate": "Sums of tolls are counted at the lists added before each" (document 02, No. 1); "Each such toll belongs to
+-- the successor's sums" (No. 8)
 unfoldable pub add_toll : Step
-add_toll p e = add_entry (new_entry kind_toll e.account p.day (rate (in_force p.lists e.b).rates (class e.c e.d) e.e)) p
+add_toll p e =
+    add_entry
+    (new_entry kind_toll (toll_goes_to p.notes e.account) p.day (rate (in_force p.lists e.b).rates (class e.c e.d) e.e)) p
 
 -- "3 a payment of a"
 unfoldable pub add_payment : Step
@@ -97,11 +131,15 @@ add_topup p e = cond (e.b is code_yes) (add_entry (new_entry kind_payment e.acco
 
 -- ---- "4 adds a reversal of the payment's amount, then a fee of charge + 500"
 
+-- an account is closed "until a returned check" (document 02, No. 8)
+abbrev pub reopen : Step
+reopen p e = put_note e.account (with_closed false (note_no p.notes e.account)) p
+
 -- "a reversal of the payment's amount, then a fee of charge + 500"
 unfoldable pub add_return : Step
 add_return p e =
     add_entry (new_entry kind_fee e.account p.day (e.b + return_fee))
-    (add_entry (new_entry kind_reversal e.account p.day (entry_no p.entries e.a).amount) p)
+    (add_entry (new_entry kind_reversal e.account p.day (entry_no p.entries e.a).amount) (reopen p e))
 
 -- ---- "5 holds the toll and its fees, 6 frees them"
 
@@ -170,11 +208,16 @@ add_refund hs today xs a x =
 unfoldable pub use_money : List ℕ → ℕ → List Note → List Entry → Entry → Entry
 use_money hs today ns xs y = cond (is_money y && closing hs today xs y.account (note_no ns y.account)) (cover_whole y) y
 
+-- "takes an account as closed from the tick at which its closing rule is met" (document 02, No. 8)
+unfoldable pub close_note : List ℕ → ℕ → List Entry → ℕ → Note → Note
+close_note hs today xs a x = cond (closing hs today xs a x) (with_closed true x) x
+
 -- all closings of a tick, judged on the entries before them
 unfoldable pub close_all : Replay → Replay
 close_all p =
-    with_entries
-    (map (use_money p.holidays p.day p.notes p.entries) p.entries ++ gather (add_refund p.holidays p.day p.entries) p.notes) p
+    with_notes (change (close_note p.holidays p.day p.entries) p.notes)
+    (with_entries
+    (map (use_money p.holidays p.day p.notes p.entries) p.entries ++ gather (add_refund p.holidays p.day p.entries) p.notes) p)
 
 -- "9: the day rises; .. settlement; .. adds fee k ..; by number, each requested account .. closes"
 unfoldable pub tick_replay : Step
@@ -212,7 +255,7 @@ no_step p e = p
 unfoldable pub step_of : ℕ → Step
 step_of k =
     get_or (no_step ∷ note_topup ∷ add_toll ∷ add_payment ∷ add_return ∷ set_hold true ∷ free_toll ∷ add_topup ∷ note_request ∷ tick_replay
-    ∷ note_list ∷ no_step ∷ []) k no_step
+    ∷ note_list ∷ no_step ∷ note_successor ∷ []) k no_step
 
 -- what a replay is fed: an event, and whether it is accepted
 pub record Report : Type 0 where

@@ -150,7 +150,7 @@ cases =
     ∷ (sound_tables filled ∷ [] are 1 ∷ [])
     -- the tables' lengths, and the words of opening, of an event and of its answer
     ∷ (map (λ t. (open_call t schedule_words).number)
-    (lengths_of 62 16 30 ∷ lengths_of 61 16 30 ∷ lengths_of 63 16 30 ∷ lengths_of 62 14 30 ∷ lengths_of 62 16 29 ∷ lengths_of 62 16 31 ∷ lengths_of 62 16 0 ∷ [])
+    (lengths_of 62 18 30 ∷ lengths_of 61 18 30 ∷ lengths_of 63 18 30 ∷ lengths_of 62 16 30 ∷ lengths_of 62 18 29 ∷ lengths_of 62 18 31 ∷ lengths_of 62 18 0 ∷ [])
     gives 0 ∷ 1 ∷ 1 ∷ 1 ∷ 1 ∷ 1 ∷ 1 ∷ [])
     ∷ (map opened_by
     (take 10 schedule_words ∷ (schedule_words ++ pos 1 ∷ []) ∷ set schedule_words 0 (pos 36_525) ∷ set schedule_words 0 (pos 36_526) ∷ set schedule_words 10 (pos 0) ∷ [])
@@ -236,7 +236,7 @@ cases =
     ∷ (map (λ s. closed_clear (with_settled s (a_row 4 9) ∷ []) 1 (an_account 3 1 0 0 0 0 0)) (8 ∷ 9 ∷ []) are 0 ∷ 1 ∷ [])
     ∷ (map (λ s. closed_clear (held_at 1 (with_settled s (a_row 1 9)) ∷ []) 1 (an_account 3 1 0 0 0 0 0)) (8 ∷ 9 ∷ []) are 0 ∷ 1 ∷ [])
     -- the forms, each word at its borders; then every word that is not named
-    ∷ (map (λ k. well_formed (event k 0 0 0 0 0 0)) (0 ∷ 1 ∷ 9 ∷ 10 ∷ 11 ∷ 12 ∷ []) are 0 ∷ 1 ∷ 1 ∷ 0 ∷ 1 ∷ 0 ∷ [])
+    ∷ (map (λ k. well_formed (event k 0 0 0 0 0 0)) (0 ∷ 1 ∷ 9 ∷ 10 ∷ 11 ∷ 12 ∷ 13 ∷ []) are 0 ∷ 1 ∷ 1 ∷ 0 ∷ 1 ∷ 1 ∷ 0 ∷ [])
     ∷ (map (λ n. well_formed (event 1 1 n 1 0 0 0)) (0 ∷ 1_000_000 ∷ 1_000_001 ∷ []) are 1 ∷ 1 ∷ 0 ∷ [])
     ∷ (map (λ n. well_formed (event 1 1 1 n 0 0 0)) (0 ∷ 1 ∷ 1_000_000 ∷ 1_000_001 ∷ []) are 0 ∷ 1 ∷ 1 ∷ 0 ∷ [])
     ∷ (map (λ n. well_formed (event 2 1 n 1 1 0 1)) (0 ∷ 1 ∷ 1_000_000_000 ∷ 1_000_000_001 ∷ []) are 0 ∷ 1 ∷ 1 ∷ 0 ∷ [])
@@ -251,10 +251,10 @@ cases =
     ∷ (map (λ n. well_formed (event 7 1 0 n 0 0 0)) (0 ∷ 1 ∷ 2 ∷ []) are 1 ∷ 1 ∷ 0 ∷ [])
     ∷ (map (λ n. well_formed (event 11 1 n 0 0 0 0)) (0 ∷ 1 ∷ 2 ∷ []) are 1 ∷ 1 ∷ 0 ∷ [])
     ∷ (map well_formed (event 7 1 1 0 0 0 0 ∷ event 8 1 1 0 0 0 0 ∷ event 9 0 1 0 0 0 0 ∷ event 9 1 0 0 0 0 0 ∷ []) are replicate 4 0)
-    ∷ (map well_formed (event 5 1 1 1 0 0 0 ∷ event 8 1 0 1 0 0 0 ∷ event 9 0 0 1 0 0 0 ∷ event 11 1 1 1 0 0 0 ∷ []) are replicate 4 0)
-    ∷ (map (λ k. well_formed (event k 0 1 1 1 0 0)) (1 ∷ 3 ∷ 4 ∷ 5 ∷ 6 ∷ 7 ∷ 8 ∷ 9 ∷ 11 ∷ []) are replicate 9 0)
-    ∷ (map (λ k. well_formed (event k 0 1 1 0 1 0)) (1 ∷ 3 ∷ 4 ∷ 5 ∷ 6 ∷ 7 ∷ 8 ∷ 9 ∷ 11 ∷ []) are replicate 9 0)
-    ∷ (map (λ k. well_formed (event k 0 1 1 0 0 1)) (1 ∷ 3 ∷ 4 ∷ 5 ∷ 6 ∷ 7 ∷ 8 ∷ 9 ∷ 11 ∷ []) are replicate 9 0)
+    ∷ (map well_formed (event 5 1 1 1 0 0 0 ∷ event 8 1 0 1 0 0 0 ∷ event 9 0 0 1 0 0 0 ∷ event 11 1 1 1 0 0 0 ∷ event 12 1 1 1 0 0 0 ∷ []) are replicate 5 0)
+    ∷ (map (λ k. well_formed (event k 0 1 1 1 0 0)) (1 ∷ 3 ∷ 4 ∷ 5 ∷ 6 ∷ 7 ∷ 8 ∷ 9 ∷ 11 ∷ 12 ∷ []) are replicate 10 0)
+    ∷ (map (λ k. well_formed (event k 0 1 1 0 1 0)) (1 ∷ 3 ∷ 4 ∷ 5 ∷ 6 ∷ 7 ∷ 8 ∷ 9 ∷ 11 ∷ 12 ∷ []) are replicate 10 0)
+    ∷ (map (λ k. well_formed (event k 0 1 1 0 0 1)) (1 ∷ 3 ∷ 4 ∷ 5 ∷ 6 ∷ 7 ∷ 8 ∷ 9 ∷ 11 ∷ 12 ∷ []) are replicate 10 0)
     -- 3 and 4: unused, outside the table, used
     ∷ (answers_on5 (event 1 1 0 0 0 0 0 ∷ event 3 2 1 1 0 0 0 ∷ event 3 0 1 1 0 0 0 ∷ event 1 3 0 0 0 0 0 ∷ event 1 0 0 0 0 0 0 ∷ event 1 2 0 0 0 0 0 ∷ [])
     gives 0 ∷ 4 ∷ 3 ∷ 3 ∷ 3 ∷ 3 ∷ 0 ∷ [])

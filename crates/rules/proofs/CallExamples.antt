@@ -13,7 +13,7 @@ use Rattle.rules.proofs.Examples.{Case, ◌gives◌, ◌amounts-to◌}
 
 -- as a host may hand them over, full of other numbers
 abbrev pub lent : Tables
-lent = tables_at (replicate 62 (pos 9)) (replicate 16 (pos 9)) (replicate 30 (pos 9)) []
+lent = tables_at (replicate 62 (pos 9)) (replicate 18 (pos 9)) (replicate 30 (pos 9)) []
 
 abbrev pub schedule_words : List ℤ
 schedule_words = pos 1 ∷ pos 30 ∷ pos 500 ∷ pos 2500 ∷ pos 3000 ∷ pos 250 ∷ pos 500 ∷ pos 600 ∷ pos 900 ∷ pos 1200 ∷ pos 1600 ∷ []
@@ -48,7 +48,7 @@ pub cases : List Case
 cases =
     -- opening: 0; lengths unfit: 1; schedule out of range or too short: 2
     ((open_call lent schedule_words).number
-    ∷ (open_call (tables_at lent.header (replicate 15 (pos 9)) lent.journal []) schedule_words).number
+    ∷ (open_call (tables_at lent.header (replicate 16 (pos 9)) lent.journal []) schedule_words).number
     ∷ (open_call (tables_at lent.header [] lent.journal []) schedule_words).number
     ∷ (open_call lent (set schedule_words 1 (pos 366))).number
     ∷ (open_call lent (set schedule_words 0 (negsuc 0))).number
@@ -59,7 +59,7 @@ cases =
     ∷ (event_call damaged (words 9 0 0 0) six).number
     ∷ (event_call opened [] six).number
     ∷ (event_call opened (words 9 0 0 0) (replicate 4 (pos 7))).number
-    ∷ (event_call opened (words 12 0 0 0) six).number
+    ∷ (event_call opened (words 13 0 0 0) six).number
     ∷ (event_call opened (words 3 3 100 2) six).number
     ∷ (event_call opened (words 9 0 0 0) six).number ∷ [] gives 1 ∷ 1 ∷ 1 ∷ 2 ∷ 2 ∷ 2 ∷ 3 ∷ 0 ∷ [])
     -- a batch: it goes on after a refusal; an empty one runs; 4 events want 20 words

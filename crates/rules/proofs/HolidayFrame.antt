@@ -7,8 +7,9 @@ use Rattle.std.specs.Prelude.{cond}
 use Rattle.records.specs.Codes.{event_tick}
 use Rattle.lists.specs.Tests.{◌is◌}
 use Rattle.rules.specs.Book.{Instruction, Book, with_holidays, settled, topup_due, low_balance}
-use Rattle.rules.specs.Events.{open_account, post_toll, post_payment, return_check, hold_toll, reject, with_fees, uphold, decide, pay_topup, decline_topup, topup_result, request_close, add_list, set_reserve}
-use Rattle.rules.specs.Refusals.{change_of, after, shared_count, shared_refusals, refusals, answer_number, list_refused, unknown, taken, on_closed, unclassed, misdated, duplicate, barred, no_row, untimely, reserve_refused, last_day, full, ceiling}
+use Rattle.rules.specs.Successors.{has_heir, toll_account, forwarded}
+use Rattle.rules.specs.Events.{open_account, post_toll, post_payment, return_check, hold_toll, reject, with_fees, uphold, decide, pay_topup, decline_topup, topup_result, request_close, add_list, set_reserve, set_successor}
+use Rattle.rules.specs.Refusals.{change_of, after, shared_count, shared_refusals, refusals, answer_number, list_refused, unknown, taken, on_closed, successor_refused, unclassed, misdated, duplicate, barred, no_row, untimely, reserve_refused, last_day, full, ceiling}
 use Rattle.rules.specs.Posting.{Posted, post, new_rows, acceptance, removes_topup, refusal_by}
 use Rattle.rules.proofs.KindLaws.{by_kind}
 
@@ -22,7 +23,7 @@ either hs true x y = refl
 either hs false x y = refl
 
 change-with_holidays : (hs : List ℕ) (b : Book) (e : Instruction) (k : ℕ) → Framed hs b e k
-unfolding change_of open_account post_toll post_payment return_check hold_toll reject with_fees uphold decide pay_topup decline_topup topup_result request_close add_list set_reserve
+unfolding change_of open_account post_toll post_payment return_check hold_toll reject with_fees uphold decide pay_topup decline_topup topup_result request_close add_list set_reserve set_successor
 change-with_holidays hs b e = by_kind (Framed hs b e) (record {
   opened = λ n. refl;
   toll = λ n. refl;
@@ -35,9 +36,15 @@ change-with_holidays hs b e = by_kind (Framed hs b e) (record {
   tick = λ n. absurd (false≢true (sym n));
   rate-list = λ n. refl;
   reserve = λ n. refl;
+  successor = λ n. refl;
   none = λ n. refl;
   past = λ k n. refl;
 })
+
+-- and so is a toll passed on
+pub forwarded-with_holidays : (hs : List ℕ) (b : Book) (e : Instruction) → forwarded (with_holidays hs b) e ≡ forwarded b e
+unfolding forwarded toll_account has_heir
+forwarded-with_holidays hs b e = refl
 
 -- the refusals that concern every kind alike, a tick too
 pub shared-with_holidays : (hs : List ℕ) (b : Book) (e : Instruction) → shared_refusals (with_holidays hs b) e ≡ shared_refusals b e
@@ -64,12 +71,13 @@ module _ (hs : List ℕ) (b : Book) (e : Instruction) (n : e.kind is event_tick 
     tick = λ i. rw i refl;
     rate-list = λ i. rw i refl;
     reserve = λ i. rw i refl;
+    successor = λ i. rw i refl;
     none = λ i. rw i refl;
     past = λ k i. rw i refl;
   })
 
   pub answer_number-with_holidays : answer_number (with_holidays hs b) e ≡ answer_number b e
-  unfolding answer_number refusals list_refused unknown taken on_closed unclassed misdated duplicate barred no_row reserve_refused last_day full ceiling
+  unfolding answer_number refusals list_refused unknown taken on_closed successor_refused unclassed misdated duplicate barred no_row reserve_refused last_day full ceiling
   answer_number-with_holidays = rw (after-with_holidays, untimely-by e.kind refl) refl
 
   pub acceptance-with_holidays : acceptance (with_holidays hs b) e ≡ acceptance b e

@@ -62,6 +62,7 @@ near-with_holidays past hs b f n = record {
   shape = n.shape;
   live = n.live;
   standing = n.standing;
+  successors = n.successors;
   counted = n.counted;
   holidays = f;
 }

@@ -10,10 +10,11 @@ use Rattle.records.specs.Encoding.{instruction_of, instruction_from}
 use Rattle.lists.specs.Tests.{◌is◌, first}
 use Rattle.lists.proofs.TestLaws.{cond_either}
 use Rattle.rules.specs.Book.{Instruction, Book, settled}
-use Rattle.rules.specs.Events.{open_account, post_toll, post_payment, return_check, hold_toll, reject, with_fees, uphold, decide, pay_topup, decline_topup, topup_result, request_close, add_list, set_reserve}
+use Rattle.rules.specs.Successors.{forwarded}
+use Rattle.rules.specs.Events.{open_account, post_toll, post_payment, return_check, hold_toll, reject, with_fees, uphold, decide, pay_topup, decline_topup, topup_result, request_close, add_list, set_reserve, set_successor}
 use Rattle.rules.specs.Tick.{next_day, end_holds, before_raising, raise_tolls, close_accounts, tick}
 use Rattle.rules.specs.Refusals.{change_of, after, answer_number}
-use Rattle.rules.specs.Posting.{Posted, post, book_after}
+use Rattle.rules.specs.Posting.{Posted, post, receive, book_after}
 use Rattle.rules.specs.Tables.{Tables, book_of, tables_of, sound_tables}
 use Rattle.rules.specs.Calls.{Event, Called, opening_refusals, opened_book, open_call, event_refusals, event_call, batch_refusals, batch_call}
 use Rattle.rules.proofs.KindLaws.{by_kind}
@@ -28,7 +29,7 @@ abbrev Same : Book → Book → Type 0
 Same b c = c.holidays ≡ b.holidays
 
 change-keeps-holidays : (b : Book) (e : Instruction) (k : ℕ) → Same b (change_of k b e)
-unfolding change_of open_account post_toll post_payment return_check hold_toll reject with_fees uphold decide pay_topup decline_topup topup_result request_close add_list set_reserve next_day end_holds before_raising raise_tolls close_accounts tick settled
+unfolding change_of open_account post_toll post_payment return_check hold_toll reject with_fees uphold decide pay_topup decline_topup topup_result request_close add_list set_reserve set_successor next_day end_holds before_raising raise_tolls close_accounts tick settled
 change-keeps-holidays b e = by_kind (λ k. Same b (change_of k b e)) (record {
   opened = refl;
   toll = refl;
@@ -41,6 +42,7 @@ change-keeps-holidays b e = by_kind (λ k. Same b (change_of k b e)) (record {
   tick = refl;
   rate-list = refl;
   reserve = refl;
+  successor = refl;
   none = refl;
   past = λ k. refl;
 })
@@ -52,7 +54,7 @@ post-keeps-holidays b e = cond_either (λ (p : Posted). Same b p.book) (answer_n
 pub book_after-keeps-holidays : (b : Book) (es : List Instruction) → Same b (book_after b es)
 unfolding book_after
 book_after-keeps-holidays b [] = refl
-book_after-keeps-holidays b (e ∷ es) = book_after-keeps-holidays (post b e).book es ∙ post-keeps-holidays b e
+book_after-keeps-holidays b (e ∷ es) = book_after-keeps-holidays (receive b e).book es ∙ post-keeps-holidays b (forwarded b e)
 
 -- ---- calls
 
@@ -67,7 +69,7 @@ module _ (t : Tables) where
   event_call-keeps-holidays e w = go (sound_tables t) refl
     where
       go : (v : Bool) → sound_tables t ≡ v → (event_call t e w).tables.holidays ≡ t.holidays
-      go true s = cond_either (λ (u : Tables). u.holidays ≡ t.holidays) _ _ t (tables_of-keeps-holidays s (post (book_of t) (instruction_from e)).book (post-keeps-holidays (book_of t) (instruction_from e))) refl
+      go true s = cond_either (λ (u : Tables). u.holidays ≡ t.holidays) _ _ t (tables_of-keeps-holidays s (receive (book_of t) (instruction_from e)).book (post-keeps-holidays (book_of t) (forwarded (book_of t) (instruction_from e)))) refl
       go false s = unfold event_refusals first in (rw s refl)
 
   pub batch_call-keeps-holidays : (es : List Event) (w : List ℤ) → (batch_call t es w).tables.holidays ≡ t.holidays

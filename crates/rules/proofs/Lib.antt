@@ -13,6 +13,7 @@ pub mod Examples
 pub mod RateListLaws
 pub mod ClassLaws
 pub mod StorableLaws
+pub mod SuccessorLaws
 pub mod HolidayLaws
 pub mod HeaderLaws
 pub mod TableLaws
@@ -30,4 +31,5 @@ pub mod ReserveExamples
 pub mod RankExamples
 pub mod BusinessDayExamples
 pub mod DebtorExamples
+pub mod SuccessorExamples
 pub mod BusinessDayLaws

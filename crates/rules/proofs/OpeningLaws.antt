@@ -21,7 +21,7 @@ use Rattle.rules.specs.RateLists.{list_fits, list_in_range, lists_fit}
 use Rattle.rules.specs.Settlement.{money, debt, used, paid, owed}
 use Rattle.rules.specs.Book.{unused}
 use Rattle.rules.specs.Opening.{opening, day_fits, sizes_fit}
-use Rattle.rules.specs.Soundness.{sound, account_sound, state_fits, unused_zero, request_fits, topup_fits, decline_fits, returned_fits, returned_of, used_is_paid, no_idle_money, closed_clear}
+use Rattle.rules.specs.Soundness.{sound, account_sound, state_fits, unused_zero, request_fits, topup_fits, decline_fits, successor_fits, returned_fits, returned_of, used_is_paid, no_idle_money, closed_clear}
 use Rattle.rules.specs.BusinessDays.{holidays_fit}
 use Rattle.rules.specs.Tables.{Tables, accounts_in, room_in, holidays_in, schedule_from, rates_from, book_of, tables_of, whole_records, lengths_fit, sound_tables}
 use Rattle.rules.specs.Calls.{opening_fits, opening_refusals, opened_book, open_call}
@@ -30,7 +30,7 @@ use Rattle.rules.proofs.HolidayLaws.{sound-with_holidays}
 use Rattle.rules.proofs.TableLaws.{book_of-tables_of, sound_tables-tables_of}
 
 unused-sound : (day : ℕ) (s : Schedule) (r : Rates) (accounts room n : ℕ) → account_sound (opening day s r accounts room) n unused ≡ true
-unfolding opening account_sound all_of state_fits unused_zero request_fits topup_fits decline_fits returned_fits returned_of used_is_paid no_idle_money owed closed_clear count sum_by money debt used paid
+unfolding opening account_sound all_of state_fits unused_zero request_fits topup_fits decline_fits successor_fits returned_fits returned_of used_is_paid no_idle_money owed closed_clear count sum_by money debt used paid
 unused-sound day s r accounts room n = rw (le-leb 0 day (omega arith))
 
 -- the opening's list is in range, and begins after day 0

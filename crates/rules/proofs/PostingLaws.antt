@@ -10,7 +10,8 @@ use borrow.Author.Tests.{le-ltb}
 use Rattle.lists.specs.Tests.{first}
 use Rattle.rules.specs.Book.{Instruction, Answer, Book}
 use Rattle.rules.specs.Refusals.{answer_number, after}
-use Rattle.rules.specs.Posting.{acceptance, refusal_by, Posted, post, book_after, answers_to}
+use Rattle.rules.specs.Successors.{forwarded}
+use Rattle.rules.specs.Posting.{acceptance, refusal_by, Posted, post, receive, book_after, answers_to}
 use Rattle.rules.specs.Tables.{Tables, book_of, sound_tables}
 use Rattle.rules.specs.Calls.{Event, opening_refusals, open_call, event_refusals, event_call, answered, batch_refusals, batch_call}
 use Rattle.records.specs.Limits.{most_events}
@@ -45,17 +46,17 @@ post-number-alone b e q = let r = post-refused b e (sym (post-number b e) ∙ q)
 pub book_after-append : (b : Book) (es fs : List Instruction) → book_after b (es ++ fs) ≡ book_after (book_after b es) fs
 unfolding book_after
 book_after-append b [] fs = refl
-book_after-append b (e ∷ es) fs = book_after-append (post b e).book es fs
+book_after-append b (e ∷ es) fs = book_after-append (receive b e).book es fs
 
 pub answers_to-append : (b : Book) (es fs : List Instruction) → answers_to b (es ++ fs) ≡ answers_to b es ++ answers_to (book_after b es) fs
 unfolding book_after answers_to
 answers_to-append b [] fs = refl
-answers_to-append b (e ∷ es) fs = rw (answers_to-append (post b e).book es fs)
+answers_to-append b (e ∷ es) fs = rw (answers_to-append (receive b e).book es fs)
 
 pub length-answers_to : (b : Book) (es : List Instruction) → length (answers_to b es) ≡ length es
 unfolding answers_to
 length-answers_to b [] = refl
-length-answers_to b (e ∷ es) = ap suc (length-answers_to (post b e).book es)
+length-answers_to b (e ∷ es) = ap suc (length-answers_to (receive b e).book es)
 
 -- ---- the calls: "The book's tables stay unchanged and other words are 0; a refused batch or opening writes nothing"
 
@@ -69,14 +70,14 @@ unfolding event_call
 event_call-refused-answers t e answers = go (eqb (first (event_refusals t e answers)) 0)
   where
     p : Posted
-    p = post (book_of t) (instruction_from e)
+    p = receive (book_of t) (instruction_from e)
 
     n : ℕ
     n = first (event_refusals t e answers)
 
     go : (v : Bool) → eqb (cond v p.answer (refusal_by n)).number 0 ≡ false
         → answered (cond v p.answer (refusal_by n)) answers ≡ answered (refusal_by (cond v p.answer (refusal_by n)).number) answers
-    go true q = ap (λ (a : Answer). answered a answers) (post-number-alone (book_of t) (instruction_from e) q)
+    go true q = ap (λ (a : Answer). answered a answers) (post-number-alone (book_of t) (forwarded (book_of t) (instruction_from e)) q)
     go false q = refl
 
 pub batch_call-refused : (t : Tables) (es : List Event) (answers : List ℤ) → eqb (first (batch_refusals t es answers)) 0 ≡ false

@@ -9,11 +9,11 @@ use Rattle.records.specs.Numbers.{answer_malformed}
 use Rattle.lists.specs.Tests.{◌is◌, first}
 use Rattle.lists.proofs.TestLaws.{positive, case_of, first-zero, first-append, first-append-none}
 use Rattle.rules.specs.Book.{Instruction, Book}
-use Rattle.rules.specs.Refusals.{well_formed, unclassed, misdated, duplicate, barred, no_row, untimely, reserve_refused, last_day, shared_count, refusals, answer_number, shared_refusals, own_refusals}
+use Rattle.rules.specs.Refusals.{well_formed, successor_refused, unclassed, misdated, duplicate, barred, no_row, untimely, reserve_refused, last_day, shared_count, refusals, answer_number, shared_refusals, own_refusals}
 
 -- the refusals of the kinds' own, with the tests that compute at a known kind: `unfolding own_tests` unfolds them all
 unfoldable pub own_tests : Unit {0}
-unfolding own_refusals shared_count refusals unclassed misdated duplicate barred no_row untimely reserve_refused last_day first
+unfolding own_refusals shared_count refusals successor_refused unclassed misdated duplicate barred no_row untimely reserve_refused last_day first
 own_tests = tt
 
 module _ (b : Book) (e : Instruction) where

@@ -63,7 +63,7 @@ cases =
     ∷ (numbers closed (reserve 0 ∷ reserve 1 ∷ event 4 1 1 0 0 0 0 ∷ reserve 1 ∷ []) gives 5 ∷ 5 ∷ 0 ∷ 0 ∷ [])
     ∷ (numbers (small 1) (pending ++ reserve 1 ∷ reserve 0 ∷ []) gives 0 ∷ 0 ∷ 0 ∷ 0 ∷ 0 ∷ [])
     -- event 11 changes the reserve alone
-    ∷ (account_fields (account (book_after (small 1) (opened ∷ once ++ reserve 1 ∷ [])) 1) gives 1 ∷ 0 ∷ 0 ∷ 100 ∷ 2_000 ∷ 1 ∷ 2 ∷ 1 ∷ [])
+    ∷ (account_fields (account (book_after (small 1) (opened ∷ once ++ reserve 1 ∷ [])) 1) gives 1 ∷ 0 ∷ 0 ∷ 100 ∷ 2_000 ∷ 1 ∷ 2 ∷ 1 ∷ 0 ∷ [])
     -- paid after no, one or two declines: the reserve stays, stays, takes the primary's place
     ∷ (left_by (reserved_then []) 1 gives 100 ∷ 2_000 ∷ 0 ∷ 0 ∷ 1 ∷ 0 ∷ 0 ∷ [])
     ∷ (left_by (reserved_then once) 1 gives 100 ∷ 2_000 ∷ 0 ∷ 0 ∷ 1 ∷ 0 ∷ 0 ∷ [])

@@ -57,10 +57,11 @@ module _ (b : Book) (e : sound b ≡ true) where
       };
       live = λ k h. let p = all_of-at _ (row-sound k h) in record { settled = p 2; due = p 7; hold = p 8 };
       standing = λ k h. let p = all_of-at _ (account-sound k h) in record { state = p 0; zero = p 1; request = p 2; topup = p 3; decline = p 4 };
-      counted = λ k h. let p = all_of-at _ (account-sound k h) in record { returned = p 5; used-is-paid = p 6; clear = p 8 };
+      successors = λ k h. all_of-at _ (account-sound k h) 5;
+      counted = λ k h. let p = all_of-at _ (account-sound k h) in record { returned = p 6; used-is-paid = p 7; clear = p 9 };
       holidays = part 7;
     };
-    no-idle-money = λ k h. all_of-at _ (account-sound k h) 7;
+    no-idle-money = λ k h. all_of-at _ (account-sound k h) 8;
   }
 
 -- ---- and the facts the test
@@ -77,5 +78,5 @@ facts-sound b s =
     let z : n ≡ suc k = omega arith in
     let v = s.near.standing k h in
     let w = s.near.counted k h in
-    rw (z, v.state, v.zero, v.request, v.topup, v.decline, w.returned, w.used-is-paid, s.no-idle-money k h, w.clear)) in
+    rw (z, v.state, v.zero, v.request, v.topup, v.decline, s.near.successors k h, w.returned, w.used-is-paid, s.no-idle-money k h, w.clear)) in
     rw (s.near.day, s.near.schedule, s.near.lists, s.near.sizes, s.near.fits, p, q, s.near.holidays)

@@ -21,8 +21,9 @@ use Rattle.rules.specs.Schedule.{Rates, Schedule, schedule_fits, rates_fit}
 use Rattle.rules.specs.RateLists.{RateList, no_list, list_in_range}
 use Rattle.rules.specs.Rows.{Row, blank, kind_toll, kind_fee, kind_reversal, kind_payment, kind_credit, row_no, toll, unsettled}
 use Rattle.rules.specs.Book.{Account, state_unused, unused, account_no, Book}
+use Rattle.rules.specs.Successors.{other_used}
 use Rattle.rules.specs.Opening.{day_fits, sizes_fit}
-use Rattle.rules.specs.Soundness.{kind_fits, most_of, amount_fits, settled_fits, mark_fits, toll_words_fit, no_reference, row_day_fits, due_within, hold_fits, account_used, names, reference_fits, state_fits, unused_zero, request_fits, topup_fits, decline_fits, returned_of, returned_fits}
+use Rattle.rules.specs.Soundness.{kind_fits, most_of, amount_fits, settled_fits, mark_fits, toll_words_fit, no_reference, row_day_fits, due_within, hold_fits, account_used, names, reference_fits, state_fits, unused_zero, request_fits, topup_fits, decline_fits, successor_fits, returned_of, returned_fits}
 use Rattle.rules.specs.SoundFacts.{Near}
 use Rattle.rules.proofs.RateListLaws.{list-in-range}
 
@@ -35,6 +36,20 @@ used-inside xs n e =
       | yes h ↦ absurd (true≢false (sym (ap (λ (x : Account). eqb x.state 0) (get_or-eq_default (unused ∷ xs) unused {n = n} h)) ∙ e))
       | no h ↦ omega arith
     ]
+
+-- another used account is one of the table's
+pub other-inside : (xs : List Account) (n s : ℕ) → other_used xs n s ≡ true → s ≤ length xs
+unfolding other_used
+other-inside xs n s e = used-inside xs s (not-true _ (and_right _ _ e))
+
+-- a successor is one of the accounts
+pub successor-le : (xs : List Account) (n : ℕ) (x : Account) → successor_fits xs n x ≡ true → x.successor ≤ length xs
+unfolding successor_fits
+successor-le xs n x = go (x.successor is 0) refl
+  where
+    go : (v : Bool) → x.successor is 0 ≡ v → v || other_used xs n x.successor ≡ true → x.successor ≤ length xs
+    go true z e = omega (arith, eqb-true x.successor 0 z)
+    go false z e = other-inside xs n x.successor e
 
 pub most_of-le : (k : ℕ) → most_of k ≤ highest_refund
 unfolding most_of
@@ -343,6 +358,7 @@ module _ (past : ℕ) (b : Book) (n : Near past b) where
       let s = n.standing k h in
       let t = topup-parts x s.topup in
       let d = day-le in
+      let a = accounts-le in
       let q = room-le in
       let w = rows-le in
       storable-more (omega (arith, leb-true x.state 3 s.state))
@@ -353,4 +369,5 @@ module _ (past : ℕ) (b : Book) (n : Near past b) where
       (storable-more (omega (arith, leb-true x.declines most_declines t.declines))
       (storable-more (omega (arith, leb-true x.declined b.day s.decline))
       (storable-more (omega (arith, leb-true x.reserve code_yes t.reserve))
-      storable-none)))))))
+      (storable-more (omega (arith, successor-le b.accounts (suc k) x (n.successors k h), a))
+      storable-none))))))))

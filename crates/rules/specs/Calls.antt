@@ -11,7 +11,7 @@ use Rattle.rules.specs.Schedule.{rates_fit, schedule_fits}
 use Rattle.rules.specs.BusinessDays.{holidays_fit}
 use Rattle.rules.specs.Book.{Instruction, Answer, state_unused, Book, with_holidays, account, balance, topup_due}
 use Rattle.rules.specs.Debtors.{heavy, rows_read}
-use Rattle.rules.specs.Posting.{post, Posted, refusal_by, book_after, answers_to}
+use Rattle.rules.specs.Posting.{receive, Posted, refusal_by, book_after, answers_to}
 use Rattle.rules.specs.Opening.{opening, day_fits}
 use Rattle.rules.specs.Tables.{Tables, accounts_in, room_in, rows_used, holidays_in, schedule_from, rates_from, book_of, tables_of, lengths_fit, sound_tables}
 
@@ -79,7 +79,7 @@ answered a answers = cond (leb Layout.answer_width (length answers)) (written (a
 unfoldable pub event_call : Tables → List ℤ → List ℤ → Called
 event_call t e answers =
     let n : ℕ = first (event_refusals t e answers) in
-    let p : Posted = post (book_of t) (instruction_from e) in
+    let p : Posted = receive (book_of t) (instruction_from e) in
     let a : Answer = cond (n is 0) p.answer (refusal_by n) in
     record { number = a.number; tables = cond (a.number is 0) (tables_of p.book) t; answers = answered a answers }
 

@@ -1,8 +1,8 @@
--- Events 1 to 8 (document 01, "Events"), 10 and 11 (document 02, Nos. 1 and 4): what each does to the book when it is accepted, before
--- settlement.
+-- Events 1 to 8 (document 01, "Events"), 10, 11 and 12 (document 02, Nos. 1, 4 and 8): what each does to the book when it is accepted,
+-- before settlement.
 use Rattle.std.specs.Prelude.{cond, ℕ, ◌+◌, ◌-◌, List, [], ◌∷◌, ◌++◌, map, set}
 use Rattle.records.specs.Codes.{method_card, method_check_returned, dispute_ended, dispute_upheld, code_yes}
-use Rattle.records.specs.AccountOperations.{opened, check_returned, declined_on, topup_paid, close_requested_on, reserve_set}
+use Rattle.records.specs.AccountOperations.{opened, check_returned, declined_on, topup_paid, close_requested_on, reserve_set, successor_set}
 use Rattle.lists.specs.Tests.{◌is◌}
 use Rattle.lists.specs.Lists.{sum_by, only}
 use Rattle.records.specs.Limits.{return_fee}
@@ -118,3 +118,9 @@ add_list b e = with_lists (b.lists ++ (list_of e ∷ [])) b
 -- the account is put back with its reserve
 unfoldable pub set_reserve : Change
 set_reserve b e = put_account e.account (reserve_set e.a (account b e.account)) b
+
+-- ---- 12. "Event 12 names, for a closed account, a successor account in word a" (document 02, No. 8)
+
+-- the account is put back with its successor
+unfoldable pub set_successor : Change
+set_successor b e = put_account e.account (successor_set e.a (account b e.account)) b

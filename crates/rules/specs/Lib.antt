@@ -7,6 +7,7 @@ pub mod Settlement
 pub mod SettlementSteps
 pub mod Book
 pub mod Debtors
+pub mod Successors
 pub mod Events
 pub mod Tick
 pub mod Refusals

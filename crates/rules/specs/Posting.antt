@@ -4,6 +4,7 @@ use Rattle.records.specs.Codes.{event_topup_result, event_tick}
 use Rattle.records.specs.AccountOperations.{last_decline}
 use Rattle.lists.specs.Tests.{◌is◌}
 use Rattle.rules.specs.Book.{Instruction, Answer, Book, account}
+use Rattle.rules.specs.Successors.{forwarded}
 use Rattle.rules.specs.Tick.{raised_by}
 use Rattle.rules.specs.Refusals.{Refusal, answer_number, after}
 
@@ -44,14 +45,20 @@ post b e =
     (record { answer = acceptance b e; book = after b e })
     (record { answer = refusal_by (answer_number b e); book = b })
 
+-- ---- an event as it is handed over
+
+-- "A toll for a closed account with a successor that is open or pending posts on the successor" (document 02, No. 8)
+abbrev pub receive : Book → Instruction → Posted
+receive b e = post b (forwarded b e)
+
 -- ---- events in order: "it goes on after a refusal"
 
 -- the book after a list of events
 unfoldable pub book_after : Book → List Instruction → Book
 book_after b [] = b
-book_after b (e ∷ es) = book_after (post b e).book es
+book_after b (e ∷ es) = book_after (receive b e).book es
 
 -- their answers, in order
 unfoldable pub answers_to : Book → List Instruction → List Answer
 answers_to b [] = []
-answers_to b (e ∷ es) = (post b e).answer ∷ answers_to (post b e).book es
+answers_to b (e ∷ es) = (receive b e).answer ∷ answers_to (receive b e).book es

@@ -1,7 +1,7 @@
--- The refusals 2 to 16 (document 01, "Events" and its table of answers; document 02), each a test, as one table in checking order.
+-- The refusals 2 to 16 and 18 (document 01, "Events" and its table of answers; document 02), each a test, as one table in checking order.
 use Rattle.std.specs.Prelude.{Bool, false, not, cond, ◌&&◌, ◌||◌, ℕ, ◌+◌, [], ◌∷◌, length, get_or, take, drop, leb, ltb}
-use Rattle.records.specs.Numbers.{answer_malformed, answer_unknown, answer_taken, answer_closed, answer_unclassed, answer_misdated, answer_duplicate, answer_barred, answer_no_row, answer_untimely, answer_last_day, answer_full, answer_ceiling, answer_list_refused, answer_reserve}
-use Rattle.records.specs.Codes.{method_check, event_open, event_toll, event_payment, event_returned_check, event_dispute, event_decision, event_topup_result, event_close_request, event_tick, event_rate_list, event_reserve, method_card, code_yes, mode_tag, mode_plate}
+use Rattle.records.specs.Numbers.{answer_malformed, answer_unknown, answer_taken, answer_closed, answer_unclassed, answer_misdated, answer_duplicate, answer_barred, answer_no_row, answer_untimely, answer_last_day, answer_full, answer_ceiling, answer_list_refused, answer_reserve, answer_successor}
+use Rattle.records.specs.Codes.{method_check, event_open, event_toll, event_payment, event_topup_result, event_close_request, event_tick, event_rate_list, event_reserve, event_successor, method_card, code_yes, mode_tag, mode_plate}
 use Rattle.lists.specs.Tests.{◌is◌, ◌from◌to◌, ◌implies◌, Cases, first}
 use Rattle.lists.specs.Lists.{exists}
 use Rattle.records.specs.Limits
@@ -9,7 +9,8 @@ use Rattle.rules.specs.Schedule.{class}
 use Rattle.rules.specs.RateLists.{list_of, last_first_day, list_in_range}
 use Rattle.rules.specs.Rows.{kind_toll, kind_payment, kind_refund, toll, held_toll, unsettled}
 use Rattle.rules.specs.Book.{state_unused, state_pending, state_closed, Instruction, Book, account, row, settled, topup_due}
-use Rattle.rules.specs.Events.{Change, open_account, post_toll, post_payment, return_check, hold_toll, decide, topup_result, request_close, add_list, set_reserve}
+use Rattle.rules.specs.Successors.{other_used}
+use Rattle.rules.specs.Events.{Change, open_account, post_toll, post_payment, return_check, hold_toll, decide, topup_result, request_close, add_list, set_reserve, set_successor}
 use Rattle.rules.specs.Tick.{tick}
 
 -- ---- the events by their kind, each ended by settlement
@@ -18,11 +19,11 @@ use Rattle.rules.specs.Tick.{tick}
 abbrev pub no_change : Change
 no_change b e = b
 
--- events 1 to 11; no other kind changes anything
+-- events 1 to 12; no other kind changes anything
 unfoldable pub change_of : ℕ → Change
 change_of k =
     get_or (no_change ∷ open_account ∷ post_toll ∷ post_payment ∷ return_check ∷ hold_toll ∷ decide ∷ topup_result ∷ request_close ∷ tick
-    ∷ add_list ∷ set_reserve ∷ []) k no_change
+    ∷ add_list ∷ set_reserve ∷ set_successor ∷ []) k no_change
 
 -- the book after the event, were it accepted
 unfoldable pub after : Change
@@ -101,17 +102,21 @@ list_form e = e.account is 0 && list_in_range (list_of e)
 unfoldable pub reserve_form : Form
 reserve_form e = leb e.a code_yes && zero_from-b e
 
+-- "Event 12 names .. a successor account in word a" (document 02, No. 8): looked up, not range-checked
+unfoldable pub successor_form : Form
+successor_form e = zero_from-b e
+
 -- the form of each kind
 unfoldable pub form_of : ℕ → Form
 form_of k =
     get_or (no_form ∷ open_form ∷ toll_form ∷ payment_form ∷ return_form ∷ dispute_form ∷ decision_form ∷ result_form ∷ request_form
-    ∷ tick_form ∷ list_form ∷ reserve_form ∷ []) k no_form
+    ∷ tick_form ∷ list_form ∷ reserve_form ∷ successor_form ∷ []) k no_form
 
 -- the words are those of the event's kind
 unfoldable pub well_formed : Form
 well_formed e = form_of e.kind e
 
--- ---- 15, 3 to 14, and 16
+-- ---- 15, 3 to 14, 16 and 18
 
 -- a test of an event on a book
 abbrev pub Refusal : Type 0
@@ -128,10 +133,6 @@ state_of b e = (account b e.account).state
 -- "9. Day tick, account 0"; "event 10, account 0 as at a tick": the event concerns the whole book and names no account
 abbrev pub whole_book : Form
 whole_book e = e.kind is event_tick || e.kind is event_rate_list
-
--- the account whose rows an event adds, changes and settles; every other account is left alone
-abbrev pub posts_on : Book → Instruction → ℕ
-posts_on b e = e.account
 
 -- 15 "for a first day not after the last list's, or for a ninth list, checked after 2" (document 02, No. 1)
 unfoldable pub list_refused : Refusal
@@ -151,6 +152,11 @@ on_closed b e =
     (e.kind is event_toll || e.kind is event_payment || e.kind is event_topup_result || e.kind is event_close_request
     || e.kind is event_reserve)
     && state_of b e is state_closed
+
+-- 18 "where the account isn't closed, or the successor is itself, unused or outside the table" (document 02, No. 8)
+unfoldable pub successor_refused : Refusal
+successor_refused b e =
+    e.kind is event_successor && (not (state_of b e is state_closed) || not (other_used b.accounts e.account e.a))
 
 -- 6 "one axle above 90 inches": no class applies
 unfoldable pub unclassed : Refusal
@@ -208,7 +214,7 @@ no_primary b e = (account b e.account).topup is 0
 unfoldable pub untimely : Refusal
 untimely b e =
     get_or (never ∷ never ∷ never ∷ never ∷ not_check ∷ not_disputable ∷ not_held ∷ not_due ∷ pending ∷ never ∷ never
-    ∷ no_primary ∷ []) e.kind never b e
+    ∷ no_primary ∷ never ∷ []) e.kind never b e
 
 -- 16 "for adding one that exists or removing one that doesn't" (document 02, No. 4)
 unfoldable pub reserve_refused : Refusal
@@ -227,7 +233,7 @@ unfoldable pub ceiling : Refusal
 ceiling b e = exists (λ r. r.kind is kind_refund && ltb Limits.highest_refund r.amount) (drop (length b.rows) (after b e).rows)
 
 -- "The lowest number that applies wins" (1 is the tables': see Calls); 15 "checked after 2" (document 02, No. 1), 16 "checked after 11"
--- (No. 4)
+-- (No. 4), 18 "checked after 5" (No. 8)
 unfoldable pub refusals : Book → Instruction → Cases
 refusals b e =
     (answer_malformed, not (well_formed e))
@@ -235,6 +241,7 @@ refusals b e =
     ∷ (answer_unknown, unknown b e)
     ∷ (answer_taken, taken b e)
     ∷ (answer_closed, on_closed b e)
+    ∷ (answer_successor, successor_refused b e)
     ∷ (answer_unclassed, unclassed b e)
     ∷ (answer_misdated, misdated b e)
     ∷ (answer_duplicate, duplicate b e)

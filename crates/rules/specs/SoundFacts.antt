@@ -7,7 +7,7 @@ use Rattle.rules.specs.BusinessDays.{holidays_fit}
 use Rattle.rules.specs.Rows.{Row, blank}
 use Rattle.rules.specs.Book.{Account, unused, Book}
 use Rattle.rules.specs.Opening.{day_fits, sizes_fit}
-use Rattle.rules.specs.Soundness.{kind_fits, amount_fits, settled_fits, mark_fits, toll_words_fit, no_reference, row_day_fits, due_within, hold_fits, account_used, reference_fits, passage_once, fees_fit, state_fits, unused_zero, request_fits, topup_fits, decline_fits, returned_fits, used_is_paid, no_idle_money, closed_clear}
+use Rattle.rules.specs.Soundness.{kind_fits, amount_fits, settled_fits, mark_fits, toll_words_fit, no_reference, row_day_fits, due_within, hold_fits, account_used, reference_fits, passage_once, fees_fit, state_fits, unused_zero, request_fits, topup_fits, decline_fits, successor_fits, returned_fits, used_is_paid, no_idle_money, closed_clear}
 
 -- what does not look at the part settled
 pub record Shape (today : ℕ) (xs : List Account) (rows : List Row) (n : ℕ) (r : Row) : Type 0 where
@@ -52,6 +52,7 @@ pub record Near (past : ℕ) (b : Book) : Type 0 where
   pub shape : (k : ℕ) → k < length b.rows → Shape b.day b.accounts b.rows (suc k) (get_or b.rows k blank)
   pub live : (k : ℕ) → k < length b.rows → Live past b.day b.schedule.stage (get_or b.rows k blank)
   pub standing : (k : ℕ) → k < length b.accounts → Standing b.day (get_or b.accounts k unused)
+  pub successors : (k : ℕ) → k < length b.accounts → successor_fits b.accounts (suc k) (get_or b.accounts k unused) ≡ true
   pub counted : (k : ℕ) → k < length b.accounts → SumsFit b.rows (suc k) (get_or b.accounts k unused)
   pub holidays : holidays_fit b.holidays ≡ true
 

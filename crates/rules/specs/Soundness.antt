@@ -12,6 +12,7 @@ use Rattle.rules.specs.BusinessDays.{holidays_fit}
 use Rattle.rules.specs.Rows.{Row, kind_toll, kind_fee, kind_reversal, kind_payment, kind_credit, kind_refund, dispute_held, last_stage, Test, row_no, toll, held_toll, unsettled, fee_naming}
 use Rattle.rules.specs.Settlement.{money, debt, used, paid, owed}
 use Rattle.rules.specs.Book.{Account, state_unused, state_open, state_pending, state_closed, Book, account_no}
+use Rattle.rules.specs.Successors.{other_used}
 use Rattle.rules.specs.Opening.{day_fits, sizes_fit}
 
 -- ---- a row by itself: "every word has a value that this paper lists", "Words without a use in a kind are 0"
@@ -140,6 +141,12 @@ topup_fits x =
 unfoldable pub decline_fits : ℕ → AccountTest
 decline_fits today x = leb x.declined today
 
+-- ---- an account among the others
+
+-- "The account's new word is 0 or another used account's number" (document 02, No. 8)
+unfoldable pub successor_fits : List Account → ℕ → AccountTest
+successor_fits xs n x = x.successor is 0 || other_used xs n x.successor
+
 -- ---- an account and its rows
 
 -- "returned checks = its payments with mark 4"
@@ -165,7 +172,7 @@ closed_clear rows n x = x.state is state_closed implies money n rows is 0 && owe
 -- every clause about account number n
 unfoldable pub account_sound : Book → ℕ → Account → Bool
 account_sound b n x = all_of
-    (state_fits x ∷ unused_zero x ∷ request_fits b.day x ∷ topup_fits x ∷ decline_fits b.day x
+    (state_fits x ∷ unused_zero x ∷ request_fits b.day x ∷ topup_fits x ∷ decline_fits b.day x ∷ successor_fits b.accounts n x
     ∷ returned_fits b.rows n x ∷ used_is_paid b.rows n ∷ no_idle_money b.rows n ∷ closed_clear b.rows n x ∷ [])
 
 -- ---- the book

@@ -1,14 +1,17 @@
-// The clauses of soundness on an account by itself. Each test returns at once, as those on rows do.
+// The clauses of soundness on an account by itself and among the others. Each test returns at once, as those on rows do.
 #![tactic(auto)]
 
-ghost use Rattle.std.specs.Prelude.{◌≡◌};
-ghost use Rattle.rules.specs.Soundness.{state_fits, unused_zero, request_fits, topup_fits, decline_fits};
+ghost use Rattle.std.specs.Prelude.{◌≡◌, ◌*◌, ◌≤◌, length};
+ghost use Rattle.records.specs.Layout.{account_width};
+ghost use Rattle.records.specs.Encoding.{accounts_of};
+ghost use Rattle.rules.specs.Soundness.{state_fits, unused_zero, request_fits, topup_fits, decline_fits, successor_fits};
 ghost use Rattle.sound_accounts.specs.Alone.{account_alone};
 
 use records::Account;
 use records::codes::{CODE_YES, STATE_CLOSED, STATE_OPEN, STATE_PENDING, STATE_UNUSED};
 use records::limits::{HIGHEST_TOPUP, MOST_DECLINES};
 use sound_header::tests::{between, implies};
+use table_accounts::other_used;
 
 fn state_fits(x: Account) -> bool
     ensures { result ≡ state_fits x }
@@ -74,4 +77,15 @@ pub fn account_alone(today: u64, x: Account) -> bool
         return false;
     }
     decline_fits(today, x)
+}
+
+// Account number n, x, among the others: no other is read where it has no successor, as most have none.
+pub fn successor_fits(accounts: &[i64], count: usize, n: u64, x: Account) -> bool
+    requires { count * account_width ≤ length accounts.now }
+    ensures { result ≡ successor_fits (accounts_of accounts.now count) n x }
+{
+    if x.successor == 0 {
+        return true;
+    }
+    other_used(accounts, count, n, x.successor)
 }

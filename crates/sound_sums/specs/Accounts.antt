@@ -5,7 +5,7 @@ use Rattle.lists.specs.Lists.{count, every}
 use Rattle.rules.specs.Rows.{Row}
 use Rattle.rules.specs.Settlement.{money, debt, used, paid, owed}
 use Rattle.rules.specs.Book.{Account, state_closed}
-use Rattle.rules.specs.Soundness.{returned_of}
+use Rattle.rules.specs.Soundness.{successor_fits, returned_of}
 use Rattle.sound_accounts.specs.Alone.{account_alone}
 use Rattle.account_sums.specs.declared.Sums.{Sums}
 use Rattle.account_sums.specs.AccountSums.{no_sums}
@@ -16,8 +16,9 @@ sums_agree x s = all_of
     (eqb x.returned s.returned ∷ eqb s.drawn s.paid ∷ (s.money is 0 || s.debt is 0)
     ∷ (x.state is state_closed implies s.money is 0 && s.owed is 0) ∷ [])
 
-unfoldable pub account_passes : ℕ → Sums → Account → Bool
-account_passes today s x = account_alone today x && sums_agree x s
+-- account number n by itself, among the others, and against its sums
+unfoldable pub account_passes : List Account → ℕ → ℕ → Sums → Account → Bool
+account_passes xs today n s x = account_alone today x && (successor_fits xs n x && sums_agree x s)
 
 -- the sums of account n, in their array and by the definitions
 abbrev pub sums_at : List Sums → ℕ → Sums
@@ -34,7 +35,7 @@ sums_of rows n = record {
 }
 
 unfoldable pub all_agree : ℕ → (ℕ → Sums) → List Account → Bool
-all_agree today sums xs = every (λ n x. account_passes today (sums n) x) xs
+all_agree today sums xs = every (λ n x. account_passes xs today n (sums n) x) xs
 
 unfoldable pub accounts_stand : ℕ → List Row → List Account → Bool
 accounts_stand today rows xs = all_agree today (sums_of rows) xs

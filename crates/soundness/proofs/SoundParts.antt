@@ -54,7 +54,7 @@ rows-parts b =
 accounts-parts : (b : Book) → every (account_sound b) b.accounts ≡ accounts_stand b.day b.rows b.accounts
 unfolding accounts_stand all_agree
 accounts-parts b =
-    every-ext (account_sound b) (λ n x. account_passes b.day (sums_of b.rows n) x) 1 b.accounts (λ n x.
+    every-ext (account_sound b) (λ n x. account_passes b.accounts b.day n (sums_of b.rows n) x) 1 b.accounts (λ n x.
     unfold account_sound account_passes account_alone sums_agree sums_of returned_fits used_is_paid no_idle_money closed_clear all_of in simp (and_assoc, and-true))
 
 pub book-parts : (b : Book) → every (row_sound b) b.rows && every (account_sound b) b.accounts ≡ book_passes b.accounts b.rows b.day b.schedule.stage

@@ -1,6 +1,6 @@
 -- An account read word by word.
 use Rattle.std.specs.Prelude.{ℕ, ◌+◌, List, ℤ, pos, get_or}
-use Rattle.records.specs.Layout.{state_place, request_place, returned_place, threshold_place, topup_place, declines_place, declined_place, reserve_place}
+use Rattle.records.specs.Layout.{state_place, request_place, returned_place, threshold_place, topup_place, declines_place, declined_place, reserve_place, successor_place}
 use Rattle.rules.specs.Book.{Account}
 
 -- x's words are read by R from place p on, in the layout's order
@@ -13,3 +13,4 @@ pub record AccountBy (R : ℤ → ℕ → Type 0) (t : List ℤ) (p : ℕ) (x : 
   pub declines : R (get_or t (p + declines_place) (pos 0)) x.declines
   pub declined : R (get_or t (p + declined_place) (pos 0)) x.declined
   pub reserve : R (get_or t (p + reserve_place) (pos 0)) x.reserve
+  pub successor : R (get_or t (p + successor_place) (pos 0)) x.successor

@@ -5,13 +5,15 @@ ghost use Rattle.std.specs.Prelude.{◌≡◌, ◌+◌, ◌*◌, ◌≤◌, leng
 ghost use Rattle.records.specs.Layout.{account_width};
 ghost use Rattle.records.specs.Encoding.{account_at, accounts_of, StorableAccount};
 ghost use Rattle.rules.specs.Book.{account_no};
+ghost use Rattle.rules.specs.Successors.{other_used};
 ghost use Rattle.tables.specs.Changes.{AccountIn, AccountChanged};
 ghost use Rattle.table_accounts.specs.Reads.{AccountBy};
 
 use records::Account;
+use records::codes::STATE_UNUSED;
 use records::layout::{
     ACCOUNT_WIDTH, DECLINED_PLACE, DECLINES_PLACE, REQUEST_PLACE, RESERVE_PLACE, RETURNED_PLACE,
-    STATE_PLACE, THRESHOLD_PLACE, TOPUP_PLACE,
+    STATE_PLACE, SUCCESSOR_PLACE, THRESHOLD_PLACE, TOPUP_PLACE,
 };
 use records::words::natural;
 use tables::words::put_words;
@@ -32,6 +34,7 @@ pub fn account_by<F: Fn(i64) -> u64>(accounts: &[i64], i: usize, read: F) -> Acc
         declines: read(accounts[p + DECLINES_PLACE]),
         declined: read(accounts[p + DECLINED_PLACE]),
         reserve: read(accounts[p + RESERVE_PLACE]),
+        successor: read(accounts[p + SUCCESSOR_PLACE]),
     }
 }
 
@@ -59,6 +62,17 @@ pub fn account_numbered(accounts: &[i64], count: usize, n: u64) -> Account
     read_account(accounts, (n - 1) as usize)
 }
 
+// Whether s is a used account other than account n: the number of such a one is what a successor of n may be.
+pub fn other_used(accounts: &[i64], count: usize, n: u64, s: u64) -> bool
+    requires { count * account_width ≤ length accounts.now }
+    ensures { result ≡ other_used (accounts_of accounts.now count) n s }
+{
+    if s == n {
+        return false;
+    }
+    account_numbered(accounts, count, s).state != STATE_UNUSED
+}
+
 // Account i becomes x, its words in the layout's order.
 // Kept by index, an account's number less 1: a function by number would say no more at its five calls.
 pub fn write_account(accounts: &mut [i64], i: usize, x: Account)
@@ -74,6 +88,7 @@ pub fn write_account(accounts: &mut [i64], i: usize, x: Account)
         x.declines,
         x.declined,
         x.reserve,
+        x.successor,
     ];
     put_words(accounts, i * ACCOUNT_WIDTH, words);
 }

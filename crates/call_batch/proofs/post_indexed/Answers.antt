@@ -1,11 +1,12 @@
--- `post_indexed` meets its contract: refused by a shared refusal, tables and index stay; else the event is posted by what the index has for
--- it, and the index is that of the tables after it.
+-- `post_indexed` meets its contract: forwarded, it is refused by a shared refusal, at which tables and index stay, or posted by what
+-- the index has for it, and the index is that of the tables after it.
 use Rattle.std.proofs.Common.{rules}
 use Rattle.std.specs.Prelude.{◌≡◌, Err}
 use native.Mathlib.Omega.{arith}
 use Rattle.rules.proofs.HolidayTables.{sound-without}
 use Rattle.rules.proofs.TableLaws.{header-length}
 use Rattle.posting_laws.proofs.AddedLaws.{posts-refused}
+use Rattle.event_heirs.proofs.HeirLaws.{forwarded-any}
 use Rattle.event_refusals.proofs.AdmissionLaws.{admits-refused, admits-with}
 use Rattle.lent.specs.Lent.{lent_mut}
 use Rattle.batch_index.proofs.KeptLaws.{update-asked}
@@ -15,7 +16,7 @@ pub returns-in_err-x-clause-posts : goal.returns-in_err-x-clause-posts
 returns-in_err-x-clause-posts c =
     let q : c.from_residual.result ≡ Err c.in_err-x.field-0.0 = search rules in
     let a = admits-with c.args.holidays.now (lent_mut c.args.t.now) _ _ c.in_err-x.ensures in
-    rw q (posts-refused _ c.requires.0 _ _ (admits-refused _ _ _ a))
+    rw (q, forwarded-any, ← c.forward-e.ensures) (posts-refused _ c.requires.0 _ _ (admits-refused _ _ _ a))
 
 pub admit-requires : goal.admit-requires
 admit-requires c = sound-without c.args.holidays.now (lent_mut c.args.t.now) c.requires.0
@@ -30,3 +31,6 @@ pub update-requires : goal.update-requires
 update-requires c =
     update-asked c.args.holidays.now (lent_mut c.args.t.now) (lent_mut c.post_admitted-outcome.new.t) _ _ _
     c.used-before.ensures c.requires.0 c.post_admitted-outcome.ensures.posts _ c.requires.1
+
+pub returns-clause-posts : goal.returns-clause-posts
+returns-clause-posts c = rw (forwarded-any, ← c.forward-e.ensures) c.post_admitted-outcome.ensures.posts

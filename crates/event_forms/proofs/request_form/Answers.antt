@@ -4,4 +4,4 @@ use Rattle.event_forms.proofs.request_form.Goals as goal
 
 pub returns : goal.returns
 unfolding request_form
-returns c = rw c.zero_from_c.ensures
+returns c = rw c.zero_from_b.ensures

@@ -48,8 +48,12 @@ pub returns-in-11 : goal.returns-in-11
 unfolding form_of
 returns-in-11 c = c.reserve_form.ensures ∙ well_formed-of _ 11 c.in-11.is
 
+pub returns-in-12 : goal.returns-in-12
+unfolding form_of
+returns-in-12 c = c.successor_form.ensures ∙ well_formed-of _ 12 c.in-12.is
+
 pub returns-in_default : goal.returns-in_default
 returns-in_default c =
     let r = c.in_default.in_default-own.rest in
-    sym (no-form _ _ r.0.0.0.0.0.0.0.0.0.0.1 r.0.0.0.0.0.0.0.0.0.1 r.0.0.0.0.0.0.0.0.1 r.0.0.0.0.0.0.0.1 r.0.0.0.0.0.0.1
-    r.0.0.0.0.0.1 r.0.0.0.0.1 r.0.0.0.1 r.0.0.1 r.0.1 r.1) ∙ well_formed-of _ _ refl
+    sym (no-form _ _ r.0.0.0.0.0.0.0.0.0.0.0.1 r.0.0.0.0.0.0.0.0.0.0.1 r.0.0.0.0.0.0.0.0.0.1 r.0.0.0.0.0.0.0.0.1 r.0.0.0.0.0.0.0.1
+    r.0.0.0.0.0.0.1 r.0.0.0.0.0.1 r.0.0.0.0.1 r.0.0.0.1 r.0.0.1 r.0.1 r.1) ∙ well_formed-of _ _ refl

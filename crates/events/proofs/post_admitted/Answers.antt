@@ -41,10 +41,13 @@ add_list-requires c = (sound-without c.args.holidays.now (lent_mut c.args.t.now)
 pub set_reserve-requires : goal.set_reserve-requires
 set_reserve-requires c = (sound-without c.args.holidays.now (lent_mut c.args.t.now) c.requires.0, c.in-11.is, c.requires.2, c.requires.3)
 
+pub set_successor-requires : goal.set_successor-requires
+set_successor-requires c = (sound-without c.args.holidays.now (lent_mut c.args.t.now) c.requires.0, c.in-12.is, c.requires.2, c.requires.3)
+
 pub returns-in_default-clause-posts : goal.returns-in_default-clause-posts
 returns-in_default-clause-posts c =
     let r = c.in_default.in_default-own.rest in
     let formed = shared-formed _ _ c.requires.2 in
-    let none = no-form _ _ r.0.0.0.0.0.0.0.0.0.0.1 r.0.0.0.0.0.0.0.0.0.1 r.0.0.0.0.0.0.0.0.1 r.0.0.0.0.0.0.0.1
+    let none = no-form _ _ r.0.0.0.0.0.0.0.0.0.0.0.1 r.0.0.0.0.0.0.0.0.0.0.1 r.0.0.0.0.0.0.0.0.0.1 r.0.0.0.0.0.0.0.0.1 r.0.0.0.0.0.0.0.1
     r.0.0.0.0.0.0.1 r.0.0.0.0.0.1 r.0.0.0.0.1 r.0.0.0.1 r.0.0.1 r.0.1 r.1 in
     absurd (true≢false (sym formed ∙ sym (well_formed-of _ _ refl) ∙ none))

@@ -1,9 +1,10 @@
--- `post_event` meets its contract: refused by a shared refusal, the tables stay; else it is looked up and posted.
+-- `post_event` meets its contract: forwarded, it is refused by a shared refusal, at which the tables stay, or looked up and posted.
 use Rattle.std.proofs.Common.{rules}
 use Rattle.std.specs.Prelude.{◌≡◌, Err}
 use Rattle.rules.proofs.HolidayTables.{sound-without}
 use Rattle.posting_laws.proofs.AddedLaws.{posts-refused}
 use Rattle.event_refusals.proofs.AdmissionLaws.{admits-refused, admits-with}
+use Rattle.event_heirs.proofs.HeirLaws.{forwarded-any}
 use Rattle.lent.specs.Lent.{lent_mut}
 use Rattle.events.proofs.post_event.Goals as goal
 
@@ -13,7 +14,10 @@ admit-requires c = sound-without c.args.holidays.now (lent_mut c.args.t.now) c.r
 pub returns-in_err-x-clause-posts : goal.returns-in_err-x-clause-posts
 returns-in_err-x-clause-posts c =
     let q : c.from_residual.result ≡ Err c.in_err-x.field-0.0 = search rules in
-    rw q (posts-refused _ c.requires _ _ (admits-refused _ _ _ (admits-with c.args.holidays.now _ _ _ c.in_err-x.ensures)))
+    rw (q, forwarded-any, ← c.forward-e.ensures) (posts-refused _ c.requires _ _ (admits-refused _ _ _ (admits-with c.args.holidays.now _ _ _ c.in_err-x.ensures)))
 
 pub look_up-k-requires : goal.look_up-k-requires
 look_up-k-requires c = sound-without c.args.holidays.now (lent_mut c.args.t.now) c.requires
+
+pub returns-clause-posts : goal.returns-clause-posts
+returns-clause-posts c = rw (forwarded-any, ← c.forward-e.ensures) c.post_admitted.ensures.posts

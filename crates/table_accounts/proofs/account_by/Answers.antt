@@ -1,4 +1,4 @@
--- `account_by` meets its contract: eight words, read in the layout's order.
+-- `account_by` meets its contract: nine words, read in the layout's order.
 use borrow.Author.Rules.{rules}
 use Rattle.table_accounts.proofs.account_by.Goals as goal
 
@@ -13,4 +13,5 @@ returns g c =
       declines = search rules;
       declined = search rules;
       reserve = search rules;
+      successor = search rules;
     }

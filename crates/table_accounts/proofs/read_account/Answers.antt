@@ -6,4 +6,4 @@ pub returns : goal.returns
 unfolding account_from word
 returns c =
     let w = c.account_by.ensures in
-    rw (w.state, w.request, w.returned, w.threshold, w.topup, w.declines, w.declined, w.reserve)
+    rw (w.state, w.request, w.returned, w.threshold, w.topup, w.declines, w.declined, w.reserve, w.successor)

@@ -1,4 +1,4 @@
--- `write_account` meets its contract: eight words put from the account's first are that account, and no other account has one of them.
+-- `write_account` meets its contract: nine words put from the account's first are that account, and no other account has one of them.
 use Rattle.records.specs.Encoding.{account_words}
 use Rattle.tables.proofs.ChangeLaws.{account-changed}
 use Rattle.table_accounts.proofs.write_account.Goals as goal

@@ -7,4 +7,4 @@ pub returns : goal.returns
 unfolding account_from word
 returns c =
     let w = c.account_by.ensures in
-    alike-more w.state (alike-more w.request (alike-more w.returned (alike-more w.threshold (alike-more w.topup (alike-more w.declines (alike-more w.declined (alike-more w.reserve alike-none)))))))
+    alike-more w.state (alike-more w.request (alike-more w.returned (alike-more w.threshold (alike-more w.topup (alike-more w.declines (alike-more w.declined (alike-more w.reserve (alike-more w.successor alike-none))))))))

@@ -13,5 +13,5 @@ returns c =
     let f = c.args.f.now in
     let sums = sums_at c.args.sums.now in
     agree-by f.term.today sums f.accounts.now f.count _
-    (cases_from_all _ _ _ (TestIs f.term.today sums f.accounts.now true) (TestIs f.term.today sums f.accounts.now false) c.all.ensures.ran
+    (cases_from_all _ _ _ (TestIs f.term.today sums f.accounts.now f.count true) (TestIs f.term.today sums f.accounts.now f.count false) c.all.ensures.ran
     (YieldsList-from_range 0 f.count f.count refl (omega arith)) (λ i q k. search rules) (λ i q k. search rules))

@@ -1,0 +1,97 @@
+-- Event 12: which refusals concern it, and the book that it makes.
+use mathlib.Core.Path.{◌≡◌, refl, sym}
+use mathlib.Core.Bool.{Bool, true, false, not, ◌&&◌, ◌||◌}
+use Prim.Native.Nat.{◌≤◌}
+use native.Mathlib.Omega.{arith}
+use mathlib.Core.List.{[], ◌∷◌}
+use lib.ListN.{length}
+use borrow.Author.Tests.{not-false}
+use Rattle.records.specs.Numbers.{answer_successor}
+use Rattle.records.specs.Codes.{event_successor}
+use Rattle.records.specs.Layout.{successor_place}
+use Rattle.records.specs.Encoding.{StorableAccount}
+use Rattle.records.proofs.FieldLaws.{storable-set}
+use Rattle.records.specs.AccountOperations.{successor_set}
+use Rattle.lists.specs.Tests.{◌is◌, first}
+use Rattle.lists.proofs.TestLaws.{or_right}
+use Rattle.rules.specs.Book.{Account, Instruction, state_closed, Book, account, put_account}
+use Rattle.rules.specs.Successors.{other_used}
+use Rattle.rules.specs.Events.{set_successor}
+use Rattle.rules.specs.Refusals.{change_of, successor_refused, answer_number, own_refusals}
+use Rattle.rules.specs.Posting.{removes_topup}
+use Rattle.rules.specs.Tables.{Tables, book_of, sound_tables}
+use Rattle.rules.proofs.RefusalLaws.{own_tests, answer_number-own}
+use Rattle.rules.proofs.StorableLaws.{other-inside, accounts-le}
+use Rattle.rules.proofs.TableLaws.{sound-book}
+use Rattle.preservation.proofs.Accepted.{accepted}
+use Rattle.posting.proofs.BookLaws.{account-holds}
+use Rattle.records.specs.Updates.{of_kind}
+use Rattle.posting_laws.proofs.RefusalLaws.{at-kind}
+use Rattle.posting_laws.proofs.AccountEventLaws.{rows_fit, never-full, never-above}
+use Rattle.event_refusals.specs.Admissions.{Admitted}
+use Rattle.event_ends.specs.Ends.{PutsAccount}
+use Rattle.event_accounts.specs.AccountEvents.{successor_refusals}
+
+module _ (b : Book) (e : Instruction) (fit : length b.rows ≤ b.room) where
+  abbrev event12 : Instruction
+  event12 = of_kind event_successor e
+
+  change-successor : (change_of event_successor b event12).rows ≡ b.rows
+  unfolding change_of set_successor
+  change-successor = refl
+
+  own-12 : first (own_refusals b event12) ≡ first (successor_refusals b event12)
+  unfolding own_tests successor_refusals
+  own-12 = rw (never-full b event12 change-successor fit, never-above b event12 change-successor)
+
+-- the number that event 12 gets on sound tables where no shared refusal applies
+pub answer-successor : (t : Tables) → sound_tables t ≡ true → (e : Instruction) → e.kind ≡ event_successor → Admitted t e
+    → first (successor_refusals (book_of t) e) ≡ answer_number (book_of t) e
+answer-successor t s e k a =
+    let own = own-12 (book_of t) e (rows_fit t s) in
+    let q = at-kind (λ x. first (own_refusals (book_of t) x) ≡ first (successor_refusals (book_of t) x)) e 12 k own in
+    rw (answer_number-own (book_of t) e a, q)
+
+-- its own part, with what the test of the code came to
+pub successor-by : (b : Book) (e : Instruction) (f : Bool) → (account b e.account).state is state_closed && other_used b.accounts e.account e.a ≡ f
+    → first ((answer_successor, not f) ∷ []) ≡ first (successor_refusals b e)
+unfolding successor_refusals
+successor-by b e f w = rw (← w) (go ((account b e.account).state is state_closed) (other_used b.accounts e.account e.a))
+  where
+    go : (c u : Bool) → first ((answer_successor, not (c && u)) ∷ []) ≡ first ((answer_successor, not c || not u) ∷ [])
+    go true u = refl
+    go false u = refl
+
+-- ---- what an accepted event 12 leaves
+
+module _ (t : Tables) (s : sound_tables t ≡ true) (e : Instruction) (k : e.kind ≡ event_successor) (q : 0 ≡ answer_number (book_of t) e) where
+  abbrev succeeded_account : Account
+  succeeded_account = successor_set e.a (account (book_of t) e.account)
+
+  changed : change_of e.kind (book_of t) e ≡ put_account e.account succeeded_account (book_of t)
+  unfolding change_of set_successor
+  changed =
+      at-kind (λ x. change_of x.kind (book_of t) x ≡ put_account x.account (successor_set x.a (account (book_of t) x.account)) (book_of t))
+      e 12 k refl
+
+  -- the successor is one of the table's accounts
+  successor-inside : e.a ≤ length (book_of t).accounts
+  unfolding successor_refused
+  successor-inside =
+      at-kind (λ x. successor_refused (book_of t) x ≡ false → x.a ≤ length (book_of t).accounts) e 12 k
+      (λ w. other-inside (book_of t).accounts e.account e.a (not-false _ (or_right _ _ w)))
+      (accepted (book_of t) e (sym q)).nameable
+
+  pub successor-storable : StorableAccount succeeded_account
+  successor-storable =
+      storable-set _ successor_place e.a (omega (arith, successor-inside, accounts-le (book_of t).day (book_of t) (sound-book t s).near))
+      (account-holds t s e.account)
+
+  pub successor-puts : PutsAccount t e succeeded_account false
+  successor-puts = record {
+    accepted = q;
+    change = changed;
+    names-account = rw k;
+    removes = unfold removes_topup in (rw k);
+    storable = successor-storable;
+  }
