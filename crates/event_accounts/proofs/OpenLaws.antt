@@ -1,9 +1,8 @@
 -- Event 1: which refusals concern it, and the book that it makes.
-use mathlib.Core.Path.{◌≡◌, refl, sym, ◌∙◌}
+use mathlib.Core.Path.{◌≡◌, refl, sym}
 use mathlib.Core.Bool.{Bool, true, false, not, ◌&&◌}
-use Prim.Native.Nat.{◌≤◌}
 use native.Mathlib.Omega.{arith}
-use lib.ListN.{length}
+use mathlib.Core.List.{[]}
 use lib.Dec.{leb}
 use borrow.Author.Tests.{leb-true, not-false}
 use Rattle.records.specs.Codes.{event_open}
@@ -11,38 +10,25 @@ use Rattle.records.specs.Layout.{state_place, threshold_place, topup_place, acco
 use Rattle.records.specs.Encoding.{StorableAccount}
 use Rattle.records.proofs.FieldLaws.{storable-zeros, storable-set}
 use Rattle.records.specs.AccountOperations.{opened}
-use Rattle.lists.specs.Tests.{◌is◌, ◌implies◌, first}
+use Rattle.lists.specs.Tests.{◌is◌, ◌implies◌}
 use Rattle.lists.proofs.TestLaws.{and_left, and_right}
 use Rattle.records.specs.Limits.{highest_topup}
-use Rattle.rules.specs.Book.{Account, Instruction, state_open, Book, put_account}
+use Rattle.rules.specs.Book.{Account, Instruction, state_open, put_account}
 use Rattle.rules.specs.Events.{open_account}
-use Rattle.rules.specs.Refusals.{change_of, zero_from-c, open_form, form_of, well_formed, answer_number, own_refusals}
+use Rattle.rules.specs.Refusals.{change_of, zero_from-c, open_form, form_of, well_formed, answer_number}
 use Rattle.rules.specs.Posting.{removes_topup}
 use Rattle.rules.specs.Tables.{Tables, book_of, sound_tables}
-use Rattle.rules.proofs.RefusalLaws.{own_tests, answer_number-own}
+use Rattle.rules.proofs.RefusalLaws.{own_tests}
 use Rattle.preservation.proofs.Accepted.{accepted}
-use Rattle.records.specs.Updates.{of_kind}
 use Rattle.posting_laws.proofs.RefusalLaws.{at-kind}
-use Rattle.posting_laws.proofs.AccountEventLaws.{rows_fit, never-full, never-above}
+use Rattle.posting_laws.proofs.AccountEventLaws.{answer-rowless}
 use Rattle.event_refusals.specs.Admissions.{Admitted}
 use Rattle.event_ends.specs.Ends.{PutsAccount}
 
-module _ (b : Book) (e : Instruction) (fit : length b.rows ≤ b.room) where
-  abbrev event1 : Instruction
-  event1 = of_kind event_open e
-
-  change-open : (change_of event_open b event1).rows ≡ b.rows
-  unfolding change_of open_account
-  change-open = refl
-
-  own-1 : first (own_refusals b event1) ≡ 0
-  unfolding own_tests
-  own-1 = rw (never-full b event1 change-open fit, never-above b event1 change-open)
-
 -- on sound tables, event 1 is accepted where no shared refusal applies
 pub open-accepted : (t : Tables) → sound_tables t ≡ true → (e : Instruction) → e.kind ≡ event_open → Admitted t e → 0 ≡ answer_number (book_of t) e
-open-accepted t s e k a =
-    sym (answer_number-own (book_of t) e a ∙ at-kind (λ x. first (own_refusals (book_of t) x) ≡ 0) e 1 k (own-1 (book_of t) e (rows_fit t s)))
+unfolding change_of open_account own_tests
+open-accepted t s e k a = answer-rowless t s e event_open k a (λ b x. []) refl (λ f c. rw (f, c))
 
 -- ---- what an accepted event 1 leaves
 

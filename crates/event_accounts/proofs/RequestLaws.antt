@@ -1,10 +1,8 @@
 -- Event 8: which refusals concern it, and the book that it makes.
 use mathlib.Core.Path.{◌≡◌, refl}
 use mathlib.Core.Bool.{Bool, true, false}
-use Prim.Native.Nat.{◌≤◌}
 use native.Mathlib.Omega.{arith}
 use mathlib.Core.List.{[], ◌∷◌}
-use lib.ListN.{length}
 use Rattle.records.specs.Numbers.{answer_untimely}
 use Rattle.records.specs.Codes.{event_close_request}
 use Rattle.records.specs.Layout.{state_place, request_place}
@@ -12,41 +10,26 @@ use Rattle.records.specs.Encoding.{StorableAccount}
 use Rattle.records.proofs.FieldLaws.{storable-set}
 use Rattle.records.specs.AccountOperations.{close_requested_on}
 use Rattle.lists.specs.Tests.{◌is◌, first}
-use Rattle.rules.specs.Book.{Account, Instruction, state_pending, Book, account, put_account}
+use Rattle.rules.specs.Book.{Account, Instruction, state_pending, account, put_account}
 use Rattle.rules.specs.Events.{request_close}
-use Rattle.rules.specs.Refusals.{change_of, answer_number, own_refusals}
+use Rattle.rules.specs.Refusals.{change_of, answer_number}
 use Rattle.rules.specs.Posting.{removes_topup}
 use Rattle.rules.specs.Tables.{Tables, book_of, sound_tables}
-use Rattle.rules.proofs.RefusalLaws.{own_tests, answer_number-own}
+use Rattle.rules.proofs.RefusalLaws.{own_tests}
 use Rattle.rules.proofs.StorableLaws.{day-le}
 use Rattle.rules.proofs.TableLaws.{sound-book}
 use Rattle.posting.proofs.BookLaws.{account-holds}
-use Rattle.records.specs.Updates.{of_kind}
 use Rattle.posting_laws.proofs.RefusalLaws.{at-kind}
-use Rattle.posting_laws.proofs.AccountEventLaws.{rows_fit, never-full, never-above}
+use Rattle.posting_laws.proofs.AccountEventLaws.{answer-rowless}
 use Rattle.event_refusals.specs.Admissions.{Admitted}
 use Rattle.event_ends.specs.Ends.{PutsAccount}
 use Rattle.event_accounts.specs.AccountEvents.{request_refusals}
 
-module _ (b : Book) (e : Instruction) (fit : length b.rows ≤ b.room) where
-  abbrev event8 : Instruction
-  event8 = of_kind event_close_request e
-
-  change-request : (change_of event_close_request b event8).rows ≡ b.rows
-  unfolding change_of request_close
-  change-request = refl
-
-  own-8 : first (own_refusals b event8) ≡ first (request_refusals b event8)
-  unfolding own_tests request_refusals
-  own-8 = rw (never-full b event8 change-request fit, never-above b event8 change-request)
-
 -- the number that event 8 gets on sound tables where no shared refusal applies, with what its test came to
 pub request-by : (t : Tables) → sound_tables t ≡ true → (e : Instruction) → e.kind ≡ event_close_request → Admitted t e → (p : Bool)
     → (account (book_of t) e.account).state is state_pending ≡ p → first ((answer_untimely, p) ∷ []) ≡ answer_number (book_of t) e
-unfolding request_refusals
-request-by t s e k a p w =
-    let q = at-kind (λ x. first (own_refusals (book_of t) x) ≡ first (request_refusals (book_of t) x)) e 8 k (own-8 (book_of t) e (rows_fit t s)) in
-    rw (answer_number-own (book_of t) e a, q, w)
+unfolding change_of request_close own_tests request_refusals
+request-by t s e k a p w = rw w at (answer-rowless t s e event_close_request k a request_refusals refl (λ f c. rw (f, c)))
 
 -- ---- what an accepted event 8 leaves
 

@@ -1,10 +1,8 @@
 -- Event 11: which refusals concern it, and the book that it makes.
 use mathlib.Core.Path.{◌≡◌, refl, sym}
 use mathlib.Core.Bool.{Bool, true, false, not}
-use Prim.Native.Nat.{◌≤◌}
 use native.Mathlib.Omega.{arith}
 use mathlib.Core.List.{[], ◌∷◌}
-use lib.ListN.{length}
 use lib.Dec.{leb}
 use borrow.Author.Tests.{leb-true, not-false}
 use Rattle.records.specs.Numbers.{answer_untimely, answer_reserve}
@@ -17,38 +15,23 @@ use Rattle.lists.specs.Tests.{◌is◌, first}
 use Rattle.lists.proofs.TestLaws.{and_left}
 use Rattle.rules.specs.Book.{Account, Instruction, Book, account, put_account}
 use Rattle.rules.specs.Events.{set_reserve}
-use Rattle.rules.specs.Refusals.{change_of, zero_from-b, reserve_form, form_of, well_formed, answer_number, own_refusals}
+use Rattle.rules.specs.Refusals.{change_of, zero_from-b, reserve_form, form_of, well_formed, answer_number}
 use Rattle.rules.specs.Posting.{removes_topup}
 use Rattle.rules.specs.Tables.{Tables, book_of, sound_tables}
-use Rattle.rules.proofs.RefusalLaws.{own_tests, answer_number-own}
+use Rattle.rules.proofs.RefusalLaws.{own_tests}
 use Rattle.preservation.proofs.Accepted.{accepted}
 use Rattle.posting.proofs.BookLaws.{account-holds}
-use Rattle.records.specs.Updates.{of_kind}
 use Rattle.posting_laws.proofs.RefusalLaws.{at-kind}
-use Rattle.posting_laws.proofs.AccountEventLaws.{rows_fit, never-full, never-above}
+use Rattle.posting_laws.proofs.AccountEventLaws.{answer-rowless}
 use Rattle.event_refusals.specs.Admissions.{Admitted}
 use Rattle.event_ends.specs.Ends.{PutsAccount}
 use Rattle.event_accounts.specs.AccountEvents.{reserve_refusals}
 
-module _ (b : Book) (e : Instruction) (fit : length b.rows ≤ b.room) where
-  abbrev event11 : Instruction
-  event11 = of_kind event_reserve e
-
-  change-reserve : (change_of event_reserve b event11).rows ≡ b.rows
-  unfolding change_of set_reserve
-  change-reserve = refl
-
-  own-11 : first (own_refusals b event11) ≡ first (reserve_refusals b event11)
-  unfolding own_tests reserve_refusals
-  own-11 = rw (never-full b event11 change-reserve fit, never-above b event11 change-reserve)
-
 -- the number that event 11 gets on sound tables where no shared refusal applies
 pub answer-reserve : (t : Tables) → sound_tables t ≡ true → (e : Instruction) → e.kind ≡ event_reserve → Admitted t e
     → first (reserve_refusals (book_of t) e) ≡ answer_number (book_of t) e
-answer-reserve t s e k a =
-    let own = own-11 (book_of t) e (rows_fit t s) in
-    let q = at-kind (λ x. first (own_refusals (book_of t) x) ≡ first (reserve_refusals (book_of t) x)) e 11 k own in
-    rw (answer_number-own (book_of t) e a, q)
+unfolding change_of set_reserve own_tests reserve_refusals
+answer-reserve t s e k a = answer-rowless t s e event_reserve k a reserve_refusals refl (λ f c. rw (f, c))
 
 -- its own part, with what each test came to
 pub reserve-by : (b : Book) (e : Instruction) (u r : Bool) → (account b e.account).topup is 0 ≡ u → (account b e.account).reserve is e.a ≡ r

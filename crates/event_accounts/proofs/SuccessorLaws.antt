@@ -17,40 +17,25 @@ use Rattle.lists.proofs.TestLaws.{or_right}
 use Rattle.rules.specs.Book.{Account, Instruction, state_closed, Book, account, put_account}
 use Rattle.rules.specs.Successors.{other_used}
 use Rattle.rules.specs.Events.{set_successor}
-use Rattle.rules.specs.Refusals.{change_of, successor_refused, answer_number, own_refusals}
+use Rattle.rules.specs.Refusals.{change_of, successor_refused, answer_number}
 use Rattle.rules.specs.Posting.{removes_topup}
 use Rattle.rules.specs.Tables.{Tables, book_of, sound_tables}
-use Rattle.rules.proofs.RefusalLaws.{own_tests, answer_number-own}
+use Rattle.rules.proofs.RefusalLaws.{own_tests}
 use Rattle.rules.proofs.StorableLaws.{other-inside, accounts-le}
 use Rattle.rules.proofs.TableLaws.{sound-book}
 use Rattle.preservation.proofs.Accepted.{accepted}
 use Rattle.posting.proofs.BookLaws.{account-holds}
-use Rattle.records.specs.Updates.{of_kind}
 use Rattle.posting_laws.proofs.RefusalLaws.{at-kind}
-use Rattle.posting_laws.proofs.AccountEventLaws.{rows_fit, never-full, never-above}
+use Rattle.posting_laws.proofs.AccountEventLaws.{answer-rowless}
 use Rattle.event_refusals.specs.Admissions.{Admitted}
 use Rattle.event_ends.specs.Ends.{PutsAccount}
 use Rattle.event_accounts.specs.AccountEvents.{successor_refusals}
 
-module _ (b : Book) (e : Instruction) (fit : length b.rows ≤ b.room) where
-  abbrev event12 : Instruction
-  event12 = of_kind event_successor e
-
-  change-successor : (change_of event_successor b event12).rows ≡ b.rows
-  unfolding change_of set_successor
-  change-successor = refl
-
-  own-12 : first (own_refusals b event12) ≡ first (successor_refusals b event12)
-  unfolding own_tests successor_refusals
-  own-12 = rw (never-full b event12 change-successor fit, never-above b event12 change-successor)
-
 -- the number that event 12 gets on sound tables where no shared refusal applies
 pub answer-successor : (t : Tables) → sound_tables t ≡ true → (e : Instruction) → e.kind ≡ event_successor → Admitted t e
     → first (successor_refusals (book_of t) e) ≡ answer_number (book_of t) e
-answer-successor t s e k a =
-    let own = own-12 (book_of t) e (rows_fit t s) in
-    let q = at-kind (λ x. first (own_refusals (book_of t) x) ≡ first (successor_refusals (book_of t) x)) e 12 k own in
-    rw (answer_number-own (book_of t) e a, q)
+unfolding change_of set_successor own_tests successor_refusals
+answer-successor t s e k a = answer-rowless t s e event_successor k a successor_refusals refl (λ f c. rw (f, c))
 
 -- its own part, with what the test of the code came to
 pub successor-by : (b : Book) (e : Instruction) (f : Bool) → (account b e.account).state is state_closed && other_used b.accounts e.account e.a ≡ f

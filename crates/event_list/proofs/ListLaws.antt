@@ -12,19 +12,18 @@ use borrow.Author.Tests.{not-false, leb-false}
 use Rattle.records.specs.Codes.{event_rate_list, event_tick}
 use Rattle.records.specs.Layout.{header_lists, list_width}
 use Rattle.records.specs.Limits.{most_lists}
-use Rattle.records.specs.Updates.{of_kind}
 use Rattle.records.specs.Encoding.{Storable}
 use Rattle.records.proofs.FieldLaws.{storable-none, storable-more}
-use Rattle.lists.specs.Tests.{◌is◌, first}
+use Rattle.lists.specs.Tests.{◌is◌}
 use Rattle.lists.proofs.TestLaws.{and_right, or_right}
 use Rattle.lists.proofs.ListLaws.{length-tabulate}
 use Rattle.rules.specs.RateLists.{list_of, last_first_day, list_in_range}
 use Rattle.rules.specs.Book.{Instruction, Book, with_lists}
 use Rattle.rules.specs.Events.{add_list}
-use Rattle.rules.specs.Refusals.{change_of, after, list_form, form_of, well_formed, list_refused, answer_number, own_refusals}
+use Rattle.rules.specs.Refusals.{change_of, after, list_form, form_of, well_formed, list_refused, answer_number}
 use Rattle.rules.specs.Posting.{removes_topup}
 use Rattle.rules.specs.Tables.{Tables, tables_at, rows_used, later_list_at, lists_used, lists_in, book_of, list_words, header_words, tables_of, sound_tables}
-use Rattle.rules.proofs.RefusalLaws.{own_tests, answer_number-own}
+use Rattle.rules.proofs.RefusalLaws.{own_tests}
 use Rattle.rules.proofs.StorableLaws.{list-storable}
 use Rattle.rules.proofs.TableLaws.{sound-book, header-length, tables_of-book_of, header-more}
 use Rattle.preservation.proofs.Accepted.{Accepted, accepted}
@@ -33,7 +32,7 @@ use Rattle.tables.specs.Changes.{put_all}
 use Rattle.tables.proofs.ChangeLaws.{put_all-sets}
 use Rattle.posting.specs.Posts.{tables_over, acceptance_of, Posts}
 use Rattle.posting_laws.proofs.RefusalLaws.{at-kind}
-use Rattle.posting_laws.proofs.AccountEventLaws.{rows_fit, never-full, never-above, acceptance-rowless}
+use Rattle.posting_laws.proofs.AccountEventLaws.{answer-rowless, acceptance-rowless}
 use Rattle.posting_laws.proofs.AddedLaws.{posts-after}
 use Rattle.event_refusals.specs.Admissions.{Admitted}
 
@@ -49,22 +48,10 @@ words-held e r =
 
 -- ---- accepted
 
-module _ (b : Book) (e : Instruction) (fit : length b.rows ≤ b.room) where
-  abbrev event10 : Instruction
-  event10 = of_kind event_rate_list e
-
-  change-list : (change_of event_rate_list b event10).rows ≡ b.rows
-  unfolding change_of add_list
-  change-list = refl
-
-  own-10 : first (own_refusals b event10) ≡ 0
-  unfolding own_tests
-  own-10 = rw (never-full b event10 change-list fit, never-above b event10 change-list)
-
 -- on sound tables, event 10 is accepted where no shared refusal applies
 pub list-accepted : (t : Tables) → sound_tables t ≡ true → (e : Instruction) → e.kind ≡ event_rate_list → Admitted t e → 0 ≡ answer_number (book_of t) e
-list-accepted t s e k a =
-    sym (answer_number-own (book_of t) e a ∙ at-kind (λ x. first (own_refusals (book_of t) x) ≡ 0) e event_rate_list k (own-10 (book_of t) e (rows_fit t s)))
+unfolding change_of add_list own_tests
+list-accepted t s e k a = answer-rowless t s e event_rate_list k a (λ b x. []) refl (λ f c. rw (f, c))
 
 -- ---- what an accepted event 10 leaves
 

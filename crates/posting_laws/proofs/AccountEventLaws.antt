@@ -1,26 +1,28 @@
 -- Events that change an account alone: rows do not concern them, and what they leave when they are accepted.
 use mathlib.Core.Path.{◌≡◌, refl, sym, ◌∙◌}
 use mathlib.Core.Bool.{true, false, cond}
-use Prim.Native.Nat.{◌+◌, ◌-◌, ◌≤◌}
+use Prim.Native.Nat.{ℕ, ◌+◌, ◌-◌, ◌≤◌}
 use native.Mathlib.Omega.{arith}
 use mathlib.Core.List.{List, [], append-nil}
 use lib.ListN.{length}
 use lib.IntN.{ℤ}
 use borrow.Author.Tests.{le-ltb}
 use Rattle.records.specs.Codes.{event_tick}
-use Rattle.lists.specs.Tests.{◌is◌}
+use Rattle.lists.specs.Tests.{◌is◌, Cases, first}
+use Rattle.records.specs.Updates.{of_kind}
 use Rattle.lists.specs.Lists.{sum_by, count}
 use Rattle.rules.specs.Book.{Account, Instruction, Book, put_account}
-use Rattle.rules.specs.Refusals.{whole_book, change_of, after, full, ceiling, answer_number}
+use Rattle.rules.specs.Refusals.{whole_book, change_of, after, full, ceiling, answer_number, shared_refusals, own_refusals}
 use Rattle.rules.specs.Posting.{new_rows, removes_topup, acceptance}
 use Rattle.rules.specs.Tables.{Tables, accounts_in, rows_used, book_of, sound_tables}
+use Rattle.rules.proofs.RefusalLaws.{answer_number-own}
 use Rattle.rules.proofs.StorableLaws.{rows-le}
 use Rattle.rules.proofs.TableLaws.{sound-book, accounts-length}
 use Rattle.preservation.proofs.Accepted.{accepted}
 use Rattle.tables.specs.Changes.{AccountIn, AccountChanged}
 use Rattle.posting.specs.Posts.{tables_over, acceptance_of, PostsAny}
 use Rattle.posting.proofs.BookLaws.{count-read}
-use Rattle.posting_laws.proofs.RefusalLaws.{length-after, no-ceiling}
+use Rattle.posting_laws.proofs.RefusalLaws.{at-kind, length-after, no-ceiling}
 use Rattle.posting_laws.proofs.AddedLaws.{posts-accepted}
 use Rattle.posting_laws.proofs.AnyHolidays.{posts-any}
 use Rattle.posting_laws.proofs.EventLaws.{known-inside, named-no-tick, account-written, after-account}
@@ -48,6 +50,18 @@ module _ (b : Book) (e : Instruction) (c : (change_of e.kind b e).rows ≡ b.row
   acceptance-rowless k =
       let z : length b.rows + 0 - length b.rows ≡ 0 = omega arith in
       rw (length-stays, z, k)
+
+-- the number of an event of kind k that changes no row, on sound tables where no shared refusal applies: that of its own tests
+pub answer-rowless : (t : Tables) → sound_tables t ≡ true → (e : Instruction) (k : ℕ) → e.kind ≡ k → first (shared_refusals (book_of t) e) ≡ 0
+    → (tests : Book → Instruction → Cases) → (change_of k (book_of t) (of_kind k e)).rows ≡ (book_of t).rows
+    → (full (book_of t) (of_kind k e) ≡ false → ceiling (book_of t) (of_kind k e) ≡ false
+    → first (own_refusals (book_of t) (of_kind k e)) ≡ first (tests (book_of t) (of_kind k e)))
+    → first (tests (book_of t) e) ≡ answer_number (book_of t) e
+answer-rowless t s e k i a tests same own =
+    let b : Book = book_of t in
+    let f : Instruction = of_kind k e in
+    let q = own (never-full b f same (rows_fit t s)) (never-above b f same) in
+    sym (answer_number-own b e a ∙ at-kind (λ x. first (own_refusals b x) ≡ first (tests b x)) e k i q)
 
 -- ---- accepted
 
