@@ -75,8 +75,8 @@ mode_tag = 1
 abbrev pub mode_plate : ℕ
 mode_plate = 2
 
--- the kinds of events: "1. Open" to "9. Day tick" (document 01); "A new event 10 .. adds one list", "Event 11 adds or removes a reserve"
--- (document 02, Nos. 1 and 4)
+-- the kinds of events: "1. Open" to "9. Day tick" (document 01); "A new event 10 .. adds one list", "Event 11 adds or removes a reserve",
+-- "Event 12 names .. a successor account" (document 02, Nos. 1, 4 and 8)
 abbrev pub event_open : ℕ
 event_open = 1
 

@@ -107,6 +107,11 @@ header_word k n = tables_at (set posted.header k (pos n)) posted.accounts posted
 abbrev lengths_of : ℕ → ℕ → ℕ → Tables
 lengths_of h a j = tables_at (replicate h (pos 9)) (replicate a (pos 9)) (replicate j (pos 9)) []
 
+-- the kinds ks with words a and b, and each of c, d and e
+abbrev one_more : List ℕ → ℕ → ℕ → List Bool
+one_more ks a b =
+    map (λ k. well_formed (event k 0 a b 1 0 0)) ks ++ map (λ k. well_formed (event k 0 a b 0 1 0)) ks ++ map (λ k. well_formed (event k 0 a b 0 0 1)) ks
+
 -- as many words of a schedule
 abbrev opened_by : List ℤ → ℕ
 opened_by w = (open_call lent w).number
@@ -252,9 +257,13 @@ cases =
     ∷ (map (λ n. well_formed (event 11 1 n 0 0 0 0)) (0 ∷ 1 ∷ 2 ∷ []) are 1 ∷ 1 ∷ 0 ∷ [])
     ∷ (map well_formed (event 7 1 1 0 0 0 0 ∷ event 8 1 1 0 0 0 0 ∷ event 9 0 1 0 0 0 0 ∷ event 9 1 0 0 0 0 0 ∷ []) are replicate 4 0)
     ∷ (map well_formed (event 5 1 1 1 0 0 0 ∷ event 8 1 0 1 0 0 0 ∷ event 9 0 0 1 0 0 0 ∷ event 11 1 1 1 0 0 0 ∷ event 12 1 1 1 0 0 0 ∷ []) are replicate 5 0)
-    ∷ (map (λ k. well_formed (event k 0 1 1 1 0 0)) (1 ∷ 3 ∷ 4 ∷ 5 ∷ 6 ∷ 7 ∷ 8 ∷ 9 ∷ 11 ∷ 12 ∷ []) are replicate 10 0)
-    ∷ (map (λ k. well_formed (event k 0 1 1 0 1 0)) (1 ∷ 3 ∷ 4 ∷ 5 ∷ 6 ∷ 7 ∷ 8 ∷ 9 ∷ 11 ∷ 12 ∷ []) are replicate 10 0)
-    ∷ (map (λ k. well_formed (event k 0 1 1 0 0 1)) (1 ∷ 3 ∷ 4 ∷ 5 ∷ 6 ∷ 7 ∷ 8 ∷ 9 ∷ 11 ∷ 12 ∷ []) are replicate 10 0)
+    -- one word of c, d and e more than the kind names, its other words good
+    ∷ (one_more (1 ∷ 3 ∷ 4 ∷ 6 ∷ []) 1 1 are replicate 12 0)
+    ∷ (one_more (5 ∷ 11 ∷ 12 ∷ []) 1 0 are replicate 9 0)
+    ∷ (one_more (7 ∷ 8 ∷ 9 ∷ []) 0 0 are replicate 9 0)
+    ∷ (map (λ k. well_formed (event k 0 1 1 0 0 0)) (1 ∷ 3 ∷ 4 ∷ 6 ∷ []) are replicate 4 1)
+    ∷ (map (λ k. well_formed (event k 0 1 0 0 0 0)) (5 ∷ 11 ∷ 12 ∷ []) are replicate 3 1)
+    ∷ (map (λ k. well_formed (event k 0 0 0 0 0 0)) (7 ∷ 8 ∷ 9 ∷ []) are replicate 3 1)
     -- 3 and 4: unused, outside the table, used
     ∷ (answers_on5 (event 1 1 0 0 0 0 0 ∷ event 3 2 1 1 0 0 0 ∷ event 3 0 1 1 0 0 0 ∷ event 1 3 0 0 0 0 0 ∷ event 1 0 0 0 0 0 0 ∷ event 1 2 0 0 0 0 0 ∷ [])
     gives 0 ∷ 4 ∷ 3 ∷ 3 ∷ 3 ∷ 3 ∷ 0 ∷ [])

@@ -25,11 +25,15 @@ list_from day n = record { kind = 10; account = 0; a = day; b = n; c = n + 1; d 
 abbrev last_rate : ℕ → Instruction
 last_rate n = record { kind = 10; account = 0; a = 9; b = 1; c = 1; d = 1; e = 1; f = 1; g = n }
 
+-- event 10 with an account
+abbrev of_account : ℕ → Instruction → Instruction
+of_account n e = record { kind = e.kind; account = n; a = e.a; b = e.b; c = e.c; d = e.d; e = e.e; f = e.f; g = e.g }
+
 -- a toll on account 1 of a passage day: two axles, 60 inches, plate
 abbrev passage_of : ℕ → ℕ → Instruction
 passage_of number day = event 2 1 number day 2 60 2
 
--- opened on day 30; lists from day 40 and from day 50 on are added at once; five tolls on day 60
+-- opened on day 30; lists from day 40 and from day 50 on are added at once; seven tolls on day 60
 abbrev rated : Book
 rated =
     book_after (small 30)
@@ -59,7 +63,7 @@ cases =
     ∷ ((row (book_after rated (list_from 55 900 ∷ [])) 7).amount ∷ length (book_after rated (list_from 55 900 ∷ [])).lists ∷ [] gives 801 ∷ 4 ∷ [])
     -- 2: account, first day and rates of event 10; f and g of another event
     ∷ (numbers (small 1)
-    (event 10 1 9 1 1 1 1 ∷ list_from 0 1 ∷ list_from 36_526 1 ∷ list_from 9 0 ∷ list_from 9 1_000_001 ∷ last_rate 0 ∷ last_rate 1_000_001 ∷ last_rate 1_000_000 ∷ [])
+    (of_account 1 (list_from 9 1) ∷ list_from 0 1 ∷ list_from 36_526 1 ∷ list_from 9 0 ∷ list_from 9 1_000_001 ∷ last_rate 0 ∷ last_rate 1_000_001 ∷ last_rate 1_000_000 ∷ [])
     gives 2 ∷ 2 ∷ 2 ∷ 2 ∷ 2 ∷ 2 ∷ 2 ∷ 0 ∷ [])
     ∷ (numbers (small 1)
     (record { kind = 1; account = 1; a = 0; b = 0; c = 0; d = 0; e = 0; f = 1; g = 0 }
@@ -78,7 +82,7 @@ cases =
     are 1 ∷ 0 ∷ 1 ∷ 0 ∷ 0 ∷ 0 ∷ 1 ∷ 0 ∷ [])
     ∷ (map sound_tables (word 13 (pos 0) ∷ word 20 (pos 0) ∷ word 14 (pos 0) ∷ word 26 (pos 1_000_001) ∷ word 26 (negsuc 0) ∷ word 27 (pos 10) ∷ word 28 (pos 1) ∷ word 61 (pos 1) ∷ [])
     are replicate 8 0)
-    -- event 10 writes a to g and nothing else, and answers zeros
+    -- event 10 writes a to g in the place of a list; the header whole is below
     ∷ (length (book_of listed).lists ∷ map (λ (l : RateList). l.first_day) (book_of listed).lists gives 3 ∷ 1 ∷ 5 ∷ 9 ∷ [])
     ∷ []
 

@@ -2,6 +2,7 @@
 use mathlib.Core.Path.{◌≡◌, refl}
 use Prim.Native.Nat.{ℕ}
 use mathlib.Core.List.{List, [], ◌∷◌, ◌++◌, map}
+use lib.ListN.{replicate}
 use Rattle.records.specs.Encoding.{account_fields}
 use Rattle.records.specs.Updates.{with_reserve}
 use Rattle.rules.specs.Book.{Instruction, Book, account, put_account}
@@ -56,11 +57,13 @@ closed = book_after (small 1) (pending ++ ticks 16)
 
 pub cases : List Case
 cases =
-    -- 3, 5, 11 for adding and removing, 16 for one that exists and for one that doesn't; 2 before them; a pending account may
-    (numbers (small 1) (reserve 1 ∷ opened ∷ reserve 2 ∷ reserve 0 ∷ reserve 1 ∷ reserve 1 ∷ reserve 0 ∷ reserve 0 ∷ [])
-    gives 3 ∷ 0 ∷ 2 ∷ 16 ∷ 0 ∷ 16 ∷ 0 ∷ 16 ∷ [])
-    ∷ (numbers plain (reserve 0 ∷ reserve 1 ∷ []) gives 11 ∷ 11 ∷ [])
-    ∷ (numbers closed (reserve 0 ∷ reserve 1 ∷ event 4 1 1 0 0 0 0 ∷ reserve 1 ∷ []) gives 5 ∷ 5 ∷ 0 ∷ 0 ∷ [])
+    -- 3, 5, 11 for adding and removing, 16 for one that exists and for one that doesn't; 2 before each; a pending account may
+    (numbers (small 1) (reserve 2 ∷ reserve 1 ∷ opened ∷ reserve 2 ∷ reserve 0 ∷ reserve 1 ∷ reserve 1 ∷ reserve 0 ∷ reserve 0 ∷ [])
+    gives 2 ∷ 3 ∷ 0 ∷ 2 ∷ 16 ∷ 0 ∷ 16 ∷ 0 ∷ 16 ∷ [])
+    ∷ (numbers plain (reserve 0 ∷ reserve 1 ∷ reserve 2 ∷ []) gives 11 ∷ 11 ∷ 2 ∷ [])
+    ∷ (numbers closed (reserve 2 ∷ reserve 0 ∷ reserve 1 ∷ event 4 1 1 0 0 0 0 ∷ reserve 1 ∷ []) gives 2 ∷ 5 ∷ 5 ∷ 0 ∷ 0 ∷ [])
+    -- 5 before 11: a closed account without a primary
+    ∷ (numbers plain (event 8 1 0 0 0 0 0 ∷ ticks 16 ++ reserve 1 ∷ []) gives replicate 17 0 ++ 5 ∷ [])
     ∷ (numbers (small 1) (pending ++ reserve 1 ∷ reserve 0 ∷ []) gives 0 ∷ 0 ∷ 0 ∷ 0 ∷ 0 ∷ [])
     -- event 11 changes the reserve alone
     ∷ (account_fields (account (book_after (small 1) (opened ∷ once ++ reserve 1 ∷ [])) 1) gives 1 ∷ 0 ∷ 0 ∷ 100 ∷ 2_000 ∷ 1 ∷ 2 ∷ 1 ∷ 0 ∷ [])

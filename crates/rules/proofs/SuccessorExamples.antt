@@ -35,7 +35,7 @@ name n s = event 12 n s 0 0 0 0
 abbrev toll : ℕ → ℕ → Instruction
 toll n passage = event 2 n passage 17 2 60 2
 
--- account 2 is pending; accounts 1 and 2 are closed, 2 on day 33; account 1 is pending again of the returned check
+-- account 2 is pending; accounts 1 and 2 are closed, 2 on day 32; account 1 is pending again of the returned check
 abbrev pending : ℕ → Instruction
 pending n = event 8 n 0 0 0 0 0
 

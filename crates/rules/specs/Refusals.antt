@@ -146,7 +146,7 @@ unknown b e = cond (whole_book e) false (not (in_table b e) || not (e.kind is ev
 unfoldable pub taken : Refusal
 taken b e = e.kind is event_open && not (state_of b e is state_unused)
 
--- 5 "events 2, 3, 7, 8 on state 3"; event 11 "on a closed account" (document 02, No. 4)
+-- 5 "events 2, 3, 7, 8 on state 3"; event 11 "on a closed account" (document 02, No. 4); a toll is asked as forwarded (Posting.receive)
 unfoldable pub on_closed : Refusal
 on_closed b e =
     (e.kind is event_toll || e.kind is event_payment || e.kind is event_topup_result || e.kind is event_close_request

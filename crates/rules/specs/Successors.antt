@@ -26,6 +26,6 @@ toll_account b n = cond (has_heir b n) (account b n).successor n
 unfoldable pub forwarded : Book → Instruction → Instruction
 forwarded b e = cond (e.kind is event_toll) (on_account (toll_account b e.account) e) e
 
--- the account whose rows an event adds, changes and settles: "no other event but a tick touches an account it doesn't name"
+-- the account whose rows an event but a tick adds, changes and settles: "no other event but a tick touches an account it doesn't name"
 abbrev pub posts_on : Book → Instruction → ℕ
 posts_on b e = (forwarded b e).account

@@ -138,7 +138,7 @@ tables_of b = record {
 
 -- ---- "A book is sound when"
 
--- "The header has 62 words", "Accounts, 7 words each" and a word for the reserve, "Journal, 10 words a row": no word over
+-- "The header has 62 words", "Accounts, 7 words each" and two words that came later, "Journal, 10 words a row": no word over
 unfoldable pub whole_records : Tables → Bool
 whole_records t =
     length t.header is Layout.header_width && length t.accounts % Layout.account_width is 0
