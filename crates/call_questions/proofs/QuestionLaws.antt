@@ -21,7 +21,7 @@ use Rattle.records.specs.Limits.{most_rows}
 use Rattle.rules.specs.Book.{Account, state_unused, Book, account, account_no, minus, balance}
 use Rattle.rules.specs.Tables.{Tables, accounts_in, rows_used, book_of, sound_tables}
 use Rattle.rules.specs.Debtors.{heavy_by, heavy, rows_read}
-use Rattle.rules.specs.Calls.{Replies, RepliesDebtor, question_refusals, question, debtor_call, row_call}
+use Rattle.call_rules.specs.Calls.{Replies, RepliesDebtor, question_refusals, question, debtor_call, row_call}
 use Rattle.rules.proofs.StorableLaws.{between_le}
 use Rattle.rules.proofs.TableLaws.{sound-rows, length-sound-rows}
 use Rattle.balances.specs.declared.Sums.{Sums}

@@ -1,7 +1,7 @@
 -- `balance` meets its contract: refused, its value is 0; else it is the difference of the sums.
 use Rattle.call_questions.proofs.QuestionLaws.{asked-sound, question-refused, question-answered, sums-small, balance-read}
 use Rattle.rules.specs.Book as book
-use Rattle.rules.specs.Calls.{balance_call}
+use Rattle.call_rules.specs.Calls.{balance_call}
 use Rattle.posting.proofs.BookLaws.{rows-lie, journal-summable}
 use mir.Facts.{to_z-of_z}
 use Rattle.std.proofs.Common.{rules, w64}

@@ -1,7 +1,7 @@
 -- `topup_due` meets its contract: refused, its value is 0; else it is 1 or 0 as the test says.
 use Rattle.call_questions.proofs.QuestionLaws.{asked-sound, question-refused, question-answered}
 use Rattle.rules.specs.Book as book
-use Rattle.rules.specs.Calls.{topup_due_call}
+use Rattle.call_rules.specs.Calls.{topup_due_call}
 use Rattle.records.specs.Encoding.{nat_of}
 use Rattle.rules.specs.Tables.{tables_with, book_of, sound_tables}
 use Rattle.rules.proofs.HolidayTables.{sound-without}

@@ -5,9 +5,10 @@ use mathlib.Core.List.{List, [], ◌∷◌, map}
 use lib.ListN.{length, replicate, set}
 use lib.IntN.{ℤ, pos, negsuc}
 use Rattle.rules.specs.Tables.{Tables, tables_at}
-use Rattle.rules.specs.Calls.{Event, open_call, event_call, batch_call, balance_call, topup_due_call, row_call}
 use Rattle.rules.proofs.Computing.{computing}
 use Rattle.rules.proofs.Examples.{Case, ◌gives◌, ◌amounts-to◌}
+use Rattle.call_rules.specs.Calls.{Event, open_call, event_call, batch_call, balance_call, topup_due_call, row_call}
+use Rattle.call_rules.proofs.CallComputing.{computing_calls}
 
 -- ---- tables of two accounts and three rows
 
@@ -34,7 +35,7 @@ abbrev six : List ℤ
 six = replicate 6 (pos 7)
 
 -- account 1 opened, 300 paid, a refused payment of 0, 400 paid: a batch with one refusal
-abbrev pub day : List Event
+abbrev day : List Event
 day = sent 1 1 0 0 ∷ sent 3 1 300 2 ∷ sent 3 1 0 2 ∷ sent 3 1 400 1 ∷ []
 
 abbrev pub posted : Tables
@@ -91,5 +92,5 @@ pub record CallExamples : Type 0 where
   pub row : row_call posted (pos 2) ≡ pos 4 ∷ pos 1 ∷ pos 1 ∷ pos 400 ∷ pos 0 ∷ pos 1 ∷ pos 0 ∷ pos 0 ∷ pos 0 ∷ pos 0 ∷ []
 
 pub call-examples : CallExamples
-unfolding computing cases
+unfolding computing computing_calls cases
 call-examples = record { numbers = refl; answers = refl; refused = refl; row = refl }

@@ -17,9 +17,10 @@ use Rattle.rules.specs.Soundness.{sound}
 use Rattle.rules.specs.Successors.{forwarded}
 use Rattle.rules.specs.Posting.{receive, book_after}
 use Rattle.rules.specs.Tables.{Tables, book_of, tables_of, lengths_fit, used_fits, later_rows_zero, unused_lists_zero, sound_tables}
-use Rattle.rules.specs.Calls.{Event, event_refusals, event_call, batch_refusals, batch_call}
+use Rattle.call_rules.proofs.CallLaws.{event_call-refused-tables, batch_call-refused, batch_call-runs}
+use Rattle.call_rules.specs.Calls.{Event, event_refusals, event_call, batch_refusals, batch_call}
 use Rattle.rules.proofs.SoundnessLaws.{sound-facts}
-use Rattle.rules.proofs.PostingLaws.{post-refused, post-number, event_call-refused-tables, batch_call-refused, batch_call-runs}
+use Rattle.rules.proofs.PostingLaws.{post-refused, post-number}
 use Rattle.rules.proofs.TableLaws.{book_of-tables_of, sound_tables-tables_of}
 use Rattle.preservation.proofs.SoundKept.{post-keeps-sound, book_after-keeps-sound}
 
