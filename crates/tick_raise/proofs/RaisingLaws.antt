@@ -20,8 +20,8 @@ use Rattle.rules.specs.Rows.{Row, blank, with_mark, with_due}
 use Rattle.rules.specs.Book.{Book}
 use Rattle.rules.specs.Tick.{rises, raise, fee_row, raise_tolls}
 use Rattle.rules.specs.Tables.{Tables, rows_used, room_in, book_of}
-use Rattle.rules.proofs.StorableLaws.{day-le, stage-le, row-storable}
-use Rattle.preservation.proofs.FeeLaws.{schedule-parts, stage_fee-le}
+use Rattle.rules.proofs.StorableLaws.{day-le, stage-le, row-storable, schedule-storable}
+use Rattle.preservation.proofs.FeeLaws.{stage_fee-le}
 use Rattle.preservation.proofs.TickSteps.{rising}
 use Rattle.posting.specs.Posts.{tables_over}
 use Rattle.posting.specs.Written.{Written}
@@ -86,7 +86,7 @@ module _ (past : ℕ) (t : Tables) (m : Midway past t) where
     kind = omega arith;
     account = (storable-at i l).account;
     day = omega (arith, day-le past b m.near);
-    amount = omega (arith, stage_fee-le b.schedule (schedule-parts b.schedule m.near.schedule) ((r i).mark + 1));
+    amount = omega (arith, stage_fee-le b.schedule (schedule-storable b.schedule m.near.schedule) ((r i).mark + 1));
     settled = omega arith;
     mark = omega arith;
     due = omega arith;
