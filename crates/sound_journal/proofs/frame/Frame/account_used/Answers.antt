@@ -4,4 +4,4 @@ use Rattle.sound_journal.proofs.frame.Frame.account_used.Goals as goal
 
 pub returns : goal.returns
 unfolding account_used
-returns c = cc
+returns c = rw c.account_numbered-x.ensures
