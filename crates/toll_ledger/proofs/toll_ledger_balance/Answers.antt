@@ -6,4 +6,5 @@ use Rattle.toll_ledger.proofs.toll_ledger_balance.Goals as goal
 
 pub returns : goal.returns
 returns c =
-    rw (to_z-of_z {w = w64} (sfits_of c.reply.type_inv), c.reply.ensures.number, c.reply.ensures.value) (rw (to_z-of_z c.ranges.account) at c.balance.ensures)
+    rw (to_z-of_z {w = w64} (sfits_of c.reply.type_inv), c.reply.ensures.number, c.reply.ensures.value)
+    (rw (to_z-of_z c.ranges.account) at c.balance.ensures)

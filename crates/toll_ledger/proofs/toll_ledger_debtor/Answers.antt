@@ -7,4 +7,5 @@ use Rattle.toll_ledger.proofs.toll_ledger_debtor.Goals as goal
 pub returns : goal.returns
 returns c =
     let t = c.tell_debtor.ensures in
-    rw (to_z-of_z {w = w64} (sfits_of c.tell_debtor.type_inv), t.number, t.heavy, t.rows) (rw (to_z-of_z c.ranges.account) at c.debtor-outcome.ensures)
+    rw (to_z-of_z {w = w64} (sfits_of c.tell_debtor.type_inv), t.number, t.heavy, t.rows)
+    (rw (to_z-of_z c.ranges.account) at c.debtor-outcome.ensures)

@@ -11,4 +11,5 @@ pub returns : goal.returns
 returns c =
     let n : number_by c.map.result ≡ number_by c.topup_due-due.result = search rules in
     let v : value_of c.map.result ≡ flag_of c.topup_due-due.result = search rules in
-    rw (to_z-of_z {w = w64} (sfits_of c.reply.type_inv), c.reply.ensures.number, c.reply.ensures.value, n, v) (rw (to_z-of_z c.ranges.account) at c.topup_due-due.ensures)
+    rw (to_z-of_z {w = w64} (sfits_of c.reply.type_inv), c.reply.ensures.number, c.reply.ensures.value, n, v)
+    (rw (to_z-of_z c.ranges.account) at c.topup_due-due.ensures)
