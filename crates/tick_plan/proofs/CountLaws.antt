@@ -40,7 +40,7 @@ use Rattle.account_sums.proofs.TallyLaws.{tallied-none}
 use Rattle.tick_base.specs.declared.sums.Remains.{Remains}
 use Rattle.tick_base.specs.Remainders.{Remainders, counted, days_over}
 use Rattle.tick_base.proofs.StageLaws.{not-due, not-held}
-use Rattle.tick_plan.specs.Plans.{stays_of, close_by, close_at, NoneClosesBy, refund_by, refunds_at, refund_at, RowsCounted, Planned}
+use Rattle.tick_plan.specs.Plans.{stays_of, ends_of, close_by, close_at, NoneClosesBy, refund_by, refunds_at, refund_at, RowsCounted, Planned}
 use Rattle.tick_plan.specs.declared.rows.RowCounts.{RowCounts}
 
 -- ---- the fee row of a toll
@@ -101,9 +101,9 @@ stays-held today r n = rw (not-held r n)
 -- ---- one row more
 
 -- of no rows
-pub rows_none : (h t : List ℤ) (today : ℕ) (m : Remains) → Remainders t m 0 → RowsCounted h t today (record { today = today; remains = m; stays = replicate slot_count 0; fees = 0; ending = false }) 0
+pub rows_none : (h t : List ℤ) (today : ℕ) (m : Remains) → Remainders t m 0 → RowsCounted h t today (record { today = today; remains = m; stays = replicate slot_count 0; ends = replicate slot_count 0; fees = 0; ending = false }) 0
 unfolding gather_from exists count sum_by tabulate
-rows_none h t today m r = record { day = refl; sums = r; held = tallied-none (stays_of today) slot_count t; fees = refl; few = omega arith; ending = refl }
+rows_none h t today m r = record { day = refl; sums = r; held = tallied-none (stays_of today) slot_count t; ends = tallied-none (ends_of today) slot_count t; fees = refl; few = omega arith; ending = refl }
 
 module _ (h t : List ℤ) (today i : ℕ) where
   -- some row passes a test, with row n in view
@@ -117,14 +117,16 @@ module _ (h t : List ℤ) (today i : ℕ) where
       go (suc m) true = rw (lt-ltb 0 (suc m) (omega arith)) (lt-ltb 0 (suc m + 1) (omega arith))
       go (suc m) false = rw (lt-ltb 0 (suc m) (omega arith)) (lt-ltb 0 (suc m + 0) (omega arith))
 
-  pub rows_more : (c : RowCounts) → RowsCounted h t today c i → (m : Remains) (stays : List ℕ) → Remainders t m (i + 1) → Tallied (stays_of today) slot_count t stays (i + 1)
+  pub rows_more : (c : RowCounts) → RowsCounted h t today c i → (m : Remains) (stays endings : List ℕ) → Remainders t m (i + 1) → Tallied (stays_of today) slot_count t stays (i + 1)
+      → Tallied (ends_of today) slot_count t endings (i + 1)
       → (brings : Bool) → ((k : ℕ) → cond brings 1 0 ≡ length (fee_row (schedule_from h header_schedule) today k (row_at t i)))
       → (ends : Bool) → ends ≡ hold_ends today (row_at t i)
-      → RowsCounted h t today (record { today = c.today; remains = m; stays = stays; fees = c.fees + bool_byte brings; ending = c.ending || ends }) (i + 1)
-  rows_more c w m stays r s brings f ends e = record {
+      → RowsCounted h t today (record { today = c.today; remains = m; stays = stays; ends = endings; fees = c.fees + bool_byte brings; ending = c.ending || ends }) (i + 1)
+  rows_more c w m stays endings r s z brings f ends e = record {
     day = w.day;
     sums = r;
     held = s;
+    ends = z;
     fees = omega (arith, w.fees, f (i + 1), byte-one brings, length-gather-tabulate (fee_row (schedule_from h header_schedule) today) (row_at t) i);
     few = omega (arith, w.few, byte-few brings);
     ending = rw (exists-more (hold_ends today) i, w.ending, e);

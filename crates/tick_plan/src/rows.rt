@@ -11,14 +11,15 @@ use tick_base::holds::{count_held, ends_at};
 use tick_base::rows::CountableRows;
 use tick_base::sums::Remains;
 
-// For the day `today`: what remains of each account's rows, how many of its tolls stay held, how many fee rows the tick adds, and
-// whether a hold ends. 6 KiB of a caller's stack.
+// For the day `today`: what remains of each account's rows, how many of its tolls stay held, how many holds of it end, how many fee rows
+// the tick adds, and whether a hold ends. 8 KiB of a caller's stack.
 #[derive(Drop)]
 pub struct RowCounts {
     pub today: u64,
     pub remains: Remains,
-    // Kept: an array of its own, since `count_held` counts into an array of numbers, which `tick_holds` shares.
+    // Kept: arrays of their own, since `count_held` counts into an array of numbers.
     pub stays: [u64; SLOTS],
+    pub ends: [u64; SLOTS],
     pub fees: usize,
     pub ending: bool,
 }
@@ -32,6 +33,7 @@ impl RowCounts {
             today,
             remains: Remains::none(),
             stays: [0; SLOTS],
+            ends: [0; SLOTS],
             fees: 0,
             ending: false,
         }
@@ -51,6 +53,7 @@ impl RowCounts {
             &mut self.stays,
             |r| held_toll(r) & !hold_ends(r, today),
         );
+        count_held(countable, i, &mut self.ends, |r| hold_ends(r, today));
         self.fees += usize::from(brings_fee(header, countable.rows.journal, i, today));
         self.ending |= ends_at(countable.rows.journal, i, today);
     }

@@ -12,7 +12,7 @@ pub used-used-requires : goal.used-used-requires
 used-used-requires c = omega (arith, header-length _ c.requires.1.sound)
 
 pub end_holds-requires : goal.end_holds-requires
-end_holds-requires c = let t = lent_mut c.args.t.now in (sound-without c.requires.0 t c.requires.1.sound, holds-planned c.requires.0 t c.args.plan c.requires.1.plan.ending)
+end_holds-requires c = let t = lent_mut c.args.t.now in (sound-without c.requires.0 t c.requires.1.sound, holds-planned c.requires.0 t c.args.plan c.requires.1.plan.ending, c.requires.2)
 
 pub day-today-requires : goal.day-today-requires
 day-today-requires c = rw c.end_holds.ensures.header (omega (arith, header-length _ c.requires.1.sound))
