@@ -3,9 +3,9 @@ use Rattle.std.specs.Prelude.{◌≡◌, Bool, true, false, not, ◌&&◌, ℕ, 
 use Rattle.lists.specs.Tests.{◌is◌}
 use Rattle.lists.specs.Lists.{exists, one, gather}
 use Rattle.records.specs.Layout.{day_place, header_schedule}
-use Rattle.records.specs.Encoding.{word, rows_of, account_at}
+use Rattle.records.specs.Encoding.{word, row_at, rows_of, account_at}
 use Rattle.rules.specs.BusinessDays.{business_day}
-use Rattle.rules.specs.Rows.{Row, blank, held_toll}
+use Rattle.rules.specs.Rows.{Row, blank, held_toll, unsettled}
 use Rattle.records.specs.Limits.{most_accounts, most_rows, slot_count}
 use Rattle.rules.specs.Book.{Account, Book}
 use Rattle.rules.specs.Tick.{hold_ends, fee_row}
@@ -47,6 +47,10 @@ refunds_at c n x = refund_by c.today (get_or c.stays n 0) (get_or c.remains.owed
 -- the row that account n will bring, of whatever content
 unfoldable pub refund_at : RowCounts → ℕ → Account → List Row
 refund_at c n x = one (refunds_at c n x) blank
+
+-- no toll is held that is settled
+abbrev pub HeldOpen : List ℤ → ℕ → Type 0
+HeldOpen t used = (k : ℕ) → k < used → held_toll (row_at t k) ≡ true → unsettled (row_at t k) ≡ true
 
 -- what the first i rows come to, counted for this day
 pub record RowsCounted (h t : List ℤ) (today : ℕ) (c : RowCounts) (i : ℕ) : Type 0 where

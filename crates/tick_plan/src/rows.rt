@@ -1,9 +1,10 @@
 // What the used rows come to, in one pass.
 ghost use Rattle.std.specs.Prelude.{◌+◌, ◌<◌, List, ℤ};
-ghost use Rattle.tick_plan.specs.Plans.{RowsCounted};
+ghost use Rattle.tick_plan.specs.Plans.{HeldOpen, RowsCounted};
 
 use super::fees::brings_fee;
 use account_sums::SLOTS;
+use plain_rows::{small_amount, small_settled};
 use row_tests::held_toll;
 use table_lists::Header;
 use tick_base::days::hold_ends;
@@ -58,13 +59,28 @@ impl RowCounts {
         self.ending |= ends_at(countable.rows.journal, i, today);
     }
 
-    // Of the used rows.
+    // Row i; one of which nothing is left comes to nothing, and most are such.
+    fn count_row(&mut self, header: Header, countable: &CountableRows, i: usize)
+        requires { (i < countable.now.rows.used)
+            × HeldOpen countable.now.rows.journal.now countable.now.rows.used
+            × RowsCounted header.words.now countable.now.rows.journal.now self.old.today self.old i }
+        ensures { RowsCounted header.entry.words.now countable.now.rows.journal.now self.old.today self.new (i + 1) }
+    {
+        let settled = small_settled(countable.rows.journal, i);
+        if settled == small_amount(countable.rows.journal, i) {
+            return;
+        }
+        self.add_row(header, countable, i);
+    }
+
+    // Of the used rows, of whose tolls none is held that is settled.
     pub fn of_rows(header: Header, countable: &CountableRows, today: u64) -> RowCounts
+        requires { HeldOpen countable.now.rows.journal.now countable.now.rows.used }
         ensures { RowsCounted header.entry.words.now countable.now.rows.journal.now today result countable.now.rows.used }
     {
         let mut counts = RowCounts::none(today);
         for i in 0..countable.rows.used {
-            counts.add_row(header, countable, i);
+            counts.count_row(header, countable, i);
         }
         counts
     }
