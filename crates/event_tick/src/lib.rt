@@ -95,7 +95,7 @@ fn carry_out(t: &mut TablesMut, e: Instruction, plan: Plan, counts: &RowCounts) 
     end_holds(t, plan, counts);
     let today = t.day();
     put(t.header, DAY_PLACE, today + 1);
-    let raised = raise_tolls(t);
+    let raised = raise_tolls(t, &counts.marks);
     close_due(t, plan);
     posted(used, t.used() - used, raised, false)
 }

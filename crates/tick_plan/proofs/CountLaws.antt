@@ -45,6 +45,8 @@ use Rattle.tick_base.specs.declared.sums.Remains.{Remains}
 use Rattle.tick_base.specs.Remainders.{Remainders, counted, days_over}
 use Rattle.tick_base.proofs.StageLaws.{not-due, not-held, share-counted}
 use Rattle.tick_base.proofs.MidwayLaws.{sound-midway, midway-each}
+use Rattle.tick_plan.specs.Marks.{block_count, Marked}
+use Rattle.tick_plan.proofs.MarkLaws.{marked-none, marked-past}
 use Rattle.tick_plan.specs.Plans.{stays_of, ends_of, HeldOpen, close_by, close_at, NoneClosesBy, refund_by, refunds_at, refund_at, RowsCounted, Planned}
 use Rattle.tick_plan.specs.declared.rows.RowCounts.{RowCounts}
 
@@ -106,9 +108,9 @@ stays-held today r n = rw (not-held r n)
 -- ---- one row more
 
 -- of no rows
-pub rows_none : (h t : List ℤ) (today : ℕ) (m : Remains) → Remainders t m 0 → RowsCounted h t today (record { today = today; remains = m; stays = replicate slot_count 0; ends = replicate slot_count 0; fees = 0; ending = false }) 0
+pub rows_none : (h t : List ℤ) (today : ℕ) (m : Remains) → Remainders t m 0 → RowsCounted h t today (record { today = today; remains = m; stays = replicate slot_count 0; ends = replicate slot_count 0; fees = 0; ending = false; marks = replicate block_count 0 }) 0
 unfolding gather_from exists count sum_by tabulate
-rows_none h t today m r = record { day = refl; sums = r; held = tallied-none (stays_of today) slot_count t; ends = tallied-none (ends_of today) slot_count t; fees = refl; few = omega arith; ending = refl }
+rows_none h t today m r = record { day = refl; sums = r; held = tallied-none (stays_of today) slot_count t; ends = tallied-none (ends_of today) slot_count t; fees = refl; few = omega arith; ending = refl; marks = marked-none today t }
 
 module _ (h t : List ℤ) (today i : ℕ) where
   -- some row passes a test, with row n in view
@@ -126,8 +128,9 @@ module _ (h t : List ℤ) (today i : ℕ) where
       → Tallied (ends_of today) slot_count t endings (i + 1)
       → (brings : Bool) → ((k : ℕ) → cond brings 1 0 ≡ length (fee_row (schedule_from h header_schedule) today k (row_at t i)))
       → (ends : Bool) → ends ≡ hold_ends today (row_at t i)
-      → RowsCounted h t today (record { today = c.today; remains = m; stays = stays; ends = endings; fees = c.fees + bool_byte brings; ending = c.ending || ends }) (i + 1)
-  rows_more c w m stays endings r s z brings f ends e = record {
+      → (marks : List ℕ) → Marked today t marks (i + 1)
+      → RowsCounted h t today (record { today = c.today; remains = m; stays = stays; ends = endings; fees = c.fees + bool_byte brings; ending = c.ending || ends; marks = marks }) (i + 1)
+  rows_more c w m stays endings r s z brings f ends e marks d = record {
     day = w.day;
     sums = r;
     held = s;
@@ -135,6 +138,7 @@ module _ (h t : List ℤ) (today i : ℕ) where
     fees = omega (arith, w.fees, f (i + 1), byte-one brings, length-gather-tabulate (fee_row (schedule_from h header_schedule) today) (row_at t) i);
     few = omega (arith, w.few, byte-few brings);
     ending = rw (exists-more (hold_ends today) i, w.ending, e);
+    marks = d;
   }
 
 -- ---- a row of which nothing is left comes to nothing
@@ -175,6 +179,7 @@ module _ (h t : List ℤ) (today i : ℕ) (spent : (row_at t i).settled ≡ (row
     fees = omega (arith, w.fees, no-fee, length-gather-tabulate (fee_row (schedule_from h header_schedule) today) (row_at t) i);
     few = omega (arith, w.few);
     ending = rw (exists-more h t today i (hold_ends today) i, ends-not, ← w.ending) (sym (or-false c.ending));
+    marks = marked-past today t c.marks i w.marks no-riser;
   }
 
 -- a held toll of a sound book has something left

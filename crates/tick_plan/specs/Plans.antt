@@ -13,6 +13,7 @@ use Rattle.rules.specs.Tables.{Tables, rows_used, schedule_from}
 use Rattle.tick_rules.specs.Ticks.{NoneCloses, fees_added, refunds_added}
 use Rattle.account_sums.specs.Tallies.{Tallied}
 use Rattle.tick_base.specs.Remainders.{Remainders, counted, days_over}
+use Rattle.tick_plan.specs.Marks.{Marked}
 use Rattle.tick_plan.specs.declared.Plan.{Plan}
 use Rattle.tick_plan.specs.declared.rows.RowCounts.{RowCounts}
 
@@ -61,6 +62,7 @@ pub record RowsCounted (h t : List ℤ) (today : ℕ) (c : RowCounts) (i : ℕ) 
   pub fees : c.fees ≡ length (gather (fee_row (schedule_from h header_schedule) today) (rows_of t i))
   pub few : c.fees ≤ i
   pub ending : c.ending ≡ exists (hold_ends today) (rows_of t i)
+  pub marks : Marked today t c.marks i
 
 -- what the used rows of tables come to, counted for the next day
 abbrev pub TablesCounted : Tables → RowCounts → Type 0

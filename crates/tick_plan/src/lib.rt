@@ -3,6 +3,7 @@
 #![tactic(auto)]
 
 mod fees; // fees.rt: the fee of a toll that will rise
+pub mod marks; // marks.rt: marks on the blocks of rows in which a toll may rise
 pub mod rows; // rows.rt: what the used rows come to, in one pass
 mod refunds; // refunds.rt: the accounts that will close, and those of them with money left
 

@@ -3,6 +3,7 @@ ghost use Rattle.std.specs.Prelude.{◌+◌, ◌<◌, List, ℤ};
 ghost use Rattle.tick_plan.specs.Plans.{HeldOpen, RowsCounted};
 
 use super::fees::brings_fee;
+use super::marks::{BLOCKS, mark_due};
 use account_sums::SLOTS;
 use plain_rows::{small_amount, small_settled};
 use row_tests::held_toll;
@@ -13,7 +14,7 @@ use tick_base::rows::CountableRows;
 use tick_base::sums::Remains;
 
 // For the day `today`: what remains of each account's rows, how many of its tolls stay held, how many holds of it end, how many fee rows
-// the tick adds, and whether a hold ends. 8 KiB of a caller's stack.
+// the tick adds, whether a hold ends, and which blocks of rows have a toll that may rise. 9 KiB of a caller's stack.
 #[derive(Drop)]
 pub struct RowCounts {
     pub today: u64,
@@ -23,6 +24,7 @@ pub struct RowCounts {
     pub ends: [u64; SLOTS],
     pub fees: usize,
     pub ending: bool,
+    pub marks: [u64; BLOCKS],
 }
 
 impl RowCounts {
@@ -37,6 +39,7 @@ impl RowCounts {
             ends: [0; SLOTS],
             fees: 0,
             ending: false,
+            marks: [0; BLOCKS],
         }
     }
 
@@ -57,6 +60,7 @@ impl RowCounts {
         count_held(countable, i, &mut self.ends, |r| hold_ends(r, today));
         self.fees += usize::from(brings_fee(header, countable.rows.journal, i, today));
         self.ending |= ends_at(countable.rows.journal, i, today);
+        mark_due(countable.rows.journal, i, today, &mut self.marks);
     }
 
     // Row i; one of which nothing is left comes to nothing, and most are such.
