@@ -15,6 +15,10 @@ LISTING = target/bin/listing
 # What `make list` lists.
 FILE = examples/listing.csv
 
+# The program where the toolchain builds it. `rt ci` leaves it there, so that what it has proved and built is taken as it is; of the
+# library `rt ci` proves what stands in it, and builds no archive.
+BUILT_LISTING = crates/listing/out/listing
+
 # What library and program are made of: newer than they, and they are proved and built again.
 SOURCES := crates.txt $(shell find crates -name out -prune -o \( -name '*.rt' -o -name '*.antt' \) -print)
 
@@ -35,9 +39,15 @@ target/host: examples/host.c include/toll_ledger.h $(LIBRARY)
 # The listing program, and the listing of a file by it.
 listing: $(LISTING)
 
-$(LISTING): $(SOURCES)
+$(LISTING): $(BUILT_LISTING)
+	install -D $< $@
+
+# Taken away where it has run and did not do what it should; nothing to make again where only this copy is missing.
+.DELETE_ON_ERROR:
+.SECONDARY: $(BUILT_LISTING)
+$(BUILT_LISTING): $(SOURCES)
 	cd crates/listing && $(RT) run > /dev/null
-	install -D crates/listing/out/listing $@
+	touch $@
 
 list: $(LISTING)
 	@$(LISTING) < $(FILE)

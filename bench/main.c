@@ -89,6 +89,25 @@ static void measure(work *task, size_t count, size_t runs, struct pair *medians)
         medians[s] = (struct pair){median(times[s][0], runs), median(times[s][1], runs)};
 }
 
+/* What any call that checks the whole book has to do at least: a scalar read of each word, which a
+ * volatile one is. */
+static void read_words(const volatile int64_t *words, size_t count)
+{
+    int64_t any = 0;
+    for (size_t i = 0; i < count; i++)
+        any |= words[i];
+    answers[0] = any;
+}
+
+static void read_book(const struct library *library, const event *e)
+{
+    (void)library;
+    (void)e;
+    read_words(lent.header, lent.header_words);
+    read_words(lent.accounts, lent.accounts_words);
+    read_words(lent.journal, lent.journal_words);
+}
+
 static void post_drawn(const struct library *library, const event *e)
 {
     must(library->event(LENT(&lent), &e->kind, TOLL_LEDGER_EVENT_WORDS, answers,
@@ -271,6 +290,13 @@ static void print_pair(const char *name, size_t rows, struct pair p)
     printf("%-34s %6zu %10.2f %10.2f %8.2f\n", name, rows, p.ours, p.plain, p.ours / p.plain);
 }
 
+/* And what the call takes of one scalar read of the book. */
+static void print_call(const char *name, size_t rows, struct pair p, struct pair read)
+{
+    printf("%-34s %6zu %10.2f %10.2f %8.2f %10.2f %10.2f\n", name, rows, p.ours, p.plain,
+           p.ours / p.plain, p.ours / read.plain, p.plain / read.plain);
+}
+
 static const struct {
     const char *name;
     work *task;
@@ -284,7 +310,7 @@ static const struct {
                   {"toll passed on", post_drawn, PASSED_ON},
                   {"debtor, heavy by an early row", ask_debtor, HEAVY}};
 
-static void measure_calls(struct pair medians[CALLS][SIZES])
+static void measure_calls(struct pair medians[CALLS][SIZES], struct pair reads[SIZES])
 {
     struct host hosts[SIZES];
     for (size_t s = 0; s < SIZES; s++) {
@@ -294,6 +320,7 @@ static void measure_calls(struct pair medians[CALLS][SIZES])
         name_successors();
         print_book();
     }
+    measure(read_book, SIZES, CALL_RUNS, reads);
     for (size_t c = 0; c < CALLS; c++) {
         for (size_t s = 0; s < SIZES; s++) {
             book = &books[s];
@@ -304,6 +331,17 @@ static void measure_calls(struct pair medians[CALLS][SIZES])
         }
         measure(calls[c].task, SIZES, CALL_RUNS, medians[c]);
     }
+}
+
+static void print_calls(struct pair medians[CALLS][SIZES], struct pair reads[SIZES])
+{
+    printf("\n%-34s %6s %10s %10s %8s %10s %10s\n", "single call, us", "rows", "ours", "plain C", "ratio",
+           "ours/read", "plain/read");
+    for (size_t s = 0; s < SIZES; s++)
+        printf("%-34s %6zu %10s %10.2f\n", "a scalar read of every word", sizes[s], "", reads[s].plain);
+    for (size_t c = 0; c < CALLS; c++)
+        for (size_t s = 0; s < SIZES; s++)
+            print_call(calls[c].name, sizes[s], medians[c][s], reads[s]);
 }
 
 static void print_growth(struct pair medians[CALLS][SIZES])
@@ -387,13 +425,10 @@ static void measure_onto(size_t used)
 
 int main(void)
 {
-    static struct pair medians[CALLS][SIZES];
+    static struct pair medians[CALLS][SIZES], reads[SIZES];
     setvbuf(stdout, NULL, _IOLBF, 0);
-    measure_calls(medians);
-    printf("\n%-34s %6s %10s %10s %8s\n", "single call, us", "rows", "ours", "plain C", "ratio");
-    for (size_t c = 0; c < CALLS; c++)
-        for (size_t s = 0; s < SIZES; s++)
-            print_pair(calls[c].name, sizes[s], medians[c][s]);
+    measure_calls(medians, reads);
+    print_calls(medians, reads);
     print_growth(medians);
     book = books;
     measure_empty();

@@ -1,6 +1,6 @@
-/* Every answer number with events that give it, rate lists, the order of payment, reserves, heavy
- * debtors, and document 01's marked examples M1 to M8. The parts between marks below stand word for word in
- * docs/HOSTS.md; tests/run compares. */
+/* Every answer number with events that give it, batches, what each request of document 02 brought, books
+ * of older versions, and document 01's marked examples M1 to M8. The parts between marks below stand word
+ * for word in docs/HOSTS.md; tests/run compares. */
 #include "book.h"
 
 #include <string.h>
@@ -222,6 +222,29 @@ static void full(struct book *b)
 
 /* 14 ceiling has no example: a refund takes a row, so at most 8,191 rows can be sources, of at most
  * 1,300,000 each: 10,648,300,000. */
+/* examples: end */
+
+/* examples: begin, of batches */
+/* Three events in one call: the second is refused, and the third posted all the same. Answers stand one
+ * after another, and what is past them stays as it was. With a word too few for them nothing is done. */
+static void batches(struct book *b)
+{
+    const struct toll_ledger_event_record events[3] = {
+        {TOLL_LEDGER_EVENT_OPEN, 7, 0, 0, 0, 0, 0, 0, 0},
+        {TOLL_LEDGER_EVENT_OPEN, 7, 0, 0, 0, 0, 0, 0, 0},
+        {TOLL_LEDGER_EVENT_TOLL, 7, 41, 1, 2, 60, 2, 0, 0},
+    };
+    int64_t answers[3 * TOLL_LEDGER_ANSWER_WORDS + 1];
+    const int64_t *third = answers + 2 * TOLL_LEDGER_ANSWER_WORDS;
+    answers[3 * TOLL_LEDGER_ANSWER_WORDS] = -1;
+    CHECK(toll_ledger_batch(b->header, b->header_words, b->accounts, b->accounts_words, b->journal, b->journal_words,
+                            b->holidays, b->holidays_words, events, 3, answers, 14) == TOLL_LEDGER_MALFORMED);
+    CHECK(toll_ledger_batch(b->header, b->header_words, b->accounts, b->accounts_words, b->journal, b->journal_words,
+                            b->holidays, b->holidays_words, events, 3, answers, 16) == TOLL_LEDGER_POSTED);
+    CHECK(answers[0] == TOLL_LEDGER_POSTED && answers[TOLL_LEDGER_ANSWER_WORDS] == TOLL_LEDGER_TAKEN);
+    CHECK(third[TOLL_LEDGER_ANSWER_NUMBER] == TOLL_LEDGER_POSTED && third[TOLL_LEDGER_ANSWER_FIRST_ROW] == 1);
+    CHECK(answers[3 * TOLL_LEDGER_ANSWER_WORDS] == -1 && balance(b, 7) == -500);
+}
 /* examples: end */
 
 /* examples: begin, of rate lists */
@@ -579,7 +602,7 @@ int main(void)
         {rates_ahead, 64, 512, 1}, {held_topup, 64, 512, 1}, {reserve, 64, 512, 1},
         {reserve_life, 64, 512, 1}, {tolls_first, 64, 512, 1},
         {holidays, 64, 512, 1}, {business_days, 64, 512, 1}, {heavy_debtors, 64, 512, 1},
-        {successor, 64, 512, 1}, {passed_on, 64, 512, 1}, {older_book, 3, 8, 1},
+        {batches, 64, 512, 1},   {successor, 64, 512, 1}, {passed_on, 64, 512, 1}, {older_book, 3, 8, 1},
     };
     for (size_t i = 0; i < sizeof examples / sizeof examples[0]; i++) {
         struct book b = open_book(examples[i].accounts, examples[i].rows, examples[i].first_day);

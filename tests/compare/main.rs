@@ -19,7 +19,9 @@ use generate::{Host, Opening};
 use lists::{Plan, BOTH, DECLINES, HOLIDAY, KINDS, NUMBERS, SATURDAY, SUNDAY};
 use pair::{line, Pair};
 
-const LISTS: u64 = 480;
+const LISTS: u64 = 480; // on small books
+const LARGE_LISTS: u64 = 3;
+const MORE_LISTS: u64 = 960; // at most, on small books too, where a seed has met too little by then
 const EVENTS: u64 = 200; // in a list, at least
 const DAMAGES: u64 = 100; // of a list's last book
 const TOLL_REFUSALS: [i64; 3] = [UNCLASSED, MISDATED, DUPLICATE]; // that don't depend on the account
@@ -40,17 +42,27 @@ fn stop_damaged(seed: u64, number: u64, damage: u64, failure: damage::Failure) -
     std::process::exit(1);
 }
 
-/// Small books, most of them soon full; each list's last book is then damaged.
-fn small_books(seed: u64, met: &mut lists::Met, damaged: &mut damage::Met) {
-    for number in 0..LISTS {
-        let random = &mut Random::new(seed, number);
-        let accounts = random.pick(&[1, 2, 3, 3, 5, 9]);
-        let rows = random.pick(&[1, 3, 12, 40, 90, 160, 240, 240]);
-        let opening = Opening::new(random, accounts, rows);
-        let plan = Plan { events: EVENTS, longest: 30, fill: 0 };
-        let pair = lists::run(random, opening, &plan, met).unwrap_or_else(|f| stop(seed, number, f));
-        damage_book(seed, number, DAMAGES, random, &pair, damaged);
+/// A list on a small book, which mostly is soon full; its last book is then damaged.
+fn small_book(seed: u64, number: u64, met: &mut lists::Met, damaged: &mut damage::Met) {
+    let random = &mut Random::new(seed, number);
+    let accounts = random.pick(&[1, 2, 3, 3, 5, 9]);
+    let rows = random.pick(&[1, 3, 12, 40, 90, 160, 240, 240]);
+    let opening = Opening::new(random, accounts, rows);
+    let plan = Plan { events: EVENTS, longest: 30, fill: 0 };
+    let pair = lists::run(random, opening, &plan, met).unwrap_or_else(|f| stop(seed, number, f));
+    damage_book(seed, number, DAMAGES, random, &pair, damaged);
+}
+
+/// More lists on small books until all is met as often as is asked: what is rare comes sooner with one seed than with another.
+/// Gives how many.
+fn more_small_books(seed: u64, met: &mut lists::Met, damaged: &mut damage::Met) -> u64 {
+    for more in 0..MORE_LISTS {
+        if enough(met, damaged).is_ok() {
+            return more;
+        }
+        small_book(seed, LISTS + LARGE_LISTS + more, met, damaged);
     }
+    MORE_LISTS
 }
 
 fn damage_book(seed: u64, number: u64, times: u64, random: &mut Random, pair: &Pair, met: &mut damage::Met) {
@@ -63,7 +75,7 @@ fn damage_book(seed: u64, number: u64, times: u64, random: &mut Random, pair: &P
 
 /// Books of the largest sizes, few of them: each event of a list is a call on the whole book.
 fn large_books(seed: u64, met: &mut lists::Met, damaged: &mut damage::Met) {
-    let plans = [
+    let plans: [_; LARGE_LISTS as usize] = [
         (MOST_ACCOUNTS, MOST_ROWS, Plan { events: 6_000, longest: MOST_EVENTS as i64, fill: 0 }),
         (4, MOST_ROWS, Plan { events: 12_000, longest: MOST_EVENTS as i64, fill: MOST_ROWS }),
         (MOST_ACCOUNTS, 700, Plan { events: 1200, longest: 400, fill: 600 }),
@@ -219,10 +231,16 @@ fn main() {
     let seed: u64 = std::env::args().nth(1).map_or(Ok(1), |s| s.parse()).expect("the seed is a number");
     println!("seed {seed}");
     let (mut met, mut damaged) = (lists::Met::default(), damage::Met::default());
-    small_books(seed, &mut met, &mut damaged);
+    (0..LISTS).for_each(|number| small_book(seed, number, &mut met, &mut damaged));
     large_books(seed, &mut met, &mut damaged);
+    let more = more_small_books(seed, &mut met, &mut damaged);
     let accepted: Vec<String> = (1..KINDS).map(|k| format!("{}/{}", met.accepted(k), met.tried(k))).collect();
-    println!("{} events from {} openings; events 1 to 12 accepted: {}", met.events, met.lists, accepted.join(" "));
+    println!(
+        "{} events from {} openings, {more} of them for what was met too seldom; events 1 to 12 accepted: {}",
+        met.events,
+        met.lists,
+        accepted.join(" ")
+    );
     println!(
         "{} tolls raised, {} holds ended, {} accounts closed; {} damaged books, {} of them sound",
         met.raised, met.holds_ended, met.closed, damaged.books, damaged.sound

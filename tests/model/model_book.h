@@ -88,9 +88,11 @@ _Static_assert(sizeof(struct header) == TOLL_LEDGER_HEADER_WORDS * sizeof(int64_
 
 typedef struct toll_ledger_event_record event;
 
+/* By one comparison: a word below `least` wraps around past every other. `most` is at least least - 1,
+ * where no word is within. */
 static inline bool within(int64_t least, int64_t word, int64_t most)
 {
-    return least <= word && word <= most;
+    return (uint64_t)word - (uint64_t)least < (uint64_t)most - (uint64_t)least + 1;
 }
 
 static inline int64_t lesser(int64_t x, int64_t y)
@@ -178,6 +180,7 @@ bool is_sound(const struct book *b);                      /* its lengths fit */
 int64_t balance_of(const struct book *b, int64_t account);
 bool is_topup_due(const struct book *b, int64_t account);
 struct debtor debtor_of(const struct book *b, int64_t account);
+void settle(const struct book *b, int64_t account, size_t d, size_t s); /* from these rows on */
 struct answer post(const struct book *b, const event *e); /* on a sound book */
 
 /* model_tick.c */

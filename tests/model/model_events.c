@@ -44,8 +44,10 @@ struct debtor debtor_of(const struct book *b, int64_t account)
     struct debtor d = {0};
     while (d.rows < b->header->used && d.debt <= TOLL_LEDGER_HEAVY_DEBT) {
         const struct row *r = &b->rows[d.rows++];
+        if (r->account != account)
+            continue;
         const bool counts = r->kind == TOLL_LEDGER_KIND_TOLL || r->kind == TOLL_LEDGER_KIND_FEE;
-        if (r->account == account && counts && !is_held(b, r))
+        if (counts && !is_held(b, r))
             d.debt += left_of(r);
     }
     return d;
@@ -78,13 +80,14 @@ static size_t pay(const struct book *b, struct row *debit, size_t s)
 }
 
 /* "Pays the account's unheld tolls in row order, then unheld fees and reversals in row order", from
- * "unused sources in row order", "until either side is spent". */
-static void settle(const struct book *b, int64_t account)
+ * "unused sources in row order", "until either side is spent": debits from row d on, sources from row s
+ * on. A sound book has no unused source beside an unsettled unheld debit, so an event that adds a row
+ * settles from there on its side. */
+void settle(const struct book *b, int64_t account, size_t d, size_t s)
 {
     const size_t used = rows_used(b);
-    size_t s = next_source(b, account, 0);
     size_t others = used; /* the first fee or reversal that may be paid */
-    for (size_t d = 0; s < used && d < used; d++) {
+    for (s = next_source(b, account, s); s < used && d < used; d++) {
         struct row *r = &b->rows[d];
         if (r->account != account || !is_payable(b, r))
             continue;
@@ -93,7 +96,7 @@ static void settle(const struct book *b, int64_t account)
         else if (others == used)
             others = d;
     }
-    for (size_t d = others; s < used && d < used; d++)
+    for (d = others; s < used && d < used; d++)
         if (b->rows[d].account == account && is_payable(b, &b->rows[d]))
             s = pay(b, &b->rows[d], s);
 }
@@ -216,7 +219,7 @@ static struct answer post_toll(const struct book *b, int64_t account, const even
                             .amount = rate_of(h, e),
                             .due = h->day + h->length,
                             .reference = e->a});
-    settle(b, account);
+    settle(b, account, (size_t)before, 0);
     return posted(b, before);
 }
 
@@ -228,7 +231,7 @@ static struct answer add_payment(const struct book *b, int64_t account, int64_t 
                             .account = account,
                             .amount = amount,
                             .mark = method});
-    settle(b, account);
+    settle(b, account, 0, (size_t)before);
     return posted(b, before);
 }
 
@@ -272,7 +275,7 @@ static struct answer return_check(const struct book *b, struct account *x, const
                             .account = e->account,
                             .amount = e->b + RETURN_FEE,
                             .reference = e->a});
-    settle(b, e->account);
+    settle(b, e->account, (size_t)before, 0);
     return posted(b, before);
 }
 
@@ -328,7 +331,7 @@ static struct answer decide(const struct book *b, const event *e)
         toll->due += b->header->day - toll->hold;
     toll->dispute = e->b == VERDICT_UPHELD ? TOLL_LEDGER_DISPUTE_UPHELD : TOLL_LEDGER_DISPUTE_ENDED;
     toll->hold = 0;
-    settle(b, e->account);
+    settle(b, e->account, 0, 0);
     return posted(b, before);
 }
 

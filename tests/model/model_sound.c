@@ -7,18 +7,19 @@
 
 /* What the rows of one account come to. */
 struct sums {
-    int64_t used, unused;                /* of its sources */
-    int64_t settled, unsettled, payable; /* of its debits; payable: unsettled and not held */
-    int64_t returned;                    /* returned checks */
+    int64_t used, unused;             /* of its sources */
+    int64_t settled, unsettled, held; /* of its debits; held: what is unsettled of held ones */
+    int64_t returned;                 /* returned checks */
 };
 
 struct check {
-    const struct book *book;
+    const struct row *rows;
+    size_t used, count; /* rows, accounts */
     int64_t today, length;
     int slot_bits;                       /* slots: a power of two, at least twice the rows used */
-    uint32_t passages[MOST_SLOTS];       /* a hash set: 0, or a passage number */
-    uint8_t fees[TOLL_LEDGER_MOST_ROWS]; /* how many fees name each row */
     struct sums sums[TOLL_LEDGER_MOST_ACCOUNTS];
+    uint8_t fees[TOLL_LEDGER_MOST_ROWS]; /* how many fees name each row */
+    uint32_t passages[MOST_SLOTS];       /* a hash set: 0, or a passage number */
 };
 
 bool lengths_fit(size_t header_words, size_t accounts_words, size_t journal_words)
@@ -82,106 +83,146 @@ static bool lists_fit(const struct header *h)
 }
 
 /* "Passage numbers differ": puts the number into the set, false where it is there. */
-static bool new_passage(struct check *c, uint32_t passage)
+static inline bool new_passage(struct check *c, uint32_t passage)
 {
-    const size_t last = ((size_t)1 << c->slot_bits) - 1;
-    size_t slot = passage * UINT32_C(2654435769) >> (32 - c->slot_bits);
-    while (c->passages[slot] != 0) {
+    const uint32_t last = (UINT32_C(1) << c->slot_bits) - 1;
+    uint32_t slot = passage * UINT32_C(2654435769) >> (32 - c->slot_bits);
+    for (; c->passages[slot] != 0; slot = (slot + 1) & last)
         if (c->passages[slot] == passage)
             return false;
-        slot = (slot + 1) & last;
-    }
     c->passages[slot] = passage;
     return true;
 }
 
-/* The hold of a toll in dispute 1. */
-static bool hold_fits(const struct check *c, const struct row *r)
+/* The due day and the hold of a toll, of which so much is unsettled. */
+static inline bool days_fit(const struct check *c, const struct row *r, int64_t left)
 {
-    return r->hold >= 1 && within(c->today - HOLD_DAYS + 1, r->hold, c->today) && left_of(r) > 0 &&
-           r->due <= r->hold + c->length && (r->mark == LAST_STAGE || r->due > r->hold);
+    if (!within(1, r->due, c->today + c->length))
+        return false;
+    if (r->dispute == TOLL_LEDGER_DISPUTE_HELD)
+        return r->hold >= 1 && within(c->today - HOLD_DAYS + 1, r->hold, c->today) && left > 0 &&
+               r->due <= r->hold + c->length && (r->mark == LAST_STAGE || r->due > r->hold);
+    return r->hold == 0 && (r->due > c->today || left == 0 || r->mark == LAST_STAGE);
 }
 
-static bool toll_fits(struct check *c, const struct row *r)
+static inline void add_source(struct sums *s, const struct row *r)
 {
-    const bool held = r->dispute == TOLL_LEDGER_DISPUTE_HELD;
-    const bool runs = left_of(r) > 0 && !held && r->mark < LAST_STAGE;
-    return within(0, r->mark, LAST_STAGE) && within(0, r->dispute, TOLL_LEDGER_DISPUTE_UPHELD) &&
-           within(runs ? c->today + 1 : 1, r->due, c->today + c->length) &&
-           (held ? hold_fits(c, r) : r->hold == 0) && within(1, r->reference, MOST_PASSAGE) &&
-           new_passage(c, (uint32_t)r->reference);
+    s->used += r->settled;
+    s->unused += left_of(r);
 }
 
-/* The earlier row of the same account that row i names, or NULL. */
-static const struct row *named_by(const struct check *c, size_t i)
+static inline void add_debit(struct sums *s, const struct row *r)
 {
-    const struct row *r = &c->book->rows[i];
-    if (!within(1, r->reference, (int64_t)i))
+    s->settled += r->settled;
+    s->unsettled += left_of(r);
+}
+
+static inline bool toll_fits(struct check *c, const struct row *r, struct sums *s)
+{
+    if (!within(1, r->amount, MOST_AMOUNT) || !within(0, r->settled, r->amount) ||
+        !within(0, r->mark, LAST_STAGE) || !within(0, r->dispute, TOLL_LEDGER_DISPUTE_UPHELD) ||
+        !within(1, r->reference, MOST_PASSAGE) || !days_fit(c, r, left_of(r)) ||
+        !new_passage(c, (uint32_t)r->reference))
+        return false;
+    add_debit(s, r);
+    if (r->dispute == TOLL_LEDGER_DISPUTE_HELD)
+        s->held += left_of(r);
+    return true;
+}
+
+static inline bool no_toll_words(const struct row *r)
+{
+    return (r->due | r->dispute | r->hold) == 0;
+}
+
+static inline bool payment_fits(const struct row *r, struct sums *s)
+{
+    if (!within(1, r->amount, MOST_AMOUNT) || !within(0, r->settled, r->amount) ||
+        !within(TOLL_LEDGER_METHOD_CARD, r->mark, TOLL_LEDGER_METHOD_CHECK_RETURNED) ||
+        !no_toll_words(r) || r->reference != 0)
+        return false;
+    add_source(s, r);
+    s->returned += r->mark == TOLL_LEDGER_METHOD_CHECK_RETURNED;
+    return true;
+}
+
+/* The earlier row of the same account that row r names, or NULL. */
+static const struct row *named_by(const struct check *c, const struct row *r)
+{
+    if (!within(1, r->reference, r - c->rows))
         return NULL;
-    const struct row *named = &c->book->rows[r->reference - 1];
+    const struct row *named = &c->rows[r->reference - 1];
     return named->account == r->account ? named : NULL;
 }
 
-/* "A toll of stage k is named by at most k - 1 fees (none at 0)." */
-static bool fee_fits(struct check *c, const struct row *r, const struct row *named)
+static bool fee_fits(struct check *c, const struct row *r, struct sums *s)
 {
+    const struct row *named = named_by(c, r);
+    if (named == NULL || r->amount > MOST_FEE)
+        return false;
+    add_debit(s, r);
     if (named->kind == TOLL_LEDGER_KIND_PAYMENT)
         return true;
+    if (is_held_toll(named))
+        s->held += left_of(r);
     return named->kind == TOLL_LEDGER_KIND_TOLL && ++c->fees[r->reference - 1] < named->mark;
 }
 
-/* Amount, mark and reference of row i, which is no toll. */
-static bool words_fit(struct check *c, size_t i)
+static bool reversal_fits(const struct check *c, const struct row *r, struct sums *s)
 {
-    const struct row *r = &c->book->rows[i];
-    if (r->kind == TOLL_LEDGER_KIND_PAYMENT)
-        return r->amount <= MOST_AMOUNT && r->reference == 0 &&
-               within(TOLL_LEDGER_METHOD_CARD, r->mark, TOLL_LEDGER_METHOD_CHECK_RETURNED);
-    if (r->mark != 0)
+    const struct row *named = named_by(c, r);
+    if (named == NULL || named->kind != TOLL_LEDGER_KIND_PAYMENT || r->amount > MOST_AMOUNT)
         return false;
-    if (r->kind == TOLL_LEDGER_KIND_REFUND)
-        return r->amount <= MOST_REFUND && r->reference == 0 && left_of(r) == 0;
-    const struct row *named = named_by(c, i);
-    if (named == NULL)
+    add_debit(s, r);
+    return true;
+}
+
+static bool credit_fits(const struct check *c, const struct row *r, struct sums *s)
+{
+    const struct row *named = named_by(c, r);
+    if (named == NULL || named->kind != TOLL_LEDGER_KIND_TOLL || r->amount > MOST_CREDIT)
+        return false;
+    add_source(s, r);
+    return true;
+}
+
+static bool refund_fits(const struct row *r, struct sums *s)
+{
+    if (r->amount > MOST_REFUND || left_of(r) > 0 || r->reference != 0)
+        return false;
+    add_debit(s, r);
+    return true;
+}
+
+/* A row of kind 2, 3, 5 or 6. */
+static inline bool other_fits(struct check *c, const struct row *r, struct sums *s)
+{
+    if (r->amount < 1 || !within(0, r->settled, r->amount) || r->mark != 0 || !no_toll_words(r))
         return false;
     switch (r->kind) {
     case TOLL_LEDGER_KIND_FEE:
-        return r->amount <= MOST_FEE && fee_fits(c, r, named);
+        return fee_fits(c, r, s);
     case TOLL_LEDGER_KIND_REVERSAL:
-        return r->amount <= MOST_AMOUNT && named->kind == TOLL_LEDGER_KIND_PAYMENT;
+        return reversal_fits(c, r, s);
+    case TOLL_LEDGER_KIND_CREDIT:
+        return credit_fits(c, r, s);
+    case TOLL_LEDGER_KIND_REFUND:
+        return refund_fits(r, s);
     default:
-        return r->amount <= MOST_CREDIT && named->kind == TOLL_LEDGER_KIND_TOLL;
-    }
-}
-
-/* "Rows name used accounts, days 1 to today", amounts and settled parts, then the kind's own. */
-static bool row_fits(struct check *c, size_t i)
-{
-    const struct row *r = &c->book->rows[i];
-    const struct account *x = account_of(c->book, r->account);
-    if (x == NULL || x->state == TOLL_LEDGER_STATE_UNUSED || !within(1, r->day, c->today) ||
-        r->amount < 1 || !within(0, r->settled, r->amount))
         return false;
-    if (r->kind == TOLL_LEDGER_KIND_TOLL)
-        return r->amount <= MOST_AMOUNT && toll_fits(c, r);
-    return within(TOLL_LEDGER_KIND_FEE, r->kind, TOLL_LEDGER_KIND_REFUND) && r->due == 0 &&
-           r->dispute == 0 && r->hold == 0 && words_fit(c, i);
+    }
 }
 
-static void add_to_sums(struct check *c, const struct row *r)
+static inline bool row_fits(struct check *c, const struct row *r)
 {
+    if (!within(1, r->account, (int64_t)c->count) || !within(1, r->day, c->today))
+        return false;
     struct sums *s = &c->sums[r->account - 1];
-    if (is_source(r)) {
-        s->used += r->settled;
-        s->unused += left_of(r);
-        s->returned += r->kind == TOLL_LEDGER_KIND_PAYMENT &&
-                       r->mark == TOLL_LEDGER_METHOD_CHECK_RETURNED;
-        return;
-    }
-    s->settled += r->settled;
-    s->unsettled += left_of(r);
-    if (left_of(r) > 0 && !is_held(c->book, r))
-        s->payable += left_of(r);
+    if (r->kind == TOLL_LEDGER_KIND_TOLL)
+        return toll_fits(c, r, s);
+    if (r->kind == TOLL_LEDGER_KIND_PAYMENT)
+        return payment_fits(r, s);
+    return other_fits(c, r, s);
 }
 
 /* "Request day is 0 in state 1, in 2 and 3 from 1 to today"; an unused account is all 0. */
@@ -217,31 +258,29 @@ static bool successor_fits(const struct book *b, const struct account *x)
 }
 
 /* "Used sources = settled debits, no unused source beside an unsettled unheld debit, and in state 3
- * nothing unused or unsettled." */
-static bool sums_fit(const struct account *x, const struct sums *s)
+ * nothing unused or unsettled." An unused account has no rows, since each row has an amount. */
+static inline bool sums_fit(const struct account *x, const struct sums *s)
 {
     return x->returned == s->returned && s->used == s->settled &&
-           (s->unused == 0 || s->payable == 0) &&
-           (x->state != TOLL_LEDGER_STATE_CLOSED || (s->unused == 0 && s->unsettled == 0));
+           (s->unused == 0 || s->unsettled == s->held) &&
+           (x->state != TOLL_LEDGER_STATE_CLOSED || (s->unused | s->unsettled) == 0) &&
+           (x->state != TOLL_LEDGER_STATE_UNUSED || (s->settled | s->unused | s->unsettled) == 0);
 }
 
-static bool rows_fit(struct check *c)
+static inline bool rows_fit(struct check *c)
 {
-    const size_t used = rows_used(c->book);
-    for (size_t i = 0; i < used; i++) {
-        if (!row_fits(c, i))
+    for (const struct row *r = c->rows, *end = r + c->used; r < end; r++)
+        if (!row_fits(c, r))
             return false;
-        add_to_sums(c, &c->book->rows[i]);
-    }
     return true;
 }
 
-static bool accounts_fit(const struct check *c)
+static bool accounts_fit(const struct book *b, const struct sums *sums)
 {
-    for (size_t i = 0; i < c->book->count; i++) {
-        const struct account *x = &c->book->accounts[i];
-        if (!state_fits(x, c->today) || !topup_fits(x, c->today) ||
-            !successor_fits(c->book, x) || !sums_fit(x, &c->sums[i]))
+    for (size_t i = 0; i < b->count; i++) {
+        const struct account *x = &b->accounts[i];
+        if (!state_fits(x, b->header->day) || !topup_fits(x, b->header->day) ||
+            !successor_fits(b, x) || !sums_fit(x, &sums[i]))
             return false;
     }
     return true;
@@ -256,14 +295,16 @@ bool is_sound(const struct book *b)
         !all_zero(b->rows + h->used, b->rows + b->room)) /* "later rows are all 0" */
         return false;
     struct check c;
-    c.book = b;
+    c.rows = b->rows;
+    c.used = rows_used(b);
+    c.count = b->count;
     c.today = h->day;
     c.length = h->length;
     c.slot_bits = 1;
-    while ((size_t)1 << c.slot_bits < 2 * rows_used(b))
+    while ((size_t)1 << c.slot_bits < 2 * c.used)
         c.slot_bits++;
     memset(c.passages, 0, ((size_t)1 << c.slot_bits) * sizeof c.passages[0]);
-    memset(c.fees, 0, rows_used(b) * sizeof c.fees[0]);
+    memset(c.fees, 0, c.used * sizeof c.fees[0]);
     memset(c.sums, 0, b->count * sizeof c.sums[0]);
-    return rows_fit(&c) && accounts_fit(&c);
+    return rows_fit(&c) && accounts_fit(b, c.sums);
 }

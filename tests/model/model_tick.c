@@ -1,4 +1,5 @@
 /* Event 9, the day tick: one pass plans it, so that a refusal leaves the book unchanged. */
+#include <stddef.h>
 #include <string.h>
 
 #include "model_book.h"
@@ -11,9 +12,11 @@ struct plan {
     int64_t unused[NUMBERS], unsettled[NUMBERS];
     bool stays_held[NUMBERS]; /* the account has a toll whose hold goes on */
     bool closes[NUMBERS];
-    int64_t ending, rising; /* holds that end, tolls that rise */
-    size_t fees, refunds;   /* rows that the tick adds */
+    bool freed[NUMBERS];   /* a hold of the account's tolls ends, and it has unused money */
+    size_t ending, rising; /* holds that end, tolls that rise: so many rows, from 0, stand below */
+    size_t fees, refunds;  /* rows that the tick adds */
     bool over_ceiling;
+    uint16_t ending_rows[TOLL_LEDGER_MOST_ROWS], rising_rows[TOLL_LEDGER_MOST_ROWS]; /* not cleared */
 };
 
 static bool hold_ends(const struct row *r, int64_t today)
@@ -48,20 +51,24 @@ static bool is_business_day(const struct book *b, int64_t day)
 }
 
 /* A toll that the tick frees is due after today, and an account with a rising toll has no unused
- * money: what rises can be told before holds end and settlement runs. */
-static void plan_row(const struct book *b, struct plan *p, const struct row *r)
+ * money: what rises can be told before holds end and settlement runs. Of a row of which nothing is left
+ * nothing is planned. */
+static void plan_row(const struct book *b, struct plan *p, size_t i)
 {
+    const struct row *r = &b->rows[i];
+    if (left_of(r) == 0)
+        return;
     if (is_source(r)) {
         p->unused[r->account] += left_of(r);
         return;
     }
     p->unsettled[r->account] += left_of(r);
     if (hold_ends(r, p->today))
-        p->ending++;
+        p->ending_rows[p->ending++] = (uint16_t)i;
     else if (is_held_toll(r))
         p->stays_held[r->account] = true;
     else if (rises(r, p->today)) {
-        p->rising++;
+        p->rising_rows[p->rising++] = (uint16_t)i;
         p->fees += fee_of_stage(b, r->mark + 1) > 0;
     }
 }
@@ -80,78 +87,40 @@ static void plan_account(const struct book *b, struct plan *p, size_t n)
     p->over_ceiling |= p->unused[n] - p->unsettled[n] > MOST_REFUND;
 }
 
-static struct plan plan_tick(const struct book *b)
+static void plan_tick(struct plan *p, const struct book *b)
 {
-    struct plan p = {.today = b->header->day + 1};
     const size_t used = rows_used(b);
-    p.is_business = is_business_day(b, p.today);
+    memset(p, 0, offsetof(struct plan, ending_rows));
+    p->today = b->header->day + 1;
+    p->is_business = is_business_day(b, p->today);
     for (size_t i = 0; i < used; i++)
-        plan_row(b, &p, &b->rows[i]);
+        plan_row(b, p, i);
     for (size_t n = 1; n <= b->count; n++)
-        plan_account(b, &p, n);
-    return p;
+        plan_account(b, p, n);
 }
 
-/* "Holds begun 30 days ago end as by verdict 0." */
-static void end_holds(const struct book *b, int64_t today)
+/* "Holds begun 30 days ago end as by verdict 0." Of a sound book's accounts settlement concerns but those
+ * that a hold's end leaves with unused money beside a debit. */
+static void end_holds(const struct book *b, struct plan *p)
 {
-    const size_t used = rows_used(b);
-    for (size_t i = 0; i < used; i++) {
-        struct row *r = &b->rows[i];
-        if (hold_ends(r, today)) {
-            r->dispute = TOLL_LEDGER_DISPUTE_ENDED;
-            r->due += today - r->hold;
-            r->hold = 0;
-        }
+    for (size_t i = 0; i < p->ending; i++) {
+        struct row *r = &b->rows[p->ending_rows[i]];
+        r->dispute = TOLL_LEDGER_DISPUTE_ENDED;
+        r->due += p->today - r->hold;
+        r->hold = 0;
+        p->freed[r->account] = p->unused[r->account] > 0;
     }
-}
-
-/* Settles what is left of a row, as far as the purse has it. */
-static void settle_from(struct row *r, int64_t *purse)
-{
-    const int64_t part = lesser(left_of(r), *purse);
-    r->settled += part;
-    *purse -= part;
-}
-
-/* Settlement of every account: its money goes to its tolls, then to its fees and reversals, and
- * comes from its sources, each in row order. */
-static void settle_all(const struct book *b, const struct plan *p)
-{
-    int64_t money[NUMBERS], spent[NUMBERS];
-    const size_t used = rows_used(b);
-    size_t others = used; /* the first fee or reversal that may be paid */
-    memcpy(money, p->unused, sizeof money);
-    for (size_t i = 0; i < used; i++) {
-        struct row *r = &b->rows[i];
-        if (money[r->account] == 0 || !is_payable(b, r))
-            continue;
-        if (r->kind == TOLL_LEDGER_KIND_TOLL)
-            settle_from(r, &money[r->account]);
-        else if (others == used)
-            others = i;
-    }
-    for (size_t i = others; i < used; i++) {
-        struct row *r = &b->rows[i];
-        if (money[r->account] > 0 && is_payable(b, r))
-            settle_from(r, &money[r->account]);
-    }
-    for (size_t n = 0; n <= b->count; n++)
-        spent[n] = p->unused[n] - money[n];
-    for (size_t i = 0; i < used; i++)
-        if (is_source(&b->rows[i]))
-            settle_from(&b->rows[i], &spent[b->rows[i].account]);
+    for (size_t n = 1; p->ending > 0 && n <= b->count; n++)
+        if (p->freed[n])
+            settle(b, (int64_t)n, 0, 0);
 }
 
 /* "In row order, rises a stage, its due day by L, and from stage 2 a nonzero fee row naming it is
  * added." */
-static void raise_tolls(const struct book *b, int64_t today)
+static void raise_tolls(const struct book *b, const struct plan *p)
 {
-    const size_t used = rows_used(b);
-    for (size_t i = 0; i < used; i++) {
-        struct row *r = &b->rows[i];
-        if (!rises(r, today))
-            continue;
+    for (size_t i = 0; i < p->rising; i++) {
+        struct row *r = &b->rows[p->rising_rows[i]];
         r->mark++;
         r->due += b->header->length;
         const int64_t fee = fee_of_stage(b, r->mark);
@@ -159,7 +128,7 @@ static void raise_tolls(const struct book *b, int64_t today)
             add_row(b, (struct row){.kind = TOLL_LEDGER_KIND_FEE,
                                     .account = r->account,
                                     .amount = fee,
-                                    .reference = (int64_t)i + 1});
+                                    .reference = p->rising_rows[i] + 1});
     }
 }
 
@@ -190,21 +159,18 @@ struct answer tick(const struct book *b)
 {
     if (b->header->day == TOLL_LEDGER_DAYS)
         return refused(TOLL_LEDGER_LAST_DAY);
-    const struct plan p = plan_tick(b);
+    struct plan p;
+    plan_tick(&p, b);
     if (!has_room(b, p.fees + p.refunds))
         return refused(TOLL_LEDGER_FULL);
     if (p.over_ceiling)
         return refused(TOLL_LEDGER_CEILING);
     const int64_t before = b->header->used;
     b->header->day = p.today;
-    if (p.ending > 0) {
-        end_holds(b, p.today);
-        settle_all(b, &p);
-    }
-    if (p.rising > 0)
-        raise_tolls(b, p.today);
+    end_holds(b, &p);
+    raise_tolls(b, &p);
     close_accounts(b, &p);
     struct answer answer = posted(b, before);
-    answer.raised = p.rising;
+    answer.raised = (int64_t)p.rising;
     return answer;
 }

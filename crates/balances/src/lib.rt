@@ -59,14 +59,21 @@ fn sum_of_account<F: Fn(Row) -> u64>(summable: SummableRows, account: u64, part:
     sum
 }
 
-// The account's sums over the used rows, a pass for each.
+// The account's sums over the used rows, both in one pass.
 pub fn sums_of(summable: SummableRows, account: u64) -> Sums
     ensures { Summed summable.entry.rows.journal.now account summable.entry.rows.used result }
 {
-    Sums {
-        sources: sum_of_account(summable, account, |r| part(is_source(r), r.amount)),
-        debits: sum_of_account(summable, account, |r| part(is_debit(r), r.amount)),
+    let rows = summable.rows;
+    let mut sources = 0;
+    let mut debits = 0;
+    for i in 0..rows.used {
+        if account_at(rows.journal, i) == account {
+            let r = read_row(rows.journal, i);
+            sources += part(is_source(r), r.amount);
+            debits += part(is_debit(r), r.amount);
+        }
     }
+    Sums { sources, debits }
 }
 
 // The account's unused money over the used rows.

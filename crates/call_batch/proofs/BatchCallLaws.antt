@@ -23,12 +23,13 @@ use Rattle.rules.specs.Book.{Instruction, Answer, Book}
 use Rattle.rules.specs.Soundness.{sound}
 use Rattle.rules.specs.Posting.{receive, book_after, answers_to}
 use Rattle.rules.specs.Tables.{Tables, book_of, tables_of, sound_tables}
-use Rattle.rules.specs.Calls.{Event, Gives, batch_refusals, batch_call, written}
-use Rattle.rules.proofs.PostingLaws.{book_after-append, answers_to-append, length-answers_to, batch_call-refused}
+use Rattle.call_rules.specs.Calls.{Event, Gives, batch_refusals, batch_call, written}
+use Rattle.rules.proofs.PostingLaws.{book_after-append, answers_to-append, length-answers_to}
+use Rattle.call_rules.proofs.CallLaws.{batch_call-refused}
 use Rattle.rules.proofs.SoundnessLaws.{facts-sound}
 use Rattle.rules.proofs.TableLaws.{sound-book, tables_of-book_of, sound_tables-tables_of}
 use Rattle.preservation.proofs.SoundKept.{book_after-keeps-sound}
-use Rattle.preservation.proofs.CallsKept.{book_of-sound}
+use Rattle.call_rules.proofs.CallsKept.{book_of-sound}
 use Rattle.tables.specs.Changes.{put_all}
 use Rattle.call_words.specs.Answers.{AnswerIn}
 use Rattle.call_words.proofs.WrittenLaws.{written_none, written_next}

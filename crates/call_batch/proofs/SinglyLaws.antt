@@ -17,12 +17,13 @@ use Rattle.rules.specs.Soundness.{sound}
 use Rattle.rules.specs.Successors.{forwarded}
 use Rattle.rules.specs.Posting.{receive, book_after, answers_to}
 use Rattle.rules.specs.Tables.{Tables, book_of, tables_of, sound_tables}
-use Rattle.rules.specs.Calls.{Event, event_refusals, answered, event_call, batch_call, written}
-use Rattle.rules.proofs.PostingLaws.{length-answers_to, batch_call-runs}
+use Rattle.call_rules.specs.Calls.{Event, event_refusals, answered, event_call, batch_call, written}
+use Rattle.rules.proofs.PostingLaws.{length-answers_to}
+use Rattle.call_rules.proofs.CallLaws.{batch_call-runs}
 use Rattle.rules.proofs.SoundnessLaws.{facts-sound}
 use Rattle.rules.proofs.TableLaws.{sound-book, tables_of-book_of, sound_tables-tables_of}
 use Rattle.preservation.proofs.SoundKept.{post-keeps-sound}
-use Rattle.preservation.proofs.CallsKept.{book_of-sound, event_call-keeps-sound, book_of-event_call}
+use Rattle.call_rules.proofs.CallsKept.{book_of-sound, event_call-keeps-sound, book_of-event_call}
 use Rattle.call_batch.specs.Singly.{event_words, sent, tables_singly, answers_singly}
 
 -- a record's words read as the record

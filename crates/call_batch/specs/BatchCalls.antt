@@ -4,7 +4,7 @@ use Rattle.records.specs.Layout.{answer_width}
 use Rattle.records.specs.Encoding.{instruction_of, answer_words}
 use Rattle.rules.specs.Posting.{receive}
 use Rattle.rules.specs.Tables.{Tables, book_of, tables_of}
-use Rattle.rules.specs.Calls.{Event}
+use Rattle.call_rules.specs.Calls.{Event}
 use Rattle.tables.specs.Changes.{put_all}
 
 -- the record x, posted on the tables t, leaves the tables u, and in the answer table its answer i

@@ -1,7 +1,7 @@
 -- The events of a batch sent one by one, each with an answer table of its own.
 use Rattle.std.specs.Prelude.{List, [], ◌∷◌, ◌++◌, ℤ}
 use Rattle.rules.specs.Tables.{Tables}
-use Rattle.rules.specs.Calls.{Event, Called, event_call}
+use Rattle.call_rules.specs.Calls.{Event, Called, event_call}
 
 -- a record's nine words, as a single event has them
 unfoldable pub event_words : Event → List ℤ

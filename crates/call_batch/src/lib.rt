@@ -5,7 +5,7 @@
 ghost use Rattle.std.specs.Prelude.{◌≡◌, true, pos};
 ghost use Rattle.records.specs.Outcomes.{number_by, answer_of};
 ghost use Rattle.rules.specs.Tables.{tables_with, sound_tables};
-ghost use Rattle.rules.specs.Calls.{Gives, batch_call};
+ghost use Rattle.call_rules.specs.Calls.{Gives, batch_call};
 ghost use Rattle.event_heirs.specs.Heirs.{Receives};
 ghost use Rattle.batch_index.specs.Index.{Indexed};
 ghost use Rattle.call_words.specs.Answers.{AnswerIn};

@@ -21,9 +21,9 @@ use Rattle.rules.specs.Book.{Answer}
 use Rattle.rules.specs.Successors.{forwarded}
 use Rattle.rules.specs.Posting.{refusal_by, receive}
 use Rattle.rules.specs.Tables.{Tables, book_of, tables_of, sound_tables}
-use Rattle.rules.specs.Calls.{Gives, event_refusals, answered, event_call}
+use Rattle.call_rules.specs.Calls.{Gives, event_refusals, answered, event_call}
 use Rattle.rules.proofs.TableLaws.{tables_of-book_of}
-use Rattle.preservation.proofs.CallsKept.{event_call-keeps-sound, book_of-event_call}
+use Rattle.call_rules.proofs.CallsKept.{event_call-keeps-sound, book_of-event_call}
 use Rattle.tables.specs.Changes.{put_all}
 use Rattle.event_heirs.specs.Heirs.{Receives}
 use Rattle.call_words.proofs.AnswerLaws.{small-storable, refusal-small, answer-storable}

@@ -5,7 +5,7 @@ use Rattle.lists.specs.Tests.{◌is◌, first}
 use Rattle.rules.specs.Book.{Answer}
 use Rattle.rules.specs.Posting.{refusal_by, receive}
 use Rattle.rules.specs.Tables.{Tables, book_of}
-use Rattle.rules.specs.Calls.{event_refusals, event_call}
+use Rattle.call_rules.specs.Calls.{event_refusals, event_call}
 use Rattle.call_words.specs.Answers.{StorableAnswer}
 
 -- the answer of the call: of the event on the book, or of a call that is refused before

@@ -4,7 +4,7 @@
 ghost use Rattle.std.specs.Prelude.{pos};
 ghost use Rattle.records.specs.Outcomes.{number_by, answer_of};
 ghost use Rattle.rules.specs.Tables.{tables_with};
-ghost use Rattle.rules.specs.Calls.{event_call, Gives};
+ghost use Rattle.call_rules.specs.Calls.{event_call, Gives};
 ghost use Rattle.call_event.specs.EventCalls.{AnswersTo};
 ghost use Rattle.lent.specs.Lent.{lent_mut, SameTables};
 

@@ -26,9 +26,9 @@ use Rattle.rules.specs.Book.{unused}
 use Rattle.rules.specs.BusinessDays.{holidays_fit}
 use Rattle.rules.specs.Opening.{opening, day_fits}
 use Rattle.rules.specs.Tables.{Tables, tables_at, tables_with, whole_records, accounts_in, room_in, schedule_from, rates_from, schedule_words, rates_words, later_lists_words, header_words, tables_of, lengths_fit}
-use Rattle.rules.specs.Calls.{Gives, opening_fits, opening_refusals, opened_book, open_call}
+use Rattle.call_rules.specs.Calls.{Gives, opening_fits, opening_refusals, opened_book, open_call}
 use Rattle.rules.proofs.StorableLaws.{between_le, schedule-storable, rates-storable}
-use Rattle.rules.proofs.OpeningLaws.{OpeningWords, opening-words}
+use Rattle.call_rules.proofs.OpenCallLaws.{OpeningWords, opening-words}
 use Rattle.rules.proofs.HolidayLaws.{holidays-again}
 use Rattle.sound_header.proofs.LengthLaws.{Lengths, lengths-known}
 

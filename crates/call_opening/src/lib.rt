@@ -6,7 +6,7 @@ ghost use Rattle.records.specs.Layout.{header_width};
 ghost use Rattle.records.specs.Outcomes.{number_by};
 ghost use Rattle.lists.specs.Tests.{first};
 ghost use Rattle.rules.specs.Tables.{Tables, tables_with, header_words};
-ghost use Rattle.rules.specs.Calls.{opening_fits, opening_refusals, opened_book, open_call, Gives};
+ghost use Rattle.call_rules.specs.Calls.{opening_fits, opening_refusals, opened_book, open_call, Gives};
 ghost use Rattle.lent.specs.Lent.{lent_mut, SameTables};
 
 use holidays::holidays_fit;

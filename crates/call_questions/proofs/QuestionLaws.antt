@@ -1,10 +1,13 @@
 -- The questions, with what their tests came to.
-use mathlib.Core.Path.{◌≡◌, refl, sym}
+use mathlib.Core.Path.{◌≡◌, refl, sym, ap, ◌∙◌}
 use mathlib.Core.Bool.{Bool, true, false, not, cond, ◌&&◌}
 use Prim.Native.Nat.{ℕ, ◌+◌, ◌*◌, ◌-◌, ◌^◌, ◌≤◌, ◌<◌}
 use native.Mathlib.Omega.{arith}
 use mathlib.Core.List.{[], ◌∷◌}
 use lib.IntN.{ℤ, pos}
+use mir.Facts.{to_z-of_z}
+use mir.Val.{of_z, to_z, SFits}
+use Rattle.std.proofs.Common.{w64}
 use lib.ListN.{length, take, drop}
 use lib.Dec.{leb}
 use borrow.Author.Tests.{leb-true, not-false}
@@ -21,7 +24,7 @@ use Rattle.records.specs.Limits.{most_rows}
 use Rattle.rules.specs.Book.{Account, state_unused, Book, account, account_no, minus, balance}
 use Rattle.rules.specs.Tables.{Tables, accounts_in, rows_used, book_of, sound_tables}
 use Rattle.rules.specs.Debtors.{heavy_by, heavy, rows_read}
-use Rattle.rules.specs.Calls.{Replies, RepliesDebtor, question_refusals, question, debtor_call, row_call}
+use Rattle.call_rules.specs.Calls.{Replies, RepliesDebtor, question_refusals, question, debtor_call, row_call}
 use Rattle.rules.proofs.StorableLaws.{between_le}
 use Rattle.rules.proofs.TableLaws.{sound-rows, length-sound-rows}
 use Rattle.balances.specs.declared.Sums.{Sums}
@@ -30,6 +33,12 @@ use Rattle.balances.specs.Summed.{Summed}
 use Rattle.balances.proofs.AmountLaws.{sums-fit}
 use Rattle.posting.proofs.BookLaws.{account-read, used-small, used-room, journal-summable}
 use Rattle.call_questions.specs.RowParts.{words_before, Place, words_past, RowPart}
+
+-- ---- the number asked of
+
+-- the word that was handed over reads as it was given
+pub numbered : {a : ℤ} {n : ℕ} → n ≡ nat_of (to_z w64 (of_z w64 a)) → SFits w64 a → n ≡ nat_of a
+numbered e f = e ∙ ap nat_of (to_z-of_z f)
 
 -- ---- refusals
 

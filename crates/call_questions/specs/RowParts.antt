@@ -4,7 +4,7 @@ use Rattle.lists.specs.Tests.{◌from◌to◌}
 use Rattle.records.specs.Layout.{row_width}
 use Rattle.records.specs.Encoding.{nat_of}
 use Rattle.rules.specs.Tables.{Tables, rows_used, sound_tables}
-use Rattle.rules.specs.Calls.{row_call}
+use Rattle.call_rules.specs.Calls.{row_call}
 
 -- the bytes of a word
 abbrev pub word_bytes : ℕ

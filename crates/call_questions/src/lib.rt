@@ -7,7 +7,7 @@ ghost use Rattle.lists.specs.Tests.{◌from◌to◌, first};
 ghost use Rattle.records.specs.Outcomes.{number_by};
 ghost use Rattle.call_questions.specs.Values.{value_of, flag_of, heavy_of, rows_read_of};
 ghost use Rattle.rules.specs.Tables.{tables_with, rows_used, sound_tables};
-ghost use Rattle.rules.specs.Calls.{Replies, RepliesDebtor, question_refusals, balance_call, topup_due_call, debtor_call};
+ghost use Rattle.call_rules.specs.Calls.{Replies, RepliesDebtor, question_refusals, balance_call, topup_due_call, debtor_call};
 ghost use Rattle.call_questions.specs.RowParts.{RowPart};
 ghost use Rattle.lent.specs.Lent.{lent};
 

@@ -11,7 +11,7 @@ use Rattle.records.specs.Layout.{event_width, answer_width}
 use Rattle.lists.specs.Tests.{◌is◌, first}
 use Rattle.records.specs.Limits.{most_events}
 use Rattle.rules.specs.Tables.{Tables, tables_with, sound_tables}
-use Rattle.rules.specs.Calls.{Event, event_refusals, batch_refusals}
+use Rattle.call_rules.specs.Calls.{Event, event_refusals, batch_refusals}
 
 pub event-refusals-by : (t : Tables) (e w : List ℤ) (s m : Bool) → sound_tables t ≡ s → not (length e is event_width) || ltb (length w) answer_width ≡ m
     → first ((answer_unsound, not s) ∷ (answer_malformed, m) ∷ []) ≡ first (event_refusals t e w)

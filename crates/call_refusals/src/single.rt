@@ -3,7 +3,7 @@ ghost use Rattle.std.specs.Prelude.{◌≡◌};
 ghost use Rattle.lists.specs.Tests.{first};
 ghost use Rattle.records.specs.Outcomes.{number_by};
 ghost use Rattle.rules.specs.Tables.{tables_with};
-ghost use Rattle.rules.specs.Calls.{event_refusals};
+ghost use Rattle.call_rules.specs.Calls.{event_refusals};
 ghost use Rattle.lent.specs.Lent.{lent_mut};
 
 use lent::TablesMut;

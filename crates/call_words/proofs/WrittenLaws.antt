@@ -9,7 +9,7 @@ use lib.Seq.{set_at, drop-drop}
 use Rattle.records.specs.Layout.{answer_width}
 use Rattle.records.specs.Encoding.{answer_words, write_all}
 use Rattle.rules.specs.Book.{Answer}
-use Rattle.rules.specs.Calls.{written}
+use Rattle.call_rules.specs.Calls.{written}
 use Rattle.tables.specs.Changes.{put_all}
 use Rattle.call_words.specs.Answers.{AnswerIn}
 

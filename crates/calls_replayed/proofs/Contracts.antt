@@ -7,7 +7,7 @@ use contract.Lifetimes.{Lfts}
 use denote.Triple.Clauses.{AtExit}
 use borrow.Fn.Kinds.{Dens, ended_of}
 use Rattle.rules.specs.Tables.{tables_at}
-use Rattle.rules.specs.Calls.{Gives, open_call}
+use Rattle.call_rules.specs.Calls.{Gives, open_call}
 use Rattle.toll_ledger.proofs.toll_ledger_open.Kinds as open-kinds
 use Rattle.toll_ledger.proofs.toll_ledger_open.Reads as open-reads
 use Rattle.toll_ledger.proofs.toll_ledger_event.Kinds as event-kinds

@@ -4,12 +4,12 @@ use mathlib.Core.Path.{◌≡◌, refl, sym, ap, ◌∙◌}
 use mathlib.Core.List.{List, [], ◌∷◌, ◌++◌}
 use lib.IntN.{ℤ, pos}
 use Rattle.rules.specs.Tables.{Tables}
-use Rattle.rules.specs.Calls.{Gives, open_call}
+use Rattle.call_rules.specs.Calls.{Gives, open_call}
 use Rattle.replay.specs.Replay.{Report}
-use Rattle.replay.specs.Demand3.{Call, single, batch, called, tables_after, reports}
-use Rattle.replay.proofs.Claim.{demand-3}
+use Rattle.call_replay.specs.CallLists.{Call, single, batch, called, tables_after, reports}
+use Rattle.call_replay.proofs.Claim.{demand-3}
 use Rattle.calls_replayed.specs.Runs.{Step, event-step, batch-step, balance-step, topup-due-step, debtor-step, Run, none, more, step_reports, run_reports, CallsReplayed, HolidaysStay}
-use Rattle.rules.proofs.HolidaysKept.{event_call-keeps-holidays, batch_call-keeps-holidays, open_call-keeps-holidays}
+use Rattle.call_rules.proofs.HolidaysStay.{event_call-keeps-holidays, batch_call-keeps-holidays, open_call-keeps-holidays}
 
 -- ---- a step
 

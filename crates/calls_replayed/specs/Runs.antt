@@ -2,9 +2,10 @@
 -- exports these functions with the same clauses.
 use Rattle.std.specs.Prelude.{◌≡◌, List, [], ◌++◌, ℤ, pos}
 use Rattle.rules.specs.Tables.{Tables, book_of}
-use Rattle.rules.specs.Calls.{Event, Gives, Replies, RepliesDebtor, open_call, event_call, batch_call, balance_call, topup_due_call, debtor_call}
+use Rattle.call_rules.specs.Calls.{Event, Gives, Replies, RepliesDebtor, open_call, event_call, batch_call, balance_call, topup_due_call, debtor_call}
 use Rattle.replay.specs.Replay.{Replay, Report, replay}
-use Rattle.replay.specs.Demand3.{single, batch, reports_at, Demand3, replay_start}
+use Rattle.replay.specs.Demand3.{Demand3}
+use Rattle.call_replay.specs.CallLists.{single, batch, reports_at, replay_start}
 
 -- one call on the tables t, the fourth of them the holidays, that leaves the tables u; n is the number that it gave, w and v its answer
 -- table before and after. A question is lent the tables to read, so they stay

@@ -13,7 +13,7 @@ use Rattle.records.specs.AccountOperations.{opened}
 use Rattle.lists.specs.Tests.{◌is◌, ◌implies◌}
 use Rattle.lists.proofs.TestLaws.{and_left, and_right}
 use Rattle.records.specs.Limits.{highest_topup}
-use Rattle.rules.specs.Book.{Account, Instruction, state_open, put_account}
+use Rattle.rules.specs.Book.{Account, Instruction, state_open}
 use Rattle.rules.specs.Events.{open_account}
 use Rattle.rules.specs.Refusals.{change_of, zero_from-c, open_form, form_of, well_formed, answer_number}
 use Rattle.rules.specs.Posting.{removes_topup}
@@ -24,6 +24,7 @@ use Rattle.posting_laws.proofs.RefusalLaws.{at-kind}
 use Rattle.posting_laws.proofs.AccountEventLaws.{answer-rowless}
 use Rattle.event_refusals.specs.Admissions.{Admitted}
 use Rattle.event_ends.specs.Ends.{PutsAccount}
+use Rattle.event_ends.proofs.PutLaws.{puts-account}
 
 -- on sound tables, event 1 is accepted where no shared refusal applies
 pub open-accepted : (t : Tables) → sound_tables t ≡ true → (e : Instruction) → e.kind ≡ event_open → Admitted t e → 0 ≡ answer_number (book_of t) e
@@ -35,10 +36,6 @@ open-accepted t s e k a = answer-rowless t s e event_open k a (λ b x. []) refl 
 module _ (t : Tables) (s : sound_tables t ≡ true) (e : Instruction) (k : e.kind ≡ event_open) (q : 0 ≡ answer_number (book_of t) e) where
   abbrev new_account : Account
   new_account = opened e.a e.b
-
-  changed : change_of e.kind (book_of t) e ≡ put_account e.account new_account (book_of t)
-  unfolding change_of open_account
-  changed = at-kind (λ x. change_of x.kind (book_of t) x ≡ put_account x.account (opened x.a x.b) (book_of t)) e 1 k refl
 
   formed : open_form e ≡ true
   unfolding well_formed form_of
@@ -56,10 +53,5 @@ module _ (t : Tables) (s : sound_tables t ≡ true) (e : Instruction) (k : e.kin
       (storable-set _ state_place state_open (omega arith) (storable-zeros account_width)))
 
   pub open-puts : PutsAccount t e new_account false
-  open-puts = record {
-    accepted = q;
-    change = changed;
-    names-account = rw k;
-    removes = unfold removes_topup in (rw k);
-    storable = open-storable;
-  }
+  unfolding change_of open_account removes_topup
+  open-puts = puts-account t e event_open k q new_account refl refl false refl open-storable

@@ -10,7 +10,7 @@ use Rattle.records.specs.Encoding.{StorableAccount}
 use Rattle.records.proofs.FieldLaws.{storable-set}
 use Rattle.records.specs.AccountOperations.{close_requested_on}
 use Rattle.lists.specs.Tests.{◌is◌, first}
-use Rattle.rules.specs.Book.{Account, Instruction, state_pending, account, put_account}
+use Rattle.rules.specs.Book.{Account, Instruction, state_pending, account}
 use Rattle.rules.specs.Events.{request_close}
 use Rattle.rules.specs.Refusals.{change_of, answer_number}
 use Rattle.rules.specs.Posting.{removes_topup}
@@ -19,10 +19,10 @@ use Rattle.rules.proofs.RefusalLaws.{own_tests}
 use Rattle.rules.proofs.StorableLaws.{day-le}
 use Rattle.rules.proofs.TableLaws.{sound-book}
 use Rattle.posting.proofs.BookLaws.{account-holds}
-use Rattle.posting_laws.proofs.RefusalLaws.{at-kind}
 use Rattle.posting_laws.proofs.AccountEventLaws.{answer-rowless}
 use Rattle.event_refusals.specs.Admissions.{Admitted}
 use Rattle.event_ends.specs.Ends.{PutsAccount}
+use Rattle.event_ends.proofs.PutLaws.{puts-account}
 use Rattle.event_accounts.specs.AccountEvents.{request_refusals}
 
 -- the number that event 8 gets on sound tables where no shared refusal applies, with what its test came to
@@ -43,16 +43,6 @@ module _ (t : Tables) (s : sound_tables t ≡ true) (e : Instruction) where
       (storable-set _ state_place state_pending (omega arith) (account-holds t s e.account))
 
   module _ (k : e.kind ≡ event_close_request) (q : 0 ≡ answer_number (book_of t) e) where
-    changed : change_of e.kind (book_of t) e ≡ put_account e.account pending_account (book_of t)
-    unfolding change_of request_close
-    changed =
-        at-kind (λ x. change_of x.kind (book_of t) x ≡ put_account x.account (close_requested_on (book_of t).day (account (book_of t) x.account)) (book_of t)) e 8 k refl
-
     pub request-puts : PutsAccount t e pending_account false
-    request-puts = record {
-      accepted = q;
-      change = changed;
-      names-account = rw k;
-      removes = unfold removes_topup in (rw k);
-      storable = request-storable;
-    }
+    unfolding change_of request_close removes_topup
+    request-puts = puts-account t e event_close_request k q pending_account refl refl false refl request-storable

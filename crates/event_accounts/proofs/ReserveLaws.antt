@@ -13,7 +13,7 @@ use Rattle.records.proofs.FieldLaws.{storable-set}
 use Rattle.records.specs.AccountOperations.{reserve_set}
 use Rattle.lists.specs.Tests.{◌is◌, first}
 use Rattle.lists.proofs.TestLaws.{and_left}
-use Rattle.rules.specs.Book.{Account, Instruction, Book, account, put_account}
+use Rattle.rules.specs.Book.{Account, Instruction, Book, account}
 use Rattle.rules.specs.Events.{set_reserve}
 use Rattle.rules.specs.Refusals.{change_of, zero_from-b, reserve_form, form_of, well_formed, answer_number}
 use Rattle.rules.specs.Posting.{removes_topup}
@@ -25,6 +25,7 @@ use Rattle.posting_laws.proofs.RefusalLaws.{at-kind}
 use Rattle.posting_laws.proofs.AccountEventLaws.{answer-rowless}
 use Rattle.event_refusals.specs.Admissions.{Admitted}
 use Rattle.event_ends.specs.Ends.{PutsAccount}
+use Rattle.event_ends.proofs.PutLaws.{puts-account}
 use Rattle.event_accounts.specs.AccountEvents.{reserve_refusals}
 
 -- the number that event 11 gets on sound tables where no shared refusal applies
@@ -45,12 +46,6 @@ module _ (t : Tables) (s : sound_tables t ≡ true) (e : Instruction) (k : e.kin
   abbrev reserved_account : Account
   reserved_account = reserve_set e.a (account (book_of t) e.account)
 
-  changed : change_of e.kind (book_of t) e ≡ put_account e.account reserved_account (book_of t)
-  unfolding change_of set_reserve
-  changed =
-      at-kind (λ x. change_of x.kind (book_of t) x ≡ put_account x.account (reserve_set x.a (account (book_of t) x.account)) (book_of t))
-      e 11 k refl
-
   formed : reserve_form e ≡ true
   unfolding well_formed form_of
   formed =
@@ -63,10 +58,5 @@ module _ (t : Tables) (s : sound_tables t ≡ true) (e : Instruction) (k : e.kin
       storable-set _ reserve_place e.a (omega (arith, leb-true e.a code_yes least)) (account-holds t s e.account)
 
   pub reserve-puts : PutsAccount t e reserved_account false
-  reserve-puts = record {
-    accepted = q;
-    change = changed;
-    names-account = rw k;
-    removes = unfold removes_topup in (rw k);
-    storable = reserve-storable;
-  }
+  unfolding change_of set_reserve removes_topup
+  reserve-puts = puts-account t e event_reserve k q reserved_account refl refl false refl reserve-storable

@@ -14,7 +14,7 @@ use Rattle.records.proofs.FieldLaws.{storable-set}
 use Rattle.records.specs.AccountOperations.{successor_set}
 use Rattle.lists.specs.Tests.{◌is◌, first}
 use Rattle.lists.proofs.TestLaws.{or_right}
-use Rattle.rules.specs.Book.{Account, Instruction, state_closed, Book, account, put_account}
+use Rattle.rules.specs.Book.{Account, Instruction, state_closed, Book, account}
 use Rattle.rules.specs.Successors.{other_used}
 use Rattle.rules.specs.Events.{set_successor}
 use Rattle.rules.specs.Refusals.{change_of, successor_refused, answer_number}
@@ -29,6 +29,7 @@ use Rattle.posting_laws.proofs.RefusalLaws.{at-kind}
 use Rattle.posting_laws.proofs.AccountEventLaws.{answer-rowless}
 use Rattle.event_refusals.specs.Admissions.{Admitted}
 use Rattle.event_ends.specs.Ends.{PutsAccount}
+use Rattle.event_ends.proofs.PutLaws.{puts-account}
 use Rattle.event_accounts.specs.AccountEvents.{successor_refusals}
 
 -- the number that event 12 gets on sound tables where no shared refusal applies
@@ -53,12 +54,6 @@ module _ (t : Tables) (s : sound_tables t ≡ true) (e : Instruction) (k : e.kin
   abbrev succeeded_account : Account
   succeeded_account = successor_set e.a (account (book_of t) e.account)
 
-  changed : change_of e.kind (book_of t) e ≡ put_account e.account succeeded_account (book_of t)
-  unfolding change_of set_successor
-  changed =
-      at-kind (λ x. change_of x.kind (book_of t) x ≡ put_account x.account (successor_set x.a (account (book_of t) x.account)) (book_of t))
-      e 12 k refl
-
   -- the successor is one of the table's accounts
   successor-inside : e.a ≤ length (book_of t).accounts
   unfolding successor_refused
@@ -73,10 +68,5 @@ module _ (t : Tables) (s : sound_tables t ≡ true) (e : Instruction) (k : e.kin
       (account-holds t s e.account)
 
   pub successor-puts : PutsAccount t e succeeded_account false
-  successor-puts = record {
-    accepted = q;
-    change = changed;
-    names-account = rw k;
-    removes = unfold removes_topup in (rw k);
-    storable = successor-storable;
-  }
+  unfolding change_of set_successor removes_topup
+  successor-puts = puts-account t e event_successor k q succeeded_account refl refl false refl successor-storable

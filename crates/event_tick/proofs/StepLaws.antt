@@ -10,7 +10,7 @@ use lib.IntN.{ℤ, pos}
 use borrow.Author.Tests.{eqb-false, ltb-false}
 use Rattle.records.specs.Codes.{event_tick}
 use Rattle.records.specs.Layout.{header_width, day_place, used_place, row_width}
-use Rattle.records.specs.Encoding.{word}
+use Rattle.records.specs.Encoding.{word, row_at}
 use Rattle.lists.specs.Tests.{◌is◌}
 use Rattle.lists.specs.Lists.{count}
 use Rattle.records.specs.Limits.{final_day}
@@ -36,7 +36,11 @@ use Rattle.posting_laws.proofs.AddedLaws.{posts-accepted}
 use Rattle.posting_laws.proofs.WrittenLaws.{written-book}
 use Rattle.posting.specs.Written.{Written}
 use Rattle.tick_base.specs.Midway.{Midway}
-use Rattle.tick_base.proofs.MidwayLaws.{written-written, sound-midway}
+use Rattle.tick_base.proofs.MidwayLaws.{written-written, sound-midway, midway-row}
+use Rattle.tick_plan.specs.Marks.{Marked}
+use Rattle.tick_rules.proofs.RisingLaws.{rises-same}
+use Rattle.lists.proofs.ListLaws.{tabulate-at}
+use Rattle.rules.specs.Rows.{blank}
 use Rattle.tick_plan.specs.declared.Plan.{Plan}
 use Rattle.tick_plan.specs.Plans.{Planned}
 use Rattle.tick_holds.specs.Holds.{UnraisedRows}
@@ -112,6 +116,22 @@ module _ (t : Tables) (s : sound_tables t ≡ true) (e : Instruction) (k : e.kin
     pub unraised-midway : Midway (word header₁ day_place - 1) unraised-tables
     unraised-midway =
         rw yesterday (written-midway t unraised-tables (before_raising b) b.day (sound-midway t s).lengths unraised-written fits-unraised (before_raising-near b (sound-book t s).near not_last))
+
+    -- neither ended holds nor settlement make a toll rise
+    pub unraised-marked : (marks : List ℕ) → Marked (word t.header day_place + 1) t.journal marks (rows_used t)
+        → Marked (word header₁ day_place) j marks (word header₁ used_place)
+    unraised-marked marks m =
+        let used : word header₁ used_place ≡ rows_used t = word-other t.header day_place _ used_place (λ z. omega arith) in
+        let now : word header₁ day_place ≡ word t.header day_place + 1 = word_same t.header day_place _ (omega (arith, header-length t s)) in
+        record {
+          sized = m.sized;
+          none = λ k h e.
+              let l : k < rows_used t = rw used at h in
+              let row : row_at j k ≡ get_or (before_raising b).rows k blank = sym (tabulate-at (row_at j) (rows_used t) k blank l) ∙ rw d.rows in
+              let was : get_or b.rows k blank ≡ row_at t.journal k = midway-row b.day t (sound-midway t s) k l in
+              let z : rises (b.day + 1) (get_or b.rows k blank) ≡ false = rw (day-read t s, ← was) at (m.none k l e) in
+              rw (now, row, day-read t s) (rises-same b (sound-book t s) k (omega (arith, used-read t s)) ∙ z);
+        }
 
     pub unraised-room : length (raise_tolls (book_of unraised-tables)).rows ≤ length j / row_width
     unraised-room = rw (unraised-book, d.size) (omega (arith, fits-late, room-read t s))

@@ -8,7 +8,7 @@ ghost use Rattle.rules.specs.Tables.{tables_with, book_of, sound_tables};
 ghost use Rattle.posting.specs.Posts.{Posts};
 ghost use Rattle.posting.specs.Written.{Written};
 ghost use Rattle.event_refusals.specs.Admissions.{Admitted};
-ghost use Rattle.tick_plan.specs.Plans.{PlansHolds};
+ghost use Rattle.tick_plan.specs.Plans.{PlansHolds, TablesCounted};
 ghost use Rattle.tick_holds.specs.Holds.{UnraisedRows};
 ghost use Rattle.event_tick.specs.TickEvent.{Judges, Accepts, Closes};
 ghost use Rattle.records.specs.Codes.{event_tick};
@@ -23,21 +23,28 @@ use records::{Instruction, Posting};
 use tables::words::put;
 use tick_close::close_accounts;
 use tick_holds::free_and_settle;
-use tick_plan::{Plan, plan_tick};
+use tick_plan::rows::RowCounts;
+use tick_plan::{Plan, count_rows, plan_tick};
 use tick_raise::raise_tolls;
 
 // The plan of an admitted event 9, or why it is refused. The tests in checking order. 14 never is the reason: 8,192 sources of at most
 // 1,300,000 each do not pass the ceiling.
-fn judge_tick(t: &TablesMut, holidays: &[i64], e: Instruction) -> Result<Plan, Refusal>
+fn judge_tick(
+    t: &TablesMut,
+    holidays: &[i64],
+    e: Instruction,
+    counts: &RowCounts,
+) -> Result<Plan, Refusal>
     requires { (sound_tables (tables_with holidays.now (lent_mut t.now)) ≡ true)
         × (e.kind ≡ event_tick)
-        × Admitted (lent_mut t.now) e }
+        × Admitted (lent_mut t.now) e
+        × TablesCounted (lent_mut t.now) counts.now }
     ensures { Judges (book_of (tables_with holidays.now (lent_mut t.now))) e result }
 {
     if t.day() == FINAL_DAY {
         return Err(Refusal::LastDay);
     }
-    let plan = plan_tick(t, holidays);
+    let plan = plan_tick(t, holidays, counts);
     if !t.has_room(plan.added) {
         return Err(Refusal::Full);
     }
@@ -45,15 +52,17 @@ fn judge_tick(t: &TablesMut, holidays: &[i64], e: Instruction) -> Result<Plan, R
 }
 
 // Holds end and their accounts are settled, where the plan has a hold that ends. On most days none does, and nothing changes.
-fn end_holds(t: &mut TablesMut, plan: Plan)
-    requires { (sound_tables (lent_mut t.old) ≡ true) × PlansHolds (book_of (lent_mut t.old)) plan }
+fn end_holds(t: &mut TablesMut, plan: Plan, counts: &RowCounts)
+    requires { (sound_tables (lent_mut t.old) ≡ true)
+        × PlansHolds (book_of (lent_mut t.old)) plan
+        × TablesCounted (lent_mut t.old) counts.now }
     ensures same { SameTables t.old t.new }
     ensures header { t.new.header.now ≡ t.old.header.now }
     ensures accounts { t.new.accounts.now ≡ t.old.accounts.now }
     ensures rows { UnraisedRows (lent_mut t.old) t.new.journal.now }
 {
     if plan.ending {
-        free_and_settle(t);
+        free_and_settle(t, &counts.ends, &counts.remains.money);
     }
 }
 
@@ -73,18 +82,20 @@ fn close_due(t: &mut TablesMut, plan: Plan)
 }
 
 // A tick as planned: holds end, settlement, the day rises, tolls rise, accounts close. Whatever the holidays, the plan has read them.
-fn carry_out(t: &mut TablesMut, e: Instruction, plan: Plan) -> Posting
-    requires { (hs : List ℤ) × Accepts (tables_with hs (lent_mut t.old)) e plan }
+fn carry_out(t: &mut TablesMut, e: Instruction, plan: Plan, counts: &RowCounts) -> Posting
+    requires { (hs : List ℤ)
+        × Accepts (tables_with hs (lent_mut t.old)) e plan
+        × TablesCounted (lent_mut t.old) counts.now }
     ensures same { SameTables t.old t.new }
     ensures posts { (hs : List ℤ)
         → Accepts (tables_with hs (lent_mut t.old)) e plan
         → Posts (tables_with hs (lent_mut t.old)) (tables_with hs (lent_mut t.new)) e (answer_of (Ok result)) }
 {
     let used = t.used();
-    end_holds(t, plan);
+    end_holds(t, plan, counts);
     let today = t.day();
     put(t.header, DAY_PLACE, today + 1);
-    let raised = raise_tolls(t);
+    let raised = raise_tolls(t, &counts.marks);
     close_due(t, plan);
     posted(used, t.used() - used, raised, false)
 }
@@ -100,6 +111,7 @@ pub fn tick(t: &mut TablesMut, holidays: &[i64], e: Instruction) -> Result<Posti
         e
         (answer_of result) }
 {
-    let plan = judge_tick(t, holidays, e)?;
-    Ok(carry_out(t, e, plan))
+    let counts = count_rows(t);
+    let plan = judge_tick(t, holidays, e, &counts)?;
+    Ok(carry_out(t, e, plan, &counts))
 }

@@ -1,5 +1,5 @@
 -- Event 7, declined: the book that it makes, and whether the top-up is removed.
-use mathlib.Core.Path.{◌≡◌, sym}
+use mathlib.Core.Path.{◌≡◌, refl, sym}
 use mathlib.Core.Logic.{◌≢◌}
 use mathlib.Core.Bool.{Bool, true, false, not, ◌&&◌}
 use Prim.Native.Nat.{◌+◌}
@@ -14,7 +14,7 @@ use Rattle.records.proofs.AccountLaws.{declined-cases}
 use Rattle.records.specs.AccountOperations.{last_decline, declined_on}
 use Rattle.lists.specs.Tests.{◌is◌}
 use Rattle.lists.proofs.TestLaws.{and_left, and_right}
-use Rattle.rules.specs.Book.{Account, Instruction, Book, account, put_account}
+use Rattle.rules.specs.Book.{Account, Instruction, Book, account}
 use Rattle.rules.specs.Events.{decline_topup, topup_result}
 use Rattle.rules.specs.Refusals.{change_of, zero_from-c, result_form, form_of, well_formed, answer_number}
 use Rattle.rules.specs.Posting.{removes_topup}
@@ -25,6 +25,7 @@ use Rattle.preservation.proofs.Accepted.{accepted}
 use Rattle.posting.proofs.BookLaws.{account-holds}
 use Rattle.posting_laws.proofs.RefusalLaws.{at-kind}
 use Rattle.event_ends.specs.Ends.{PutsAccount}
+use Rattle.event_ends.proofs.PutLaws.{puts-account}
 
 module _ (t : Tables) (s : sound_tables t ≡ true) (e : Instruction) where
   abbrev b : Book
@@ -48,10 +49,6 @@ module _ (t : Tables) (s : sound_tables t ≡ true) (e : Instruction) where
       (storable-set _ declines_place (named.declines + 1) (omega (arith, leb-false 2 named.declines q)) (account-holds t s e.account)))
 
   module _ (k : e.kind ≡ event_topup_result) (q : 0 ≡ answer_number b e) (n : e.b ≢ code_yes) where
-    changed : change_of e.kind b e ≡ put_account e.account declined_account b
-    unfolding change_of topup_result decline_topup
-    changed = rw (k, ne_eqb e.b code_yes n)
-
     formed : result_form e ≡ true
     unfolding well_formed form_of
     formed = at-kind (λ x. not (well_formed x) ≡ false → result_form x ≡ true) e 7 k (λ w. not-false _ w) (accepted b e (sym q)).formed
@@ -64,10 +61,6 @@ module _ (t : Tables) (s : sound_tables t ≡ true) (e : Instruction) where
         omega (arith, leb-true e.b 1 (and_right first_part result-part (and_left (first_part && result-part) (zero_from-c e) formed)), n)
 
     pub declined-puts : PutsAccount t e declined_account (last_decline named)
-    declined-puts = record {
-      accepted = q;
-      change = changed;
-      names-account = rw k;
-      removes = unfold removes_topup in (rw (k, result-0));
-      storable = declined-storable;
-    }
+    unfolding change_of topup_result decline_topup removes_topup
+    declined-puts =
+        puts-account t e event_topup_result k q declined_account (rw (ne_eqb e.b code_yes n)) refl (last_decline named) (rw result-0) declined-storable

@@ -15,12 +15,12 @@ use Rattle.rules.specs.Book.{Book, Instruction, Answer}
 use Rattle.rules.specs.Successors.{forwarded}
 use Rattle.rules.specs.Posting.{receive}
 use Rattle.rules.specs.Tables.{Tables, book_of, tables_of, whole_records, lengths_fit, sound_tables}
-use Rattle.rules.specs.Calls.{Gives, opening_refusals, opened_book, open_call}
+use Rattle.call_rules.specs.Calls.{Gives, opening_refusals, opened_book, open_call}
 use Rattle.rules.proofs.SoundnessLaws.{facts-sound}
 use Rattle.rules.proofs.TableLaws.{sound-book, sound_tables-tables_of}
-use Rattle.rules.proofs.OpeningLaws.{open_call-sound, book_of-open_call}
+use Rattle.call_rules.proofs.OpenCallLaws.{open_call-sound, book_of-open_call}
 use Rattle.preservation.proofs.SoundKept.{post-keeps-sound}
-use Rattle.preservation.proofs.CallsKept.{book_of-sound}
+use Rattle.call_rules.proofs.CallsKept.{book_of-sound}
 use Rattle.event_heirs.specs.Heirs.{Receives}
 use Rattle.listing_rules.specs.Texts.{bad_line, same, opening_names, event_names, answer_text}
 use Rattle.listing_rules.specs.Listing.{listed_accounts, listed_rows, listing_tables, opens, is_good, posted, book_by, good_text}

@@ -7,12 +7,13 @@ use Rattle.decimal.specs.Decimal.{digits_within, digits_of, text_of, two_digits,
 use Rattle.rules.proofs.Computing.{computing}
 use Rattle.rules.proofs.Examples as rules
 use Rattle.rules.proofs.Examples.{Case, ◌gives◌}
+use Rattle.call_rules.proofs.CallComputing.{computing_calls}
 use Rattle.listing_rules.specs.Texts.{bytes_of, same, lines_of, field, line, answer_text, row_text, account_text, book_text, bad_line}
 use Rattle.listing_rules.specs.Listing.{listing_tables, opens, is_good, posted, book_by, good_text, listed, listing}
 
 -- every definition that the listing computes by
 unfoldable shown : Unit {0}
-unfolding computing date_text text_of_date two_digits
+unfolding computing computing_calls date_text text_of_date two_digits
     digits_within digits_of text_of digit_value all_digits value_after magnitude held_plain held_minus plain minus negated number_of in_first fields_of all_numbers is_numbers numbers_in numbers_of
     bytes_of same lines_of field line answer_text row_text account_text book_text bad_line listing_tables opens is_good posted book_by good_text listed listing
 shown = tt

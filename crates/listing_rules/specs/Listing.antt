@@ -7,7 +7,7 @@ use Rattle.decimal.specs.Decimal.{is_numbers, numbers_of}
 use Rattle.rules.specs.Book.{Book}
 use Rattle.rules.specs.Posting.{Posted, receive}
 use Rattle.rules.specs.Tables.{Tables, book_of}
-use Rattle.rules.specs.Calls.{opening_refusals, opened_book}
+use Rattle.call_rules.specs.Calls.{opening_refusals, opened_book}
 use Rattle.listing_rules.specs.Texts.{bytes_of, same, lines_of, opening_names, event_names, line, answer_text, book_text, bad_line}
 
 -- "It holds 64 accounts and 512 rows"

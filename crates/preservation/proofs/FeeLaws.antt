@@ -7,18 +7,19 @@ use native.Mathlib.Omega.{arith}
 use mathlib.Core.List.{List, [], ◌∷◌}
 use lib.ListN.{length, get_or}
 use lib.Dec.{eqb, leb, ltb}
-use borrow.Author.Tests.{leb-true, ltb-true, eqb-true}
+use borrow.Author.Tests.{ltb-true, eqb-true}
 use Rattle.records.specs.Codes.{kind_fee}
 use Rattle.lists.specs.Tests.{◌from◌to◌, ◌implies◌, first}
 use Rattle.lists.specs.Lists.{count}
 use Rattle.lists.proofs.TestLaws.{and_left, and_right}
 use Rattle.lists.proofs.SumLaws.{sum_by-zero-at}
-use Rattle.records.specs.Limits.{longest_stage, highest_fee, highest_rate}
-use Rattle.rules.specs.Schedule.{Rates, Schedule, classes, class, rate, stage_fee, rates_fit, schedule_fits}
+use Rattle.records.specs.Limits.{highest_fee, highest_rate}
+use Rattle.rules.specs.Schedule.{Rates, Schedule, classes, class, rate, stage_fee, rates_fit}
 use Rattle.rules.specs.Rows.{Row, blank, row_no, fee_naming}
 use Rattle.rules.specs.Book.{Book}
 use Rattle.rules.specs.Soundness.{names, reference_fits}
 use Rattle.rules.specs.SoundFacts.{Near}
+use Rattle.rules.proofs.StorableLaws.{StorableSchedule}
 
 -- ---- a fee's row
 
@@ -68,29 +69,7 @@ module _ (past : ℕ) (b : Book) (s : Near past b) where
 
 -- ---- the schedule
 
-pub record ScheduleParts (s : Schedule) : Type 0 where
-  pub stage : 1 ≤ s.stage
-  pub fee2 : s.fee2 ≤ highest_fee
-  pub fee3 : s.fee3 ≤ highest_fee
-  pub fee4 : s.fee4 ≤ highest_fee
-
-pub schedule-parts : (s : Schedule) → schedule_fits s ≡ true → ScheduleParts s
-unfolding schedule_fits
-schedule-parts s f =
-    let a1 : Bool = s.stage from 1 to longest_stage in
-    let a2 : Bool = leb s.fee2 highest_fee in
-    let a3 : Bool = leb s.fee3 highest_fee in
-    let a4 : Bool = leb s.fee4 highest_fee in
-    let e3 = and_left (a1 && a2 && a3) a4 f in
-    let e2 = and_left (a1 && a2) a3 e3 in
-    record {
-      stage = leb-true 1 s.stage (and_left (leb 1 s.stage) (leb s.stage longest_stage) (and_left a1 a2 e2));
-      fee2 = leb-true s.fee2 highest_fee (and_right a1 a2 e2);
-      fee3 = leb-true s.fee3 highest_fee (and_right (a1 && a2) a3 e3);
-      fee4 = leb-true s.fee4 highest_fee (and_right (a1 && a2 && a3) a4 f);
-    }
-
-pub stage_fee-le : (s : Schedule) → ScheduleParts s → (j : ℕ) → stage_fee s j ≤ highest_fee
+pub stage_fee-le : (s : Schedule) → StorableSchedule s → (j : ℕ) → stage_fee s j ≤ highest_fee
 unfolding stage_fee
 stage_fee-le s p zero = omega arith
 stage_fee-le s p (suc zero) = omega arith

@@ -20,7 +20,6 @@ pub mod AccountsClosed
 pub mod TickKept
 pub mod ListKept
 pub mod SoundKept
-pub mod CallsKept
 pub mod EventFrame
 pub mod PostFrame
 pub mod SuccessorFrame

@@ -22,10 +22,11 @@ use Rattle.rules.specs.RateLists.{in_force}
 use Rattle.rules.specs.Refusals.{change_of, well_formed, form_of, zero_from-f, toll_form, unknown, on_closed, duplicate}
 use Rattle.rules.specs.SoundFacts.{Shape, Live, Near}
 use Rattle.rules.proofs.RateListLaws.{in_force-rates}
+use Rattle.rules.proofs.StorableLaws.{schedule-storable}
 use Rattle.preservation.proofs.Accepted.{Accepted}
 use Rattle.preservation.proofs.KeepingLaws.{grown, Distinct, Quiet, count_add, near-add-quiet}
 use Rattle.preservation.proofs.LookupLaws.{today-fits, used-state, after-fits}
-use Rattle.preservation.proofs.FeeLaws.{fees-none, schedule-parts, rate-fits}
+use Rattle.preservation.proofs.FeeLaws.{fees-none, rate-fits}
 
 module _ (b : Book) (i : Instruction) where
   abbrev event2 : Instruction
@@ -103,7 +104,7 @@ module _ (b : Book) (i : Instruction) where
     unfolding settled_fits due_within hold_fits
     live =
         let L : ℕ = b.schedule.stage in
-        let l : 1 ≤ L = (schedule-parts b.schedule s.schedule).stage in
+        let l : 1 ≤ L = (schedule-storable b.schedule s.schedule).least in
         record {
           settled = and_both (leb 0 (toll_rate b.lists event2)) _ (le-leb 0 (toll_rate b.lists event2) (omega arith)) refl;
           due = rw (le-leb (b.day + L) (b.day + L) (omega arith), lt-ltb 0 (toll_rate b.lists event2) amount-least) (lt-ltb b.day (b.day + L) (omega arith));

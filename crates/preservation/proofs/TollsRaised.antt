@@ -23,9 +23,10 @@ use Rattle.rules.specs.Book.{Account, unused, Book}
 use Rattle.rules.specs.Tick.{rises, raise, fee_row, raise_tolls}
 use Rattle.rules.specs.Soundness.{kind_fits, most_of, amount_fits, settled_fits, mark_fits, toll_words_fit, no_reference, row_day_fits, due_within, hold_fits, account_used, names, reference_fits, passage, passage_once, fees_fit, returned_of, returned_fits, used_is_paid, closed_clear}
 use Rattle.rules.specs.SoundFacts.{Shape, Live, SumsFit, Near}
+use Rattle.rules.proofs.StorableLaws.{StorableSchedule, schedule-storable}
 use Rattle.preservation.proofs.CarriedLaws.{Carries, carries-grown, reference-carried}
 use Rattle.preservation.proofs.SettledLaws.{hold-free}
-use Rattle.preservation.proofs.FeeLaws.{ScheduleParts, schedule-parts, stage_fee-le}
+use Rattle.preservation.proofs.FeeLaws.{stage_fee-le}
 use Rattle.preservation.proofs.TickSteps.{Rising, rising, raise-keeps}
 
 -- ---- a row that rises
@@ -289,7 +290,7 @@ unfolding raise_tolls
 raise_tolls-near past b n t room =
     let s : Schedule = b.schedule in
     let rows : List Row = b.rows in
-    let p : ScheduleParts s = schedule-parts s n.schedule in
+    let p : StorableSchedule s = schedule-storable s n.schedule in
     let l1 : leb 1 b.day ≡ true = le-leb 1 b.day (omega arith) in
     let fees : (j : ℕ) → j < length (added s b.day rows) → Fresh s b.day rows b.accounts (get_or (added s b.day rows) j blank) =
     all-fresh s b.day rows b.accounts l1 (stage_fee-le s p) n.shape in
@@ -305,7 +306,7 @@ raise_tolls-near past b n t room =
           (λ l. shape-raised s b.day rows b.accounts k l (n.shape k l))
           (λ j e l. (fees j l).shape (suc k) (omega arith));
       live = λ k h. grown-each (raise s b.day) blank (raise-blank s b.day) rows (added s b.day rows) k (λ x. Live b.day b.day b.schedule.stage x) h
-          (λ l. live-raised s b.day past (get_or rows k blank) t p.stage (n.live k l))
+          (λ l. live-raised s b.day past (get_or rows k blank) t p.least (n.live k l))
           (λ j e l. (fees j l).live);
       standing = n.standing;
       successors = n.successors;

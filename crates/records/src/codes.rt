@@ -30,8 +30,6 @@ pub const STATE_CLOSED: u64 = 3;
 
 pub const METHOD_CARD: u64 = 1;
 
-pub const METHOD_CASH: u64 = 2;
-
 pub const METHOD_CHECK: u64 = 3;
 
 pub const METHOD_CHECK_RETURNED: u64 = 4;

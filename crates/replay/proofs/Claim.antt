@@ -1,4 +1,4 @@
--- Demand 3: the claim, from the relation at the end of any list of calls.
+-- Demand 3, from the relation at the end of any list of events.
 use mathlib.Core.Path.{◌≡◌, refl, sym, ap, ◌∙◌}
 use mathlib.Core.Bool.{Bool, true, false, ◌&&◌}
 use Prim.Native.Nat.{ℕ, zero, suc, ◌+◌, ◌*◌, ◌/◌, ◌-◌, ◌≤◌, ◌<◌, min}
@@ -8,7 +8,6 @@ use native.Mathlib.Decide.{dec_lt}
 use mathlib.Core.List.{List, [], map}
 use lib.ListN.{replicate}
 use lib.Dec.{leb}
-use lib.IntN.{ℤ}
 use borrow.Author.Tests.{eq-eqb, lt-leb}
 use Rattle.lists.specs.Tests.{◌is◌}
 use Rattle.lists.specs.Lists.{one}
@@ -17,15 +16,11 @@ use Rattle.lists.proofs.CollectLaws.{collect, gather-collect, collect-pairs}
 use Rattle.rules.specs.Schedule.{Schedule}
 use Rattle.rules.specs.Rows.{Row, kind_toll, dispute_held, last_stage, blank, toll, held_toll, fee_naming}
 use Rattle.rules.specs.Book.{unused, Book, row}
-use Rattle.rules.specs.Opening.{opening}
-use Rattle.rules.specs.Tables.{Tables, accounts_in, book_of}
-use Rattle.rules.specs.Calls.{opened_book, open_call}
 use Rattle.rules.specs.SoundFacts.{Sound}
 use Rattle.rules.proofs.SoundnessLaws.{sound-facts}
-use Rattle.rules.proofs.OpeningLaws.{opened_book-sound, open_call-sound, book_of-open_call}
 use Rattle.replay.specs.Entries.{entry_no, is_toll}
-use Rattle.replay.specs.Replay.{no_note, Replay, Report, replay, begin}
-use Rattle.replay.specs.Demand3.{reports, tables_after, line_of_row, line_of_entry, stage_of, day_reached, stage_fees, fees_naming, Demand3, replay_start, Claim3}
+use Rattle.replay.specs.Replay.{no_note, Replay, Report, replay}
+use Rattle.replay.specs.Demand3.{line_of_row, line_of_entry, stage_of, day_reached, stage_fees, fees_naming, Demand3}
 use Rattle.replay.proofs.Relation.{Match, Named, Noted}
 use Rattle.replay.proofs.SoundRows.{sound-row, stage-length}
 use Rattle.replay.proofs.Growing.{Place, row-place, number_at, rows-no}
@@ -33,10 +28,10 @@ use Rattle.replay.proofs.PlainEvents.{noted-no}
 use Rattle.replay.proofs.RowEvents.{fee-same}
 use Rattle.replay.proofs.Balances.{balance-same}
 use Rattle.replay.proofs.Idle.{idle-none}
-use Rattle.replay.proofs.StageFees.{fees_at, stage_fees-at, fees_at-same}
+use Rattle.replay.proofs.StageFees.{stage_fees-at, fees_at-same}
 use Rattle.replay.proofs.ReplaySteps.{fee_share}
-use Rattle.replay.proofs.FeesAlong.{FeesOf, opened, attained}
-use Rattle.replay.proofs.AnyCalls.{Underway, Ended, calls-ended}
+use Rattle.replay.proofs.FeesAlong.{opened, attained}
+use Rattle.replay.proofs.AnyEvents.{Ended}
 
 -- ---- stages
 
@@ -125,12 +120,12 @@ module _ (b : Book) (start : Replay) (days : ℕ → ℕ → ℕ) (hs : List Rep
 
 -- ---- the opening
 
-notes-noted : (n : ℕ) → Pairs Noted (replicate n unused) (replicate n no_note)
+pub notes-noted : (n : ℕ) → Pairs Noted (replicate n unused) (replicate n no_note)
 notes-noted zero = none
 notes-noted (suc n) = more (record { request = refl; topup = λ h. refl; successor = refl; closed = refl }) (notes-noted n)
 
 -- no stage is reached where there is no entry
-none-attained : (p : Replay) → p.entries ≡ [] → 1 ≤ p.schedule.stage → (n k : ℕ) → 2 ≤ k → attained p n k ≡ false
+pub none-attained : (p : Replay) → p.entries ≡ [] → 1 ≤ p.schedule.stage → (n k : ℕ) → 2 ≤ k → attained p n k ≡ false
 none-attained p e l n k h =
     let z : opened p n ≡ 0 = rw e (go n) in
     let m : 2 * 1 ≤ k * p.schedule.stage = mul-le-mul h l in
@@ -139,31 +134,3 @@ none-attained p e l n k h =
     go : (j : ℕ) → (entry_no [] j).open-days ≡ 0
     go zero = refl
     go (suc j) = refl
-
-module _ (t : Tables) (w : List ℤ) (z : (open_call t w).number ≡ 0) where
-  start-stage : 1 ≤ (replay_start t w).schedule.stage
-  unfolding replay_start begin opened_book opening
-  start-stage = stage-length (opened_book t w) (sound-facts (opened_book t w) (opened_book-sound t w z)).near
-
-  start_none : (n k : ℕ) → 2 ≤ k → attained (replay_start t w) n k ≡ false
-  start_none = none-attained (replay_start t w) (unfold replay_start begin in refl) start-stage
-
-  start-fees : FeesOf (replay_start t w) (λ n k. 0)
-  unfolding replay_start begin collect fees_at
-  start-fees n h = rw (start_none n 2 (omega arith), start_none n 3 (omega arith), start_none n 4 (omega arith))
-
-  start-underway : Underway (opened_book t w) (replay_start t w) (λ n k. 0)
-  unfolding replay_start begin opened_book opening
-  start-underway = record {
-    is-sound = opened_book-sound t w z;
-    alike = record { day = refl; schedule = refl; lists = refl; holidays = refl; rows = none; notes = notes-noted (accounts_in t) };
-    fees = start-fees;
-  }
-
--- ---- the claim
-
-pub demand-3 : Claim3
-demand-3 t w z cs =
-    demand3 (book_of (tables_after (open_call t w).tables cs)) (replay_start t w) (λ n k. 0) (reports (open_call t w).tables cs)
-    (calls-ended cs (open_call t w).tables (replay_start t w) (λ n k. 0) (open_call-sound t w z) (rw (book_of-open_call t w z) (start-underway t w z)))
-    (start_none t w z)

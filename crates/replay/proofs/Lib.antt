@@ -19,6 +19,6 @@ pub mod TickFees
 pub mod FeesAlong
 pub mod PassedOn
 pub mod AnyEvent
-pub mod AnyCalls
+pub mod AnyEvents
 pub mod Claim
 pub mod ReplayExample

@@ -21,7 +21,7 @@ use Rattle.replay.specs.Demand3.{reports_of, toll_named, stage_of, stage_fees, d
 
 -- what unfolds for the replay to compute
 unfoldable replaying : Unit {0}
-unfolding Entries.fee_of Entries.on_hold Entries.sum_of Entries.balance_of Entries.money_in Entries.money_out Entries.unused_of Entries.wanted_by Entries.wanted_by_toll Entries.wanted_by_rest Entries.cover Entries.cover_rank Entries.settle_entries Entries.settle_all_entries Replay.settled_replay Replay.toll_goes_to Replay.note_topup Replay.note_request Replay.note_successor Replay.note_list Replay.add_toll Replay.add_payment Replay.add_topup Replay.add_return Replay.set_hold Replay.toll_and_fees Replay.add_credit Replay.free_toll Replay.gains Replay.count_tick Replay.count_day Replay.reaches Replay.add_fee Replay.add_fees Replay.closing Replay.add_refund Replay.use_money Replay.close_note Replay.close_all Replay.tick_replay Replay.step_of Replay.replay_one Replay.replay Replay.begin Demand3.called Demand3.tables_after Demand3.reports_of Demand3.reports_if Demand3.reports_at Demand3.reports Demand3.toll_named Demand3.stage_of Demand3.day_reached Demand3.stage_fees Demand3.fees_naming Demand3.replay_start
+unfolding Entries.fee_of Entries.on_hold Entries.sum_of Entries.balance_of Entries.money_in Entries.money_out Entries.unused_of Entries.wanted_by Entries.wanted_by_toll Entries.wanted_by_rest Entries.cover Entries.cover_rank Entries.settle_entries Entries.settle_all_entries Replay.settled_replay Replay.toll_goes_to Replay.note_topup Replay.note_request Replay.note_successor Replay.note_list Replay.add_toll Replay.add_payment Replay.add_topup Replay.add_return Replay.set_hold Replay.toll_and_fees Replay.add_credit Replay.free_toll Replay.gains Replay.count_tick Replay.count_day Replay.reaches Replay.add_fee Replay.add_fees Replay.closing Replay.add_refund Replay.use_money Replay.close_note Replay.close_all Replay.tick_replay Replay.step_of Replay.replay_one Replay.replay Replay.begin Demand3.reports_of Demand3.toll_named Demand3.stage_of Demand3.day_reached Demand3.stage_fees Demand3.fees_naming
 replaying = tt
 
 -- two accounts: a duplicate passage that is refused; a hold freed by its thirtieth tick, its toll paid after 29 open days; an account that closes with a refund, pends again by

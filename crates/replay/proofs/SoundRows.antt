@@ -14,8 +14,7 @@ use Rattle.rules.specs.Rows.{Row, kind_toll, kind_fee, kind_payment, last_stage,
 use Rattle.rules.specs.Book.{Account, unused, state_unused, Book, account_no}
 use Rattle.rules.specs.Soundness.{mark_fits, hold_fits, account_used, names, reference_fits}
 use Rattle.rules.specs.SoundFacts.{Near}
-use Rattle.rules.proofs.StorableLaws.{settled-le}
-use Rattle.preservation.proofs.FeeLaws.{schedule-parts}
+use Rattle.rules.proofs.StorableLaws.{settled-le, schedule-storable}
 use Rattle.preservation.proofs.DisputeKept.{held-is}
 
 -- ---- a toll
@@ -91,4 +90,4 @@ module _ (b : Book) (near : Near b.day b) where
       }
 
   pub stage-length : 1 ≤ b.schedule.stage
-  stage-length = (schedule-parts b.schedule near.schedule).stage
+  stage-length = (schedule-storable b.schedule near.schedule).least

@@ -1,9 +1,7 @@
--- Demand 3 (document 01, "What demand 3 counts"): one claim about any list of calls from an opening that gave 0.
-use Rattle.std.specs.Prelude.{◌≡◌, true, not, cond, ◌&&◌, ℕ, ◌*◌, ◌/◌, min, List, [], ◌∷◌, ◌++◌, map, leb, ltb, ℤ}
+-- Demand 3 (document 01, "What demand 3 counts"): what the replay is fed of a list of events, and what a book and a replay are compared in.
+use Rattle.std.specs.Prelude.{◌≡◌, true, not, cond, ◌&&◌, ℕ, ◌*◌, ◌/◌, min, List, [], ◌∷◌, map, leb, ltb}
 use Rattle.records.specs.Codes.{last_stage}
-use Rattle.records.specs.Layout.{first_day_place, opening_schedule, opening_rates}
-use Rattle.records.specs.Encoding.{word, instruction_of, instruction_from}
-use Rattle.lists.specs.Tests.{◌is◌, first}
+use Rattle.lists.specs.Tests.{◌is◌}
 use Rattle.lists.specs.Lists.{one, gather, gather_from}
 use Rattle.rules.specs.Schedule.{Schedule}
 use Rattle.rules.specs.Rows.{Row, kind_toll, kind_fee, row_no, held_toll, fee_naming}
@@ -11,27 +9,8 @@ use Rattle.rules.specs.Book.{state_closed, Instruction, Book, account, row, bala
 use Rattle.rules.specs.Successors.{forwarded}
 use Rattle.rules.specs.Refusals.{answer_number}
 use Rattle.rules.specs.Posting.{receive}
-use Rattle.rules.specs.Tables.{Tables, accounts_in, holidays_in, schedule_from, rates_from, book_of}
-use Rattle.rules.specs.Calls.{Event, Called, open_call, event_call, batch_call, event_refusals, batch_refusals}
 use Rattle.replay.specs.Entries.{Entry, entry_no, is_money, is_debt, is_toll, covered_whole, on_hold, balance_of}
-use Rattle.replay.specs.Replay.{Replay, Report, note_no, replay_one, replay, begin}
-
--- ---- the list of calls
-
--- a single event's words and its answer table; a batch's event records and its answer table
-pub data Call : Type 0 where
-  single : List ℤ → List ℤ → Call
-  batch : List Event → List ℤ → Call
-
--- what a call leaves
-unfoldable pub called : Tables → Call → Called
-called t (single e answers) = event_call t e answers
-called t (batch es answers) = batch_call t es answers
-
--- each call works on the book as the last one left it
-unfoldable pub tables_after : Tables → List Call → Tables
-tables_after t [] = t
-tables_after t (c ∷ cs) = tables_after (called t c).tables cs
+use Rattle.replay.specs.Replay.{Replay, Report, note_no, replay_one}
 
 -- ---- what the replay is fed
 
@@ -39,20 +18,6 @@ tables_after t (c ∷ cs) = tables_after (called t c).tables cs
 unfoldable pub reports_of : Book → List Instruction → List Report
 reports_of b [] = []
 reports_of b (e ∷ es) = record { event = e; accepted = answer_number b (forwarded b e) is 0 } ∷ reports_of (receive b e).book es
-
--- the events of a call that is not refused, n being its refusal
-unfoldable pub reports_if : ℕ → Book → List Instruction → List Report
-reports_if n b es = cond (n is 0) (reports_of b es) []
-
--- "a batch counts as its events in order, a refused batch as none"
-unfoldable pub reports_at : Tables → Call → List Report
-reports_at t (single e answers) = reports_if (first (event_refusals t e answers)) (book_of t) (instruction_from e ∷ [])
-reports_at t (batch es answers) = reports_if (first (batch_refusals t es answers)) (book_of t) (map instruction_of es)
-
--- the reports of all calls, each on the tables as the last one left them
-unfoldable pub reports : Tables → List Call → List Report
-reports t [] = []
-reports t (c ∷ cs) = reports_at t c ++ reports (called t c).tables cs
 
 -- ---- what is compared
 
@@ -117,17 +82,3 @@ pub record Demand3 (b : Book) (start : Replay) (hs : List Report) (p : Replay) :
   -- an account is closed exactly where the replay takes it as closed, and has the successor that it notes
   pub closed : (a : ℕ) → ((account b a).state is state_closed) ≡ (note_no p.notes a).closed
   pub successors : (a : ℕ) → (account b a).successor ≡ (note_no p.notes a).successor
-
--- "It starts where opening gave 0": w is the opening's words, t the tables it was given
-unfoldable pub replay_start : Tables → List ℤ → Replay
-replay_start t w =
-    begin (word w first_day_place) (schedule_from w opening_schedule) (rates_from w opening_rates) (holidays_in t) (accounts_in t)
-
--- the claim over any tables and words for which opening gives 0, and any list of calls
-abbrev pub Claim3 : Type 0
-Claim3 =
-    (t : Tables) (w : List ℤ) → (open_call t w).number ≡ 0 → (cs : List Call) →
-    let opened : Tables = (open_call t w).tables in
-    let start : Replay = replay_start t w in
-    let hs : List Report = reports opened cs in
-    Demand3 (book_of (tables_after opened cs)) start hs (replay start hs)

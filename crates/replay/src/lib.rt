@@ -1,3 +1,3 @@
-// The replay of document 01, "What demand 3 counts", and demand 3 as one statement over any list of calls. No code: definitions in
+// The replay of document 01, "What demand 3 counts", and demand 3 over any list of events. No code: definitions in
 // specs/, laws and a worked example in proofs/.
 #![tactic(auto)]

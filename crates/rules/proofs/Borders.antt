@@ -1,11 +1,10 @@
 -- Each limit of document 01 at its border and one past it, and the answers that no other table gives, computed from the definitions.
 use mathlib.Core.Path.{◌≡◌, refl}
 use mathlib.Core.Bool.{Bool, cond}
-use Prim.Native.Nat.{ℕ, ◌*◌}
+use Prim.Native.Nat.{ℕ}
 use mathlib.Core.List.{List, [], ◌∷◌, ◌++◌, map}
-use lib.ListN.{length, take, replicate, set}
-use lib.IntN.{ℤ, pos}
-use Rattle.lists.specs.Tests.{first}
+use lib.ListN.{length, replicate, set}
+use lib.IntN.{pos}
 use Rattle.lists.specs.Lists.{count}
 use Rattle.records.specs.Updates.{unused, with_state, with_request, with_returned, with_topup, with_declines, with_reserve}
 use Rattle.rules.specs.Schedule.{Rates, Schedule, class, rates_fit, schedule_fits}
@@ -17,11 +16,9 @@ use Rattle.rules.specs.Refusals.{well_formed, answer_number}
 use Rattle.rules.specs.Posting.{book_after}
 use Rattle.rules.specs.Opening.{opening, day_fits, sizes_fit}
 use Rattle.rules.specs.Soundness.{kind_fits, amount_fits, settled_fits, mark_fits, toll_words_fit, no_reference, row_day_fits, due_fits, hold_fits, account_used, reference_fits, passage_once, fees_fit, state_fits, unused_zero, request_fits, topup_fits, decline_fits, returned_fits, used_is_paid, no_idle_money, closed_clear}
-use Rattle.rules.specs.Tables.{Tables, tables_at, sound_tables}
-use Rattle.rules.specs.Calls.{batch_refusals, open_call, event_call, batch_call, topup_due_call}
+use Rattle.rules.specs.Tables.{Tables, tables_at, tables_of, sound_tables}
 use Rattle.rules.proofs.Computing.{computing}
-use Rattle.rules.proofs.Examples.{Case, ◌gives◌, ◌amounts-to◌, event, ticks, schedule, rates, small, numbers}
-use Rattle.rules.proofs.CallExamples.{lent, schedule_words, opened, words, sent, day, posted}
+use Rattle.rules.proofs.Examples.{Case, ◌gives◌, event, ticks, schedule, rates, small, numbers}
 
 -- ---- how cases are written
 
@@ -95,34 +92,18 @@ stage_and_fees b = (row b 1).mark ∷ (row b 2).amount ∷ (row b 3).amount ∷ 
 abbrev answers_on5 : List Instruction → List ℕ
 answers_on5 es = numbers (small 5) (open_one ∷ es)
 
--- a batch of n events with answer words for them
-abbrev batch_of : ℕ → ℕ
-batch_of n = first (batch_refusals opened (replicate n (sent 9 0 0 0)) (replicate (n * 5) (pos 0)))
+-- a book of three rows with so many payments
+abbrev paid : List ℕ → Tables
+paid ns = tables_of (book_after (opening 1 schedule rates 2 3) (open_one ∷ map (λ n. event 3 1 n 2 0 0 0) ns))
 
--- the posted book of two rows in three with one word of the header changed
+-- two of them, and one word of the header changed
 abbrev header_word : ℕ → ℕ → Tables
-header_word k n = tables_at (set posted.header k (pos n)) posted.accounts posted.journal []
-
--- the tables with other lengths
-abbrev lengths_of : ℕ → ℕ → ℕ → Tables
-lengths_of h a j = tables_at (replicate h (pos 9)) (replicate a (pos 9)) (replicate j (pos 9)) []
+header_word k n = let t : Tables = paid (300 ∷ 400 ∷ []) in tables_at (set t.header k (pos n)) t.accounts t.journal []
 
 -- the kinds ks with words a and b, and each of c, d and e
 abbrev one_more : List ℕ → ℕ → ℕ → List Bool
 one_more ks a b =
     map (λ k. well_formed (event k 0 a b 1 0 0)) ks ++ map (λ k. well_formed (event k 0 a b 0 1 0)) ks ++ map (λ k. well_formed (event k 0 a b 0 0 1)) ks
-
--- as many words of a schedule
-abbrev opened_by : List ℤ → ℕ
-opened_by w = (open_call lent w).number
-
--- the journal of three rows used whole
-abbrev filled : Tables
-filled = (batch_call opened (day ++ sent 3 1 5 1 ∷ []) (replicate 25 (pos 7))).tables
-
--- account 2 with a top-up of 2,000 at 100 or less
-abbrev low_on2 : Tables
-low_on2 = (batch_call opened (sent 1 2 100 2_000 ∷ []) (replicate 5 (pos 7))).tables
 
 -- a pending account whose days are over, with so much unused money
 abbrev leaving : ℕ → Book
@@ -152,21 +133,7 @@ cases =
     ∷ (map rates_fit (but_one 1 0) are replicate 6 0)
     -- used rows in a journal of three: three may be, but each has a kind; four can't be
     ∷ (map sound_tables (header_word 1 2 ∷ header_word 1 1 ∷ header_word 1 3 ∷ header_word 1 4 ∷ []) are 1 ∷ 0 ∷ 0 ∷ 0 ∷ [])
-    ∷ (sound_tables filled ∷ [] are 1 ∷ [])
-    -- the tables' lengths, and the words of opening, of an event and of its answer
-    ∷ (map (λ t. (open_call t schedule_words).number)
-    (lengths_of 62 18 30 ∷ lengths_of 61 18 30 ∷ lengths_of 63 18 30 ∷ lengths_of 62 16 30 ∷ lengths_of 62 18 29 ∷ lengths_of 62 18 31 ∷ lengths_of 62 18 0 ∷ [])
-    gives 0 ∷ 1 ∷ 1 ∷ 1 ∷ 1 ∷ 1 ∷ 1 ∷ [])
-    ∷ (map opened_by
-    (take 10 schedule_words ∷ (schedule_words ++ pos 1 ∷ []) ∷ set schedule_words 0 (pos 36_525) ∷ set schedule_words 0 (pos 36_526) ∷ set schedule_words 10 (pos 0) ∷ [])
-    gives 2 ∷ 2 ∷ 0 ∷ 2 ∷ 2 ∷ [])
-    ∷ (map (λ e. (event_call opened e (replicate 5 (pos 0))).number) (take 8 (words 9 0 0 0) ∷ words 9 0 0 0 ∷ (words 9 0 0 0 ++ pos 0 ∷ []) ∷ [])
-    gives 2 ∷ 0 ∷ 2 ∷ [])
-    -- top-up due: 1 yes, 0 no
-    ∷ ((topup_due_call low_on2 (pos 2)).value amounts-to pos 1)
-    ∷ ((topup_due_call posted (pos 1)).value amounts-to pos 0)
-    -- a batch of 4,096 events
-    ∷ (batch_of 4_096 ∷ batch_of 4_097 ∷ [] gives 0 ∷ 2 ∷ [])
+    ∷ (sound_tables (paid (300 ∷ 400 ∷ 5 ∷ [])) ∷ [] are 1 ∷ [])
     -- class and rate
     ∷ (class 1 90 ∷ class 1 91 ∷ class 3 0 ∷ class 3 999 ∷ class 4 999 ∷ class 5 0 ∷ class 99 999 ∷ [] gives 1 ∷ 0 ∷ 2 ∷ 2 ∷ 2 ∷ 3 ∷ 3 ∷ [])
     ∷ (map (λ axles. count (λ c. c.1) (class_cases axles 90)) (1 ∷ 2 ∷ 3 ∷ 4 ∷ 5 ∷ 6 ∷ 99 ∷ []) gives replicate 7 1)

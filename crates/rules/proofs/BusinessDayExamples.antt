@@ -1,20 +1,16 @@
--- Business days at their limits (document 02, No. 6), computed from the definitions: closings, what else a tick does, the list of holidays,
--- answer 17.
+-- Business days at their limits (document 02, No. 6), computed from the definitions: closings, what else a tick does, the list of holidays.
 use mathlib.Core.Path.{◌≡◌, refl}
 use Prim.Native.Nat.{ℕ, ◌+◌}
 use mathlib.Core.List.{List, [], ◌∷◌, ◌++◌, map}
-use lib.ListN.{replicate, set}
-use lib.IntN.{ℤ, pos, negsuc}
+use lib.IntN.{ℤ, pos}
 use Rattle.lists.specs.Lists.{tabulate}
 use Rattle.rules.specs.BusinessDays.{business_day, holidays_fit}
 use Rattle.rules.specs.Book.{Instruction, with_holidays, account, row}
 use Rattle.rules.specs.Posting.{book_after}
-use Rattle.rules.specs.Tables.{Tables, tables_at, tables_with, sound_tables}
-use Rattle.rules.specs.Calls.{open_call, event_call, balance_call}
+use Rattle.rules.specs.Tables.{Tables, tables_of, tables_with, sound_tables}
 use Rattle.rules.proofs.Computing.{computing}
 use Rattle.rules.proofs.Examples.{Case, ◌gives◌, event, ticks, small}
 use Rattle.rules.proofs.Borders.{◌are◌}
-use Rattle.rules.proofs.CallExamples.{lent, schedule_words, words}
 
 -- ---- how cases are written
 
@@ -41,20 +37,13 @@ stage_on day hs n = (row (book_after (with_holidays hs (small day)) (event 1 1 0
 abbrev dispute_after : ℕ → ℕ
 dispute_after n = (row (book_after (small 7) (event 1 1 0 0 0 0 0 ∷ event 2 1 41 7 2 60 2 ∷ event 5 1 1 0 0 0 0 ∷ ticks n)) 1).dispute
 
--- opening with such a list
-abbrev opened_with : List ℤ → ℕ
-opened_with hs = (open_call (tables_with hs lent) schedule_words).number
-
 -- the first n days
-abbrev days : ℕ → List ℤ
+abbrev pub days : ℕ → List ℤ
 days n = tabulate (λ k. pos (k + 1)) n
-
-abbrev opened : List ℤ → Tables
-opened hs = (open_call (tables_with hs lent) schedule_words).tables
 
 -- the opened book with another list
 abbrev changed : List ℤ → Tables
-changed hs = tables_with hs (opened (days 3))
+changed hs = tables_with hs (tables_of (with_holidays (1 ∷ 2 ∷ 3 ∷ []) (small 1)))
 
 pub cases : List Case
 cases =
@@ -75,15 +64,8 @@ cases =
     ∷ (map (λ hs. holidays_fit hs) ([] ∷ (1 ∷ 2 ∷ []) ∷ (2 ∷ 2 ∷ []) ∷ (3 ∷ 2 ∷ []) ∷ (0 ∷ 2 ∷ []) ∷ (1 ∷ 36_525 ∷ []) ∷ (1 ∷ 36_526 ∷ []) ∷ [])
     are 1 ∷ 1 ∷ 0 ∷ 0 ∷ 0 ∷ 1 ∷ 0 ∷ [])
     ∷ (map (λ n. holidays_fit (tabulate (λ k. k + 1) n)) (400 ∷ 401 ∷ []) are 1 ∷ 0 ∷ [])
-    -- 17 at opening, after 1 and 2
-    ∷ (opened_with [] ∷ opened_with (days 3) ∷ opened_with (days 401) ∷ opened_with (pos 5 ∷ pos 5 ∷ []) ∷ opened_with (negsuc 0 ∷ []) ∷ []
-    gives 0 ∷ 0 ∷ 17 ∷ 17 ∷ 17 ∷ [])
-    ∷ ((open_call (tables_with (pos 0 ∷ []) lent) (set schedule_words 0 (pos 0))).number
-    ∷ (open_call (tables_at [] [] [] (pos 0 ∷ [])) []).number ∷ []
-    gives 2 ∷ 1 ∷ [])
-    -- such a list makes the book unsound for every other call
+    -- such a list makes the book unsound
     ∷ (map (λ hs. sound_tables (changed hs)) (days 3 ∷ [] ∷ days 401 ∷ (pos 4 ∷ pos 4 ∷ []) ∷ (pos 0 ∷ []) ∷ []) are 1 ∷ 1 ∷ 0 ∷ 0 ∷ 0 ∷ [])
-    ∷ ((event_call (changed (pos 0 ∷ [])) (words 9 0 0 0) (replicate 5 (pos 7))).number ∷ (balance_call (changed (pos 0 ∷ [])) (pos 1)).number ∷ [] gives 1 ∷ 1 ∷ [])
     ∷ []
 
 pub business-day-examples : map (λ c. c.got) cases ≡ map (λ c. c.want) cases

@@ -1,5 +1,5 @@
 -- The class of a vehicle by the printed page's cases (document 02, No. 3): the first that holds gives it, and just one holds.
-use mathlib.Core.Path.{◌≡◌, refl}
+use mathlib.Core.Path.{◌≡◌, refl, ◌∙◌}
 use mathlib.Core.Bool.{Bool, true, false, not, cond, ◌&&◌, ◌||◌}
 use Prim.Native.Nat.{ℕ, zero, suc, ◌+◌, ◌≤◌}
 use native.Mathlib.Omega.{arith}
@@ -63,3 +63,25 @@ one-class-case axles height l = elim (dec_le height low_height) [
   | yes h ↦ rw (le-leb height low_height h, le-ltb low_height height h) (holding-one true axles l)
   | no h ↦ rw (lt-leb height low_height (omega arith), lt-ltb low_height height (omega arith)) (holding-one false axles l)
 ]
+
+-- joining tests of which at most one holds leaves how many hold of all
+joined : (a b c d e : Bool) → cond a 1 0 + (cond b 1 0 + (cond c 1 0 + (cond d 1 0 + (cond e 1 0 + 0)))) ≤ 1
+    → cond a 1 0 + (cond (b || c || d) 1 0 + (cond e 1 0 + 0)) ≡ cond a 1 0 + (cond b 1 0 + (cond c 1 0 + (cond d 1 0 + (cond e 1 0 + 0))))
+joined a true true d e l = absurd (omega (arith, l))
+joined a true false true e l = absurd (omega (arith, l))
+joined a true false false e l = omega arith
+joined a false true true e l = absurd (omega (arith, l))
+joined a false true false e l = omega arith
+joined a false false d e l = omega arith
+
+-- the same of the classes that the rules use, which join the page's three clauses of class 2
+pub one-class : (axles height : ℕ) → 1 ≤ axles → count (λ c. c.1) (classes axles height) ≡ cond (axles is 1 && ltb low_height height) 0 1
+unfolding classes class_cases count sum_by
+one-class axles height l =
+    let one : count (λ c. c.1) (class_cases axles height) ≡ cond (axles is 1 && ltb low_height height) 0 1 = one-class-case axles height l in
+    joined (leb axles 2 && leb height low_height) (axles is 2 && ltb low_height height) (axles is 3) (axles is 4) (leb 5 axles)
+    (rw one (at-most-1 (axles is 1 && ltb low_height height))) ∙ one
+  where
+    at-most-1 : (b : Bool) → cond b 0 1 ≤ 1
+    at-most-1 true = omega arith
+    at-most-1 false = omega arith

@@ -1,16 +1,13 @@
--- Heavy debtors at their limit (document 02, No. 7), computed from the definitions: what counts, how many rows are read, refusals.
+-- Heavy debtors at their limit (document 02, No. 7), computed from the definitions: what counts, how many rows are read.
 use mathlib.Core.Path.{◌≡◌, refl}
 use mathlib.Core.Bool.{cond}
 use Prim.Native.Nat.{ℕ}
 use mathlib.Core.List.{List, [], ◌∷◌, ◌++◌, map}
-use lib.IntN.{ℤ, pos}
 use Rattle.rules.specs.Schedule.{Rates}
 use Rattle.rules.specs.Book.{Instruction, Book}
 use Rattle.rules.specs.Opening.{opening}
 use Rattle.rules.specs.Posting.{book_after}
-use Rattle.rules.specs.Tables.{Tables, tables_of, tables_with}
 use Rattle.rules.specs.Debtors.{heavy, rows_read}
-use Rattle.rules.specs.Calls.{DebtorReply, debtor_call}
 use Rattle.rules.proofs.Computing.{computing}
 use Rattle.rules.proofs.Examples.{Case, ◌gives◌, event, ticks, schedule}
 
@@ -31,23 +28,16 @@ abbrev toll : ℕ → ℕ → ℕ → Instruction
 toll a p mode = event 2 a p 1 2 60 mode
 
 -- two accounts, and what is posted on them
-abbrev book : List Instruction → Book
+abbrev pub book : List Instruction → Book
 book es = book_after (opening 1 schedule dear 3 16) (event 1 1 0 0 0 0 0 ∷ event 1 2 0 0 0 0 0 ∷ es)
 
 -- yes or no, and the rows read
 abbrev asked : ℕ → List Instruction → List ℕ
 asked a es = cond (heavy (book es) a) 1 0 ∷ rows_read (book es) a ∷ []
 
--- the three words of a reply
-abbrev reply : DebtorReply → List ℤ
-reply r = pos r.number ∷ r.heavy ∷ r.rows ∷ []
-
 -- account 1 owes 25,001 by its two rows, among others'
-abbrev among : List Instruction
+abbrev pub among : List Instruction
 among = toll 2 41 plate ∷ toll 1 42 tag ∷ toll 2 43 plate ∷ toll 1 44 plate ∷ toll 2 45 plate ∷ []
-
-abbrev sound : Tables
-sound = tables_of (book among)
 
 pub cases : List Case
 cases =
@@ -72,12 +62,6 @@ cases =
     ∷ (asked 1 (event 3 1 30_000 3 0 0 0 ∷ event 4 1 1 500 0 0 0 ∷ toll 1 41 tag ∷ []) gives 1 ∷ 4 ∷ [])
     -- also where it is owed: 25,000 of it, since the check had paid a toll
     ∷ (asked 1 (toll 1 41 tag ∷ event 3 1 30_000 3 0 0 0 ∷ event 4 1 2 500 0 0 0 ∷ []) gives 0 ∷ 4 ∷ [])
-    -- the call: yes; no; 3 of an account that is unused or outside the table, and 1, without a count
-    ∷ record { got = reply (debtor_call sound (pos 1)); want = pos 0 ∷ pos 1 ∷ pos 4 ∷ [] }
-    ∷ record { got = reply (debtor_call sound (pos 2)); want = pos 0 ∷ pos 0 ∷ pos 5 ∷ [] }
-    ∷ record { got = reply (debtor_call sound (pos 3)); want = pos 3 ∷ pos 0 ∷ pos 0 ∷ [] }
-    ∷ record { got = reply (debtor_call sound (pos 4)); want = pos 3 ∷ pos 0 ∷ pos 0 ∷ [] }
-    ∷ record { got = reply (debtor_call (tables_with (pos 0 ∷ []) sound) (pos 1)); want = pos 1 ∷ pos 0 ∷ pos 0 ∷ [] }
     ∷ []
 
 pub debtor-examples : map (λ c. c.got) cases ≡ map (λ c. c.want) cases

@@ -5,10 +5,10 @@ use Prim.Native.Nat.{ℕ, zero, suc, ◌+◌, ◌-◌, ◌≤◌, ◌<◌}
 use native.Mathlib.Omega.{arith}
 use native.Mathlib.Decide.{dec_lt}
 use mathlib.Core.List.{List}
-use lib.ListN.{length, get_or, take}
+use lib.ListN.{length, get_or}
 use borrow.Author.Tests.{lt-ltb, ltb-true}
-use Rattle.lists.specs.Lists.{sum_by, only, first_from}
-use Rattle.lists.proofs.LeastLaws.{first-none, first-found, first-le, first-least, first-holds}
+use Rattle.lists.specs.Lists.{sum_by, only}
+use Rattle.lists.proofs.LeastLaws.{first-le, first-least, first-holds}
 use Rattle.lists.proofs.SumLaws.{sum_by-take-suc}
 use Rattle.records.specs.Limits.{heavy_debt}
 use Rattle.rules.specs.Rows.{Row, blank, remaining}

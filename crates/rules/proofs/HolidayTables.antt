@@ -8,7 +8,6 @@ use Rattle.lists.specs.Tests.{all_of}
 use Rattle.lists.specs.Lists.{every_from}
 use Rattle.rules.specs.BusinessDays.{holidays_fit}
 use Rattle.rules.specs.Book.{Book, with_holidays}
-use Rattle.rules.specs.Soundness.{sound}
 use Rattle.rules.specs.Tables.{Tables, tables_with, book_of, tables_of, header_words, lengths_fit, whole_records, used_fits, later_rows_zero, unused_lists_zero, sound_tables}
 use Rattle.rules.proofs.HolidayLaws.{holidays-again, sound-with_holidays}
 use Rattle.rules.proofs.TableLaws.{sound-part, sound-book}

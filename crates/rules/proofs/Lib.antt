@@ -21,7 +21,6 @@ pub mod HolidayTables
 pub mod OpeningLaws
 pub mod HolidaysKept
 pub mod Boundaries
-pub mod CallExamples
 pub mod KindLaws
 pub mod HolidayFrame
 pub mod Borders

@@ -8,11 +8,9 @@ use lib.IntN.{ℤ, pos, negsuc}
 use Rattle.rules.specs.RateLists.{RateList}
 use Rattle.rules.specs.Book.{Instruction, Book, row}
 use Rattle.rules.specs.Posting.{book_after}
-use Rattle.rules.specs.Tables.{Tables, tables_at, book_of, sound_tables}
-use Rattle.rules.specs.Calls.{Event, batch_call}
+use Rattle.rules.specs.Tables.{Tables, tables_at, book_of, tables_of, sound_tables}
 use Rattle.rules.proofs.Computing.{computing}
 use Rattle.rules.proofs.Examples.{Case, ◌gives◌, event, ticks, small, numbers}
-use Rattle.rules.proofs.CallExamples.{opened}
 use Rattle.rules.proofs.Borders.{◌are◌}
 
 -- ---- how cases are written
@@ -46,11 +44,12 @@ too_many = map (λ d. list_from d 1) (2 ∷ 3 ∷ 4 ∷ 5 ∷ 6 ∷ 7 ∷ 36_525
 
 -- ---- a book with two lists after the first, and one word of its header changed
 
-abbrev sent10 : ℕ → Event
-sent10 day = record { kind = pos 10; account = pos 0; a = pos day; b = pos 1; c = pos 1; d = pos 1; e = pos 1; f = pos 1; g = pos 1_000_000 }
+-- event 10: a list from a day on, its last rate the highest
+abbrev highest_from : ℕ → Instruction
+highest_from day = record { kind = 10; account = 0; a = day; b = 1; c = 1; d = 1; e = 1; f = 1; g = 1_000_000 }
 
 abbrev listed : Tables
-listed = (batch_call opened (sent10 5 ∷ sent10 9 ∷ []) (replicate 10 (pos 7))).tables
+listed = tables_of (book_after (small 1) (highest_from 5 ∷ highest_from 9 ∷ []))
 
 abbrev word : ℕ → ℤ → Tables
 word k z = tables_at (set listed.header k z) listed.accounts listed.journal []

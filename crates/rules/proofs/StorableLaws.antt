@@ -233,6 +233,7 @@ topup-parts x e =
 -- ---- a schedule's words
 
 pub record StorableSchedule (s : Schedule) : Type 0 where
+  pub least : 1 ≤ s.stage
   pub stage : s.stage ≤ longest_stage
   pub fee2 : s.fee2 ≤ highest_fee
   pub fee3 : s.fee3 ≤ highest_fee
@@ -248,6 +249,7 @@ schedule-storable s e =
     let e3 = and_left (l && f2 && f3) f4 e in
     let e2 = and_left (l && f2) f3 e3 in
     record {
+      least = leb-true 1 s.stage (and_left (leb 1 s.stage) _ (and_left l f2 e2));
       stage = between_le 1 longest_stage s.stage (and_left l f2 e2);
       fee2 = leb-true s.fee2 highest_fee (and_right l f2 e2);
       fee3 = leb-true s.fee3 highest_fee (and_right (l && f2) f3 e3);

@@ -1,15 +1,13 @@
--- Top-up due beside held debts (document 02, No. 2), computed from the definitions: the question, event 7 and the balance.
+-- Top-up due beside held debts (document 02, No. 2), computed from the definitions: when it is due, event 7 and the balance.
 use mathlib.Core.Path.{◌≡◌, refl}
 use Prim.Native.Nat.{ℕ}
 use mathlib.Core.List.{List, [], ◌∷◌, ◌++◌, map}
 use lib.ListN.{replicate}
-use lib.IntN.{pos, negsuc}
+use lib.IntN.{negsuc}
 use Rattle.rules.specs.Settlement.{money, held_debt}
 use Rattle.rules.specs.Book.{Instruction, Book, balance, topup_due}
 use Rattle.rules.specs.Posting.{book_after}
 use Rattle.rules.specs.Opening.{opening}
-use Rattle.rules.specs.Tables.{tables_of}
-use Rattle.rules.specs.Calls.{topup_due_call}
 use Rattle.rules.proofs.Computing.{computing}
 use Rattle.rules.proofs.Examples.{Case, ◌gives◌, ◌amounts-to◌, event, ticks, rates, numbers}
 use Rattle.rules.proofs.Borders.{◌are◌}
@@ -38,7 +36,7 @@ abbrev part_held_then : ℕ → Book
 part_held_then amount = book_after opened (event 3 1 200 1 0 0 0 ∷ toll ∷ disputed_then 2 amount)
 
 -- it has a fee of 500
-abbrev fee_held_then : ℕ → Book
+abbrev pub fee_held_then : ℕ → Book
 fee_held_then amount = book_after opened (toll ∷ ticks 2 ++ disputed_then 1 amount)
 
 -- a result: 1 paid, 0 declined
@@ -55,9 +53,6 @@ cases =
     (map (λ n. topup_due (held_then n) 1) (1 ∷ 100 ∷ 101 ∷ 599 ∷ 600 ∷ []) are 1 ∷ 1 ∷ 0 ∷ 0 ∷ 0 ∷ [])
     ∷ (map (λ n. topup_due (part_held_then n) 1) (100 ∷ 101 ∷ []) are 1 ∷ 0 ∷ [])
     ∷ (map (λ n. topup_due (fee_held_then n) 1) (100 ∷ 101 ∷ []) are 1 ∷ 0 ∷ [])
-    -- the question on the tables of such books
-    ∷ ((topup_due_call (tables_of (fee_held_then 100)) (pos 1)).value amounts-to pos 1)
-    ∷ ((topup_due_call (tables_of (fee_held_then 101)) (pos 1)).value amounts-to pos 0)
     -- 11 for both results, else 0
     ∷ (results (held_then 101) ++ results (part_held_then 101) ++ results (fee_held_then 101) gives replicate 6 11)
     ∷ (results (held_then 100) ++ results (part_held_then 100) ++ results (fee_held_then 100) gives replicate 6 0)

@@ -15,5 +15,4 @@ pub mod Posting
 pub mod Opening
 pub mod Soundness
 pub mod Tables
-pub mod Calls
 pub mod SoundFacts

@@ -59,6 +59,11 @@ fewer c k q =
       | no h ↦ simp (le-ltb c k (omega arith), lt-leb c (k - 1) (omega arith))
     ]
 
+-- as the code tests it: one fee at least, and fewer than the stage
+pub few-within : (c : ℕ) (r : Row) → (c ≡ 0 → ⊥) → (toll r implies ltb c r.mark) ≡ fees_within c r
+unfolding fees_within
+few-within c r q = rw (fewer c r.mark q)
+
 -- more fees than too many are too many
 more-over : (c d : ℕ) (r : Row) → c ≤ d → fees_within c r ≡ false → fees_within d r ≡ false
 unfolding fees_within

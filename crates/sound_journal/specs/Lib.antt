@@ -1,2 +1,3 @@
 pub mod Bounds
 pub mod Passing
+pub mod Marks

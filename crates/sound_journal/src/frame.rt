@@ -4,13 +4,14 @@ ghost use Rattle.std.specs.Option.{option_eq};
 ghost use Rattle.records.specs.Codes.{kind_toll, kind_payment};
 ghost use Rattle.rules.specs.Soundness.{account_used, names, reference_fits};
 ghost use Rattle.sound_journal.specs.Bounds.{Bounds};
+ghost use Rattle.sound_journal.specs.Marks.{Marked};
 
 use records::Row;
-use records::codes::{KIND_CREDIT, KIND_FEE, KIND_PAYMENT, KIND_REVERSAL, KIND_TOLL, STATE_UNUSED};
+use records::codes::{KIND_CREDIT, KIND_FEE, KIND_PAYMENT, KIND_REVERSAL, KIND_TOLL};
+use records::limits::SLOT_COUNT;
 use sound_header::tests::implies;
 use sound_rows::row::{other_alone, toll_alone};
 use sound_tolls::Term;
-use table_accounts::account_numbered;
 use table_rows::Rows;
 
 // The accounts and the used rows of lent tables, the day, and the length of a stage.
@@ -20,7 +21,9 @@ pub struct Frame<'a> {
     pub count: usize, // accounts
     pub rows: Rows<'a>,
     pub term: Term,
+    pub marks: &'a [bool; SLOT_COUNT], // which accounts are used, by number
     pub ghost bounds: { Bounds accounts.now count rows.used },
+    pub ghost marked: { Marked accounts.now count marks.now },
 }
 
 impl Frame<'_> {
@@ -29,8 +32,10 @@ impl Frame<'_> {
     fn account_used(&self, r: Row) -> bool
         ensures { result ≡ account_used (frame_accounts self.now) r }
     {
-        let x = account_numbered(self.accounts, self.count, r.account);
-        x.state != STATE_UNUSED
+        if r.account >= SLOT_COUNT as u64 {
+            return false;
+        }
+        self.marks[r.account as usize]
     }
 
     // The kind of the earlier row of the same account that row number n, r, refers to.

@@ -1,6 +1,7 @@
 // The clauses of soundness on each row of the journal: its own, its account, its reference; and the rows past the used ones.
 #![tactic(auto)]
 
+pub mod marks; // marks.rt: which accounts are used
 pub mod frame; // frame.rt: the tables' used rows and accounts, and what is tested of a row
 
 ghost use Rattle.std.specs.Prelude.{◌≡◌, ◌*◌, ◌≤◌, length};

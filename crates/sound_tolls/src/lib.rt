@@ -62,6 +62,7 @@ pub struct Term {
 }
 
 impl Term {
+    // A toll due after today is due late enough, running or not: told first, since due days rise with the rows, and nearly so.
     fn due_fits(self, r: Row) -> bool
         requires { r.kind ≡ kind_toll }
         ensures { result ≡ due_fits self.today self.stage r }
@@ -69,8 +70,11 @@ impl Term {
         if r.due > self.today + self.stage {
             return false;
         }
+        if self.today < r.due {
+            return true;
+        }
         if running(r) {
-            return self.today < r.due;
+            return false;
         }
         1 <= r.due
     }

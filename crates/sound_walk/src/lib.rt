@@ -101,14 +101,15 @@ impl Arrays<'_> {
         true
     }
 
-    // The used rows, one after another.
+    // The used rows, one after another. By a frame of its own: what is lent could change, for all that a compiler knows, at each store.
     pub fn walk(&mut self, f: &Frame) -> bool
         requires { Walked f.now self.old 0 }
         ensures walks { Walks f.now self.new f.now.rows.used result }
         ensures same { SameArrays self.old self.new }
     {
-        for i in 0..f.rows.used {
-            if !self.turn(f, i) {
+        let own = *f;
+        for i in 0..own.rows.used {
+            if !self.turn(&own, i) {
                 return false;
             }
         }

@@ -16,6 +16,7 @@ use records::limits::MOST_ROWS;
 use sound_header::header::{day_fits, lengths_fit, schedule_fits};
 use sound_journal::frame::Frame;
 use sound_journal::later_rows_zero;
+use sound_journal::marks::marks_of;
 use sound_lists::lists_stand;
 use sound_passages::passages::{CELLS, ROW_CELLS};
 use sound_sums::accounts::all_agree;
@@ -27,13 +28,19 @@ use tables::words::get;
 // A row's number counts from 1, so that there is a count more than rows.
 const COUNTS: usize = MOST_ROWS + 1;
 
-// Up to as many rows are checked with small arrays, of 10 KiB and not 80: to clear those for the most rows would take longer than to check
-// so few.
+// Up to as many rows are checked with small arrays, of 10 KiB and not 80, or of 20: to clear those for the most rows would take as long as
+// to check so few, or a twentieth of it.
 const FEW_ROWS: usize = 1024;
 
 const FEW_CELLS: usize = FEW_ROWS * ROW_CELLS;
 
 const FEW_COUNTS: usize = FEW_ROWS + 1;
+
+const MORE_ROWS: usize = 2048;
+
+const MORE_CELLS: usize = MORE_ROWS * ROW_CELLS;
+
+const MORE_COUNTS: usize = MORE_ROWS + 1;
 
 // The used rows and the accounts, with arrays for so many rows: one pass over the rows, then the sums of accounts that it leaves.
 fn stand_with<const ROWS: usize, const CELLS: usize, const COUNTS: usize>(f: &Frame) -> bool
@@ -65,6 +72,9 @@ fn book_passes(f: &Frame) -> bool
 {
     if f.rows.used <= FEW_ROWS {
         return stand_with::<FEW_ROWS, FEW_CELLS, FEW_COUNTS>(f);
+    }
+    if f.rows.used <= MORE_ROWS {
+        return stand_with::<MORE_ROWS, MORE_CELLS, MORE_COUNTS>(f);
     }
     stand_with::<MOST_ROWS, CELLS, COUNTS>(f)
 }
@@ -98,11 +108,14 @@ fn three_sound(t: Tables) -> bool
         today,
         stage: get(t.header, HEADER_SCHEDULE + STAGE_PLACE),
     };
+    let count = t.count();
+    let marks = marks_of(t.accounts, count);
     let f = Frame {
         accounts: t.accounts,
-        count: t.count(),
+        count,
         rows: t.rows(),
         term,
+        marks: &marks,
     };
     book_passes(&f)
 }

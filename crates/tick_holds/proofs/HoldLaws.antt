@@ -1,4 +1,4 @@
--- Laws of the end of holds: a released row fits, the accounts settled are those of which a hold has ended.
+-- Laws of the end of holds: a released row fits, the accounts settled are those of which a hold has ended and that have money.
 use mathlib.Core.Path.{◌≡◌, refl, sym, ap, ◌∙◌}
 use mathlib.Core.Bool.{Bool, true, false, cond}
 use Prim.Native.Nat.{ℕ, zero, suc, ◌+◌, ◌-◌, ◌^◌, ◌≤◌, ◌<◌}
@@ -7,7 +7,7 @@ use native.Mathlib.Numerals.{add-one}
 use mathlib.Core.List.{List}
 use lib.IntN.{ℤ}
 use lib.ListN.{length, get_or}
-use lib.Dec.{eqb, ltb}
+use lib.Dec.{eqb}
 use borrow.Author.Tests.{eqb-true}
 use Rattle.records.specs.Codes.{kind_toll}
 use Rattle.lists.specs.Tests.{◌is◌}
@@ -16,10 +16,10 @@ use Rattle.lists.proofs.TestLaws.{and_left, and_right}
 use Rattle.lists.proofs.ListLaws.{tabulate-at}
 use Rattle.records.specs.Layout.{day_place}
 use Rattle.records.specs.Encoding.{word, row_at, rows_of, StorableRow}
-use Rattle.records.specs.Limits.{hold_days, slot_count}
+use Rattle.records.specs.Limits.{hold_days}
 use Rattle.rules.specs.Rows.{Row, blank, held_toll}
 use Rattle.rules.specs.Events.{release}
-use Rattle.rules.specs.Settlement.{settle}
+use Rattle.rules.specs.Settlement.{money, settle}
 use Rattle.rules.specs.Book.{Book}
 use Rattle.rules.specs.Tick.{hold_ends, end_hold}
 use Rattle.rules.specs.Tables.{Tables, accounts_in, rows_used, book_of, sound_tables}
@@ -29,17 +29,16 @@ use Rattle.rules.proofs.TableLaws.{sound-book, sound-rows}
 use Rattle.rules.proofs.StorableLaws.{row-storable, day-le, stage-le}
 use Rattle.preservation.proofs.DisputeKept.{HeldToll, held-is}
 use Rattle.preservation.proofs.TickSteps.{ended, ended-rows, end_hold-keeps}
-use Rattle.tick_rules.specs.Ticks.{freed, settle_those}
+use Rattle.tick_rules.specs.Ticks.{freed, freed_with_money, settle_those}
 use Rattle.tick_rules.proofs.FreedLaws.{freed-settled, none-ended}
 use Rattle.tables.specs.Changes.{RowIn, RowsMapped}
 use Rattle.tables.proofs.ChangeLaws.{mapped-all}
 use Rattle.row_passes.specs.Passes.{RowLeft}
 use Rattle.settlement.specs.Settling.{Journal, RowsBecome}
-use Rattle.account_sums.specs.Tallies.{Tallied}
 use Rattle.posting.proofs.BookLaws.{day-read, used-read, count-read, used-room}
 use Rattle.tick_base.specs.Remainders.{counted}
 use Rattle.tick_base.proofs.MidwayLaws.{sound-midway, midway-row}
-use Rattle.tick_holds.specs.Holds.{ends_of, Ending, EndingRows, SettledThose, UnraisedRows}
+use Rattle.tick_holds.specs.Holds.{Ending, EndingRows, HoldsCounted, pays_by, SettledThose, UnraisedRows}
 
 -- ---- the rows of a sound journal can be released
 
@@ -110,12 +109,12 @@ settle_those-row t (suc n) rows i = go (t (suc n)) (settle_those-row t n rows i)
     go true ih = (settle-row (suc n) (settle_those t n rows) i).kept ∙ ih
     go false ih = ih
 
-pub settled-journal : (ends : List ℕ) (n : ℕ) (t u : List ℤ) (used : ℕ) → Journal t used → SettledThose ends n t u used → Journal u used
-settled-journal ends n t u used j s =
+pub settled-journal : (ends money : List ℕ) (n : ℕ) (t u : List ℤ) (used : ℕ) → Journal t used → SettledThose ends money n t u used → Journal u used
+settled-journal ends money n t u used j s =
     record {
       room = rw s.size j.room;
       amounts = λ k h.
-          let f : ℕ → Bool = λ a. ltb 0 (get_or ends a 0) in
+          let f : ℕ → Bool = pays_by ends money in
           let e : get_or (rows_of u used) k blank ≡ row_at u k = tabulate-at (row_at u) used k blank h in
           let g : get_or (rows_of t used) k blank ≡ row_at t k = tabulate-at (row_at t) used k blank h in
           let a : (row_at u k).amount ≡ (row_at t k).amount = rw (← e, ← g, s.rows) (ap (λ (r : Row). r.amount) (settle_those-row f n (rows_of t used) k)) in
@@ -130,27 +129,30 @@ mapped-journal today t u used j m = record {
 
 -- ---- one account more
 
-pub settled-none : (ends : List ℕ) (t : List ℤ) (used : ℕ) → SettledThose ends 0 t t used
+pub settled-none : (ends money : List ℕ) (t : List ℤ) (used : ℕ) → SettledThose ends money 0 t t used
 unfolding settle_those
-settled-none ends t used = record { size = refl; rows = refl; rest = λ k h. refl }
+settled-none ends money t used = record { size = refl; rows = refl; rest = λ k h. refl }
 
-pub settled-more : (ends : List ℕ) (n : ℕ) (t u v : List ℤ) (used : ℕ) → SettledThose ends n t u used
-    → RowsBecome u v used (cond (ltb 0 (get_or ends (n + 1) 0)) (settle (n + 1) (rows_of u used)) (rows_of u used)) → SettledThose ends (n + 1) t v used
-unfolding settle_those
-settled-more ends n t u v used f g = record {
-  size = g.size ∙ f.size;
-  rows = rw (add-one n) (g.rows ∙ rw (f.rows, add-one n));
-  rest = λ k h. g.rest k h ∙ f.rest k h;
-}
+module _ (ends money : List ℕ) (n : ℕ) (t u : List ℤ) (used : ℕ) (f : SettledThose ends money n t u used) where
+  -- it is settled
+  pub settled-more : (v : List ℤ) → pays_by ends money (n + 1) ≡ true → RowsBecome u v used (settle (n + 1) (rows_of u used)) → SettledThose ends money (n + 1) t v used
+  unfolding settle_those
+  settled-more v e g =
+      record { size = g.size ∙ f.size; rows = rw (add-one n) (g.rows ∙ rw (f.rows, ← add-one n, e)); rest = λ k h. g.rest k h ∙ f.rest k h }
+
+  -- it is left
+  pub settled-less : pays_by ends money (n + 1) ≡ false → SettledThose ends money (n + 1) t u used
+  unfolding settle_those
+  settled-less e = record { size = f.size; rows = rw (add-one n) (f.rows ∙ rw (← add-one n, e)); rest = f.rest }
 
 -- ---- both steps
 
-module _ (t : Tables) (s : sound_tables t ≡ true) (ends : List ℕ) (u v : List ℤ) (c : Tallied (ends_of (word t.header day_place + 1)) slot_count t.journal ends (rows_used t))
-    (m : RowsMapped (end_hold (word t.header day_place + 1)) t.journal u (rows_used t)) (d : SettledThose ends (accounts_in t) u v (rows_used t)) (few : accounts_in t ≤ 256) where
-  -- the counts tell which accounts have a hold that ended
-  freed-counted : (n : ℕ) → n ≤ accounts_in t → ltb 0 (get_or ends n 0) ≡ freed ((book_of t).day + 1) (book_of t).rows n
-  unfolding freed exists count counted
-  freed-counted n h = rw (c.each n (omega arith), sound-rows t s, day-read t s)
+module _ (t : Tables) (s : sound_tables t ≡ true) (ends moneys : List ℕ) (u v : List ℤ) (c : HoldsCounted t ends moneys)
+    (m : RowsMapped (end_hold (word t.header day_place + 1)) t.journal u (rows_used t)) (d : SettledThose ends moneys (accounts_in t) u v (rows_used t)) (few : accounts_in t ≤ 256) where
+  -- the counts and sums tell which accounts have a hold that ended, and money
+  freed-counted : (n : ℕ) → n ≤ accounts_in t → pays_by ends moneys n ≡ freed_with_money ((book_of t).day + 1) (book_of t).rows n
+  unfolding freed_with_money freed exists count counted money
+  freed-counted n h = rw (c.ends.each n (omega arith), c.money.each n (omega arith), sound-rows t s, day-read t s)
 
   same-those : (f g : ℕ → Bool) (n : ℕ) (rows : List Row) → ((k : ℕ) → k ≤ n → f k ≡ g k) → settle_those f n rows ≡ settle_those g n rows
   unfolding settle_those
@@ -163,7 +165,7 @@ module _ (t : Tables) (s : sound_tables t ≡ true) (ends : List ℕ) (u v : Lis
   pub unraised-written : UnraisedRows t v
   unraised-written = record {
     size = d.size ∙ m.size;
-    rows = d.rows ∙ rw ended-written (same-those (λ a. ltb 0 (get_or ends a 0)) (freed ((book_of t).day + 1) (book_of t).rows) (accounts_in t) (ended (book_of t)) freed-counted
+    rows = d.rows ∙ rw ended-written (same-those (pays_by ends moneys) (freed_with_money ((book_of t).day + 1) (book_of t).rows) (accounts_in t) (ended (book_of t)) freed-counted
         ∙ rw (count-read t s) (sym (freed-settled (book_of t) (sound-book t s))));
     rest = λ k h. d.rest k h ∙ m.left k h;
   }
@@ -174,11 +176,8 @@ unraised-same t s z =
     let r : rows_of t.journal (rows_used t) ≡ (book_of t).rows = sym (sound-rows t s) in
     record { size = refl; rows = r ∙ sym (none-ended (book_of t) (sound-book t s) z); rest = λ k h. refl }
 
--- ---- one row released, one account settled
+-- ---- one row released
 
 pub release-due : (today : ℕ) (r : Row) → StorableRow (release today r) → r.due + (today - r.hold) < 2 ^ 63
 unfolding release
 release-due today r s = s.due
-
-pub settled-not : (used : ℕ) (t : List ℤ) → RowsBecome t t used (rows_of t used)
-settled-not used t = record { size = refl; rows = refl; rest = λ k h. refl }

@@ -4,13 +4,12 @@
 
 ghost use Rattle.std.specs.Prelude.{◌≡◌, true, ◌≤◌};
 ghost use Rattle.records.specs.Encoding.{row_at};
-ghost use Rattle.records.specs.Limits.{most_accounts, slot_count};
+ghost use Rattle.records.specs.Limits.{most_accounts};
 ghost use Rattle.rules.specs.Tick.{end_hold};
 ghost use Rattle.rules.specs.Tables.{sound_tables};
 ghost use Rattle.tables.specs.Changes.{RowIn, RowChanged, RowsMapped};
-ghost use Rattle.account_sums.specs.Tallies.{Tallied};
 ghost use Rattle.settlement.specs.Settling.{Journal};
-ghost use Rattle.tick_holds.specs.Holds.{ends_of, Ending, EndingRows, SettledThose, UnraisedRows};
+ghost use Rattle.tick_holds.specs.Holds.{Ending, EndingRows, HoldsCounted, SettledThose, UnraisedRows};
 ghost use Rattle.lent.specs.Lent.{lent_mut, SameTables};
 
 use account_sums::SLOTS;
@@ -19,20 +18,7 @@ use posting::rows::released;
 use row_passes::change_rows;
 use settlement::settle;
 use table_rows::{read_row, write_row};
-use tick_base::days::hold_ends;
-use tick_base::holds::{count_held, ends_at};
-use tick_base::rows::CountableRows;
-
-// How many holds of each account end.
-fn count_ends(countable: &CountableRows, today: u64) -> [u64; SLOTS]
-    ensures { Tallied (ends_of today) slot_count countable.now.rows.journal.now result countable.now.rows.used }
-{
-    let mut ends = [0; SLOTS];
-    for i in 0..countable.rows.used {
-        count_held(countable, i, &mut ends, |r| hold_ends(r, today));
-    }
-    ends
-}
+use tick_base::holds::ends_at;
 
 // Row i, released where its hold ends.
 fn end_hold(journal: &mut [i64], i: usize, today: u64)
@@ -54,22 +40,29 @@ fn end_holds(journal: &mut [i64], used: usize, today: u64)
     change_rows(journal, used, |rows, i| end_hold(rows, i, today));
 }
 
-// Accounts 1 to `count`, those settled of which a hold has ended.
-fn settle_freed(journal: &mut [i64], used: usize, count: usize, ends: &[u64; SLOTS])
+// Accounts 1 to `count`, those settled of which a hold has ended and that have unused money.
+fn settle_freed(
+    journal: &mut [i64],
+    used: usize,
+    count: usize,
+    ends: &[u64; SLOTS],
+    money: &[u64; SLOTS],
+)
     requires { Journal journal.old used × (count ≤ most_accounts) }
-    ensures { SettledThose ends.now count journal.old journal.new used }
+    ensures { SettledThose ends.now money.now count journal.old journal.new used }
 {
     for i in 0..count {
         let n = i + 1;
-        if 0 < ends[n] {
+        if (0 < ends[n]) & (0 < money[n]) {
             settle(journal, used, n as u64);
         }
     }
 }
 
-// The holds that end at the tick to the next day, and the settlement that they allow.
-pub fn free_and_settle(t: &mut TablesMut)
-    requires { sound_tables (lent_mut t.old) ≡ true }
+// The holds that end at the tick to the next day, and the settlement that they allow, where it is counted by account how many end and what
+// money is unused.
+pub fn free_and_settle(t: &mut TablesMut, ends: &[u64; SLOTS], money: &[u64; SLOTS])
+    requires { (sound_tables (lent_mut t.old) ≡ true) × HoldsCounted (lent_mut t.old) ends.now money.now }
     ensures same { SameTables t.old t.new }
     ensures header { t.new.header.now ≡ t.old.header.now }
     ensures accounts { t.new.accounts.now ≡ t.old.accounts.now }
@@ -77,9 +70,7 @@ pub fn free_and_settle(t: &mut TablesMut)
 {
     let used = t.used() as usize;
     let today = t.day() + 1;
-    let countable = CountableRows { rows: t.rows() };
-    let ends = count_ends(&countable, today);
     end_holds(t.journal, used, today);
     let count = t.count();
-    settle_freed(t.journal, used, count, &ends);
+    settle_freed(t.journal, used, count, ends, money);
 }

@@ -1,22 +1,23 @@
 -- Laws behind the counts of a tick: the fees of a header, the rows that a toll brings, the shares of a row in the sums.
 use mathlib.Core.Path.{◌≡◌, refl, sym, ap, ◌∙◌}
-use mathlib.Core.Bool.{Bool, true, false, not, cond, ◌&&◌, ◌||◌, true≢false, false≢true, and-true, and-false}
-use Prim.Native.Nat.{ℕ, zero, suc, ◌+◌, ◌≤◌, ◌<◌}
+use mathlib.Core.Bool.{Bool, true, false, not, cond, ◌&&◌, ◌||◌, or-false, true≢false, false≢true, and-true, and-false}
+use Prim.Native.Nat.{ℕ, zero, suc, ◌+◌, ◌-◌, ◌≤◌, ◌<◌}
 use native.Mathlib.Omega.{arith}
 use native.Mathlib.Numerals.{add-one}
 use mathlib.Core.List.{List}
 use mir.Val.{bool_byte}
-use Rattle.lists.proofs.TestLaws.{byte-one, byte-few}
+use Rattle.lists.proofs.TestLaws.{byte-one, byte-few, and_left, and_right}
+use Rattle.records.specs.Codes.{kind_toll}
 use lib.IntN.{ℤ}
 use lib.ListN.{length, get_or, replicate}
 use lib.Dec.{eqb, leb, ltb}
-use borrow.Author.Tests.{ne_eqb, lt-ltb, le-leb, ltb-true}
+use borrow.Author.Tests.{ne_eqb, lt-ltb, le-leb, ltb-true, eqb-true}
 use Rattle.std.specs.Prelude.{MatchBool}
 use Rattle.std.specs.List.{AllWithin, HoldsAt, range_with_len}
 use Rattle.std.proofs.lemmas.Bool.{MatchBool-at_false}
 use Rattle.std.proofs.lemmas.List.FromFn.{length-range_with_len, get_or-range_with_len}
 use Rattle.lists.specs.Tests.{◌is◌}
-use Rattle.lists.specs.Lists.{sum_by, exists, count, one, gather, gather_from, tabulate}
+use Rattle.lists.specs.Lists.{sum_by, only, exists, count, one, gather, gather_from, tabulate}
 use Rattle.lists.proofs.SumLaws.{sum_by-more}
 use Rattle.lists.proofs.GatherLaws.{length-gather-same, length-gather-tabulate}
 use Rattle.lists.proofs.ListLaws.{tabulate-at, length-tabulate}
@@ -25,7 +26,7 @@ use Rattle.records.specs.Encoding.{word, row_at, rows_of, account_at, accounts_o
 use Rattle.records.specs.Limits.{closing_days, most_rows, most_accounts, slot_count}
 use Rattle.rules.specs.Schedule.{Schedule, stage_fee}
 use Rattle.rules.specs.BusinessDays.{business_day}
-use Rattle.rules.specs.Rows.{Row, blank, dispute_held, held_toll}
+use Rattle.rules.specs.Rows.{Row, Test, blank, dispute_held, held_toll, unsettled, remaining, source_of, debit_of}
 use Rattle.rules.specs.Settlement.{money, owed}
 use Rattle.rules.specs.Book.{Account, state_pending, unused, Book}
 use Rattle.rules.specs.Tick.{hold_ends, rises, fee_row}
@@ -36,11 +37,17 @@ use Rattle.account_sums.specs.Tallies.{Tallied, money_of, owed_of}
 use Rattle.rules.proofs.TableLaws.{sound-book, sound-rows}
 use Rattle.rules.proofs.StorableLaws.{accounts-le}
 use Rattle.posting.proofs.BookLaws.{day-read, schedule-read, used-small, count_small}
-use Rattle.account_sums.proofs.TallyLaws.{tallied-none}
+use Rattle.account_sums.proofs.TallyLaws.{tallied-none, tallied-skip}
+use Rattle.account_sums.proofs.SumsLaws.{share-skipped}
+use Rattle.preservation.proofs.DisputeKept.{HeldToll, held-is}
+use Rattle.preservation.proofs.TickSteps.{rising}
 use Rattle.tick_base.specs.declared.sums.Remains.{Remains}
 use Rattle.tick_base.specs.Remainders.{Remainders, counted, days_over}
-use Rattle.tick_base.proofs.StageLaws.{not-due, not-held}
-use Rattle.tick_plan.specs.Plans.{stays_of, close_by, close_at, NoneClosesBy, refund_by, refunds_at, refund_at, RowsCounted, Planned}
+use Rattle.tick_base.proofs.StageLaws.{not-due, not-held, share-counted}
+use Rattle.tick_base.proofs.MidwayLaws.{sound-midway, midway-each}
+use Rattle.tick_plan.specs.Marks.{block_count, Marked}
+use Rattle.tick_plan.proofs.MarkLaws.{marked-none, marked-past}
+use Rattle.tick_plan.specs.Plans.{stays_of, ends_of, HeldOpen, close_by, close_at, NoneClosesBy, refund_by, refunds_at, refund_at, RowsCounted, Planned}
 use Rattle.tick_plan.specs.declared.rows.RowCounts.{RowCounts}
 
 -- ---- the fee row of a toll
@@ -101,9 +108,9 @@ stays-held today r n = rw (not-held r n)
 -- ---- one row more
 
 -- of no rows
-pub rows_none : (h t : List ℤ) (today : ℕ) (m : Remains) → Remainders t m 0 → RowsCounted h t today (record { today = today; remains = m; stays = replicate slot_count 0; fees = 0; ending = false }) 0
+pub rows_none : (h t : List ℤ) (today : ℕ) (m : Remains) → Remainders t m 0 → RowsCounted h t today (record { today = today; remains = m; stays = replicate slot_count 0; ends = replicate slot_count 0; fees = 0; ending = false; marks = replicate block_count 0 }) 0
 unfolding gather_from exists count sum_by tabulate
-rows_none h t today m r = record { day = refl; sums = r; held = tallied-none (stays_of today) slot_count t; fees = refl; few = omega arith; ending = refl }
+rows_none h t today m r = record { day = refl; sums = r; held = tallied-none (stays_of today) slot_count t; ends = tallied-none (ends_of today) slot_count t; fees = refl; few = omega arith; ending = refl; marks = marked-none today t }
 
 module _ (h t : List ℤ) (today i : ℕ) where
   -- some row passes a test, with row n in view
@@ -117,18 +124,82 @@ module _ (h t : List ℤ) (today i : ℕ) where
       go (suc m) true = rw (lt-ltb 0 (suc m) (omega arith)) (lt-ltb 0 (suc m + 1) (omega arith))
       go (suc m) false = rw (lt-ltb 0 (suc m) (omega arith)) (lt-ltb 0 (suc m + 0) (omega arith))
 
-  pub rows_more : (c : RowCounts) → RowsCounted h t today c i → (m : Remains) (stays : List ℕ) → Remainders t m (i + 1) → Tallied (stays_of today) slot_count t stays (i + 1)
+  pub rows_more : (c : RowCounts) → RowsCounted h t today c i → (m : Remains) (stays endings : List ℕ) → Remainders t m (i + 1) → Tallied (stays_of today) slot_count t stays (i + 1)
+      → Tallied (ends_of today) slot_count t endings (i + 1)
       → (brings : Bool) → ((k : ℕ) → cond brings 1 0 ≡ length (fee_row (schedule_from h header_schedule) today k (row_at t i)))
       → (ends : Bool) → ends ≡ hold_ends today (row_at t i)
-      → RowsCounted h t today (record { today = c.today; remains = m; stays = stays; fees = c.fees + bool_byte brings; ending = c.ending || ends }) (i + 1)
-  rows_more c w m stays r s brings f ends e = record {
+      → (marks : List ℕ) → Marked today t marks (i + 1)
+      → RowsCounted h t today (record { today = c.today; remains = m; stays = stays; ends = endings; fees = c.fees + bool_byte brings; ending = c.ending || ends; marks = marks }) (i + 1)
+  rows_more c w m stays endings r s z brings f ends e marks d = record {
     day = w.day;
     sums = r;
     held = s;
+    ends = z;
     fees = omega (arith, w.fees, f (i + 1), byte-one brings, length-gather-tabulate (fee_row (schedule_from h header_schedule) today) (row_at t) i);
     few = omega (arith, w.few, byte-few brings);
     ending = rw (exists-more (hold_ends today) i, w.ending, e);
+    marks = d;
   }
+
+-- ---- a row of which nothing is left comes to nothing
+
+module _ (h t : List ℤ) (today i : ℕ) (spent : (row_at t i).settled ≡ (row_at t i).amount) (free : held_toll (row_at t i) ≡ false) where
+  nothing : (u : Test) → only u remaining (row_at t i) ≡ 0
+  unfolding only
+  nothing u = go (u (row_at t i))
+    where
+      go : (v : Bool) → cond v ((row_at t i).amount - (row_at t i).settled) 0 ≡ 0
+      go true = omega arith
+      go false = refl
+
+  no-riser : rises today (row_at t i) ≡ false
+  no-riser = go (rises today (row_at t i)) refl
+    where
+      go : (v : Bool) → rises today (row_at t i) ≡ v → v ≡ false
+      go true e = absurd (omega (arith, ltb-true (row_at t i).settled (row_at t i).amount (rising today (row_at t i) e).open-still))
+      go false e = refl
+
+  no-fee : length (fee_row (schedule_from h header_schedule) today (i + 1) (row_at t i)) ≡ 0
+  unfolding fee_row
+  no-fee = rw no-riser refl
+
+  ends-not : hold_ends today (row_at t i) ≡ false
+  unfolding hold_ends
+  ends-not = rw free refl
+
+  pub rows-spent : (c : RowCounts) → RowsCounted h t today c i → RowsCounted h t today c (i + 1)
+  rows-spent c w = record {
+    day = w.day;
+    sums = record {
+      moneys = tallied-skip money_of slot_count t c.remains.money i w.sums.moneys (λ n b. nothing (source_of n));
+      owings = tallied-skip owed_of slot_count t c.remains.owed i w.sums.owings (λ n b. nothing (debit_of n));
+    };
+    held = share-skipped (stays_of today) (λ r. held_toll r && not (hold_ends today r)) (λ r. 1) (share-counted (λ r. held_toll r && not (hold_ends today r))) t c.stays i w.held (rw free refl);
+    ends = share-skipped (ends_of today) (hold_ends today) (λ r. 1) (share-counted (hold_ends today)) t c.ends i w.ends ends-not;
+    fees = omega (arith, w.fees, no-fee, length-gather-tabulate (fee_row (schedule_from h header_schedule) today) (row_at t) i);
+    few = omega (arith, w.few);
+    ending = rw (exists-more h t today i (hold_ends today) i, ends-not, ← w.ending) (sym (or-false c.ending));
+    marks = marked-past today t c.marks i w.marks no-riser;
+  }
+
+-- a held toll of a sound book has something left
+pub held-open : (t : Tables) → sound_tables t ≡ true → HeldOpen t.journal (rows_used t)
+held-open t s =
+    let b = book_of t in
+    midway-each b.day t (sound-midway t s) (λ r. held_toll r ≡ true → unsettled r ≡ true) (λ k l e.
+    let r = get_or b.rows k blank in
+    let kind : r.kind ≡ kind_toll = eqb-true r.kind 1 (and_left (eqb r.kind 1) (eqb r.dispute 1) e) in
+    let disp : r.dispute ≡ 1 = eqb-true r.dispute 1 (and_right (eqb r.kind 1) (eqb r.dispute 1) e) in
+    let w : HeldToll b.day b.schedule.stage r = held-is b.day b.schedule.stage r kind disp ((sound-book t s).near.live k l).hold in
+    w.open-still)
+
+-- so a settled one is none
+pub held-not : (r : Row) → (held_toll r ≡ true → unsettled r ≡ true) → r.settled ≡ r.amount → held_toll r ≡ false
+held-not r f e = go (held_toll r) refl
+  where
+    go : (v : Bool) → held_toll r ≡ v → v ≡ false
+    go true h = absurd (omega (arith, ltb-true r.settled r.amount (f h)))
+    go false h = refl
 
 -- ---- the accounts tested one by one
 

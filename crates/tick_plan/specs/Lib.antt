@@ -1,1 +1,2 @@
 pub mod Plans
+pub mod Marks

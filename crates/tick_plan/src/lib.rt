@@ -3,12 +3,13 @@
 #![tactic(auto)]
 
 mod fees; // fees.rt: the fee of a toll that will rise
-mod rows; // rows.rt: what the used rows come to, in one pass
+pub mod marks; // marks.rt: marks on the blocks of rows in which a toll may rise
+pub mod rows; // rows.rt: what the used rows come to, in one pass
 mod refunds; // refunds.rt: the accounts that will close, and those of them with money left
 
 ghost use Rattle.std.specs.Prelude.{◌≡◌, true};
 ghost use Rattle.rules.specs.Tables.{tables_with, book_of, sound_tables};
-ghost use Rattle.tick_plan.specs.Plans.{Planned};
+ghost use Rattle.tick_plan.specs.Plans.{Planned, TablesCounted};
 ghost use Rattle.lent.specs.Lent.{lent_mut};
 
 use lent::TablesMut;
@@ -24,14 +25,22 @@ pub struct Plan {
     pub closing: bool,
 }
 
-pub fn plan_tick(t: &TablesMut, holidays: &[i64]) -> Plan
-    requires { sound_tables (tables_with holidays.now (lent_mut t.now)) ≡ true }
-    ensures { Planned (book_of (tables_with holidays.now (lent_mut t.now))) result }
+// What the used rows come to, counted for the next day.
+pub fn count_rows(t: &TablesMut) -> RowCounts
+    requires { sound_tables (lent_mut t.now) ≡ true }
+    ensures { TablesCounted (lent_mut t.now) result }
 {
     let today = t.day() + 1;
     let header = Header { words: t.header };
     let countable = CountableRows { rows: t.rows() };
-    let counts = RowCounts::of_rows(header, &countable, today);
+    RowCounts::of_rows(header, &countable, today)
+}
+
+pub fn plan_tick(t: &TablesMut, holidays: &[i64], counts: &RowCounts) -> Plan
+    requires { (sound_tables (tables_with holidays.now (lent_mut t.now)) ≡ true)
+        × TablesCounted (lent_mut t.now) counts.now }
+    ensures { Planned (book_of (tables_with holidays.now (lent_mut t.now))) result }
+{
     if !counts.any_closes(t, holidays) {
         return Plan {
             added: counts.fees,

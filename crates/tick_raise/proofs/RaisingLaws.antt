@@ -1,10 +1,10 @@
 -- The fourth step of a tick, turn after turn: the rows used after each, and the book at the end.
 use mathlib.Core.Path.{◌≡◌, refl, sym, ◌∙◌, ap}
 use mathlib.Core.Bool.{Bool, true, false, cond}
-use Prim.Native.Nat.{ℕ, ◌+◌, ◌*◌, ◌≤◌, ◌<◌}
+use Prim.Native.Nat.{ℕ, ◌+◌, ◌*◌, ◌/◌, ◌≤◌, ◌<◌}
 use native.Mathlib.Omega.{arith}
 use mathlib.Core.List.{List}
-use lib.ListN.{length}
+use lib.ListN.{length, get_or}
 use mir.Val.{bool_byte}
 use Rattle.lists.proofs.TestLaws.{byte-one}
 use lib.IntN.{ℤ}
@@ -20,8 +20,8 @@ use Rattle.rules.specs.Rows.{Row, blank, with_mark, with_due}
 use Rattle.rules.specs.Book.{Book}
 use Rattle.rules.specs.Tick.{rises, raise, fee_row, raise_tolls}
 use Rattle.rules.specs.Tables.{Tables, rows_used, room_in, book_of}
-use Rattle.rules.proofs.StorableLaws.{day-le, stage-le, row-storable}
-use Rattle.preservation.proofs.FeeLaws.{schedule-parts, stage_fee-le}
+use Rattle.rules.proofs.StorableLaws.{day-le, stage-le, row-storable, schedule-storable}
+use Rattle.preservation.proofs.FeeLaws.{stage_fee-le}
 use Rattle.preservation.proofs.TickSteps.{rising}
 use Rattle.posting.specs.Posts.{tables_over}
 use Rattle.posting.specs.Written.{Written}
@@ -29,6 +29,7 @@ use Rattle.posting.specs.Written.{UsedRows}
 use Rattle.posting_laws.proofs.UsedRowsLaws.{rows_before, rows_row, rows-schedule, rows_written}
 use Rattle.tick_base.specs.Midway.{Midway}
 use Rattle.tick_base.proofs.MidwayLaws.{midway-header, midway-rows, midway-few, midway-each}
+use Rattle.tick_plan.specs.Marks.{block_rows, Marked}
 use Rattle.tick_raise.specs.Raising.{schedule_of, stage_fee_row, Raisable, RowRaised}
 
 -- ---- the rows used after i turns
@@ -86,7 +87,7 @@ module _ (past : ℕ) (t : Tables) (m : Midway past t) where
     kind = omega arith;
     account = (storable-at i l).account;
     day = omega (arith, day-le past b m.near);
-    amount = omega (arith, stage_fee-le b.schedule (schedule-parts b.schedule m.near.schedule) ((r i).mark + 1));
+    amount = omega (arith, stage_fee-le b.schedule (schedule-storable b.schedule m.near.schedule) ((r i).mark + 1));
     settled = omega arith;
     mark = omega arith;
     due = omega arith;
@@ -138,6 +139,11 @@ module _ (past : ℕ) (t : Tables) (m : Midway past t) where
           row = rw (row_now, schedule-now, today-read) (raise-storable (r i) (storable-at i l));
           fee = rw (row_now, schedule-now, today-read) (fee-storable i l);
         }
+
+        -- its block has no mark: the row, which is as it was, does not rise
+        pub turn-marked : (marks : List ℕ) → Marked (word t.header day_place) t.journal marks (rows_used t) → (mark : ℕ) → mark ≡ get_or marks (i / block_rows) 0
+            → mark ≡ 0 → rises today (row_at j i) ≡ false
+        turn-marked marks m mark e z = rw (row_now, d) (m.none i l (sym e ∙ z))
 
         module _ (h' j' : List ℤ) (k : Bool) (w : RowRaised h h' j j' i today k) where
           pub turns_more : Turns t today h' j' (n + bool_byte k) (i + 1)

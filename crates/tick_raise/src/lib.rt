@@ -1,15 +1,16 @@
 // The fourth step of a day tick: tolls due today rise a stage, and from stage 2 a nonzero fee row naming each is added.
 #![tactic(auto)]
 
-ghost use Rattle.std.specs.Prelude.{◌≡◌, ◌+◌, ◌-◌, ◌^◌, ◌≤◌, ◌<◌, length};
+ghost use Rattle.std.specs.Prelude.{◌≡◌, false, ◌+◌, ◌-◌, ◌^◌, ◌≤◌, ◌<◌, length};
 ghost use Rattle.lists.specs.Lists.{count};
 ghost use Rattle.records.specs.Layout.{day_place};
-ghost use Rattle.records.specs.Encoding.{word};
+ghost use Rattle.records.specs.Encoding.{word, row_at};
 ghost use Rattle.rules.specs.Rows.{with_mark, with_due};
 ghost use Rattle.rules.specs.Tick.{rises, raise_tolls};
-ghost use Rattle.rules.specs.Tables.{book_of, room_in};
+ghost use Rattle.rules.specs.Tables.{book_of, room_in, rows_used};
 ghost use Rattle.posting.specs.Written.{Written};
 ghost use Rattle.tick_base.specs.Midway.{Midway};
+ghost use Rattle.tick_plan.specs.Marks.{Marked};
 ghost use Rattle.tick_raise.specs.Raising.{Raisable, RowRaised};
 ghost use Rattle.lent.specs.Lent.{lent_mut, SameTables};
 
@@ -22,6 +23,7 @@ use table_lists::Header;
 use table_rows::{due_at, read_row, write_row};
 use tables::words::get;
 use tick_base::stages::{fee_of_stage, is_rising};
+use tick_plan::marks::{BLOCK_ROWS, BLOCKS};
 
 // The toll a stage up, due a stage length later.
 fn raised(r: Row, days: u64) -> Row
@@ -58,10 +60,24 @@ fn raise_row(header: &mut [i64], journal: &mut [i64], i: usize, today: u64) -> b
     true
 }
 
-// The tolls due today are raised, in row order. The result is how many.
-pub fn raise_tolls(t: &mut TablesMut) -> u64
+// The same of a row whose block has this mark, 0 for none: no toll of one that has none rises.
+fn raise_marked(header: &mut [i64], journal: &mut [i64], i: usize, today: u64, mark: u64) -> bool
+    requires { Raisable header.old journal.old i today
+        × (mark ≡ 0 → rises today (row_at journal.old i) ≡ false) }
+    ensures { RowRaised header.old header.new journal.old journal.new i today
+        result }
+{
+    if mark == 0 {
+        return false;
+    }
+    raise_row(header, journal, i, today)
+}
+
+// The tolls due today are raised, in row order, in the blocks of rows that are marked. The result is how many.
+pub fn raise_tolls(t: &mut TablesMut, marks: &[u64; BLOCKS]) -> u64
     requires { Midway (word t.old.header.now day_place - 1) (lent_mut t.old)
-        × (length (raise_tolls (book_of (lent_mut t.old))).rows ≤ room_in (lent_mut t.old)) }
+        × (length (raise_tolls (book_of (lent_mut t.old))).rows ≤ room_in (lent_mut t.old))
+        × Marked (word t.old.header.now day_place) t.old.journal.now marks.now (rows_used (lent_mut t.old)) }
     ensures same { SameTables t.old t.new }
     ensures accounts { t.new.accounts.now ≡ t.old.accounts.now }
     ensures raised { result ≡ count (rises (word t.old.header.now day_place)) (book_of (lent_mut t.old)).rows }
@@ -71,7 +87,8 @@ pub fn raise_tolls(t: &mut TablesMut) -> u64
     let used = t.used() as usize;
     let mut n = 0;
     for i in 0..used {
-        n += u64::from(raise_row(&mut *t.header, &mut *t.journal, i, today));
+        let mark = marks[i / BLOCK_ROWS];
+        n += u64::from(raise_marked(&mut *t.header, &mut *t.journal, i, today, mark));
     }
     n
 }

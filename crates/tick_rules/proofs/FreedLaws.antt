@@ -1,4 +1,4 @@
--- The settlement after holds have ended: only accounts of which a hold ended can have something to move.
+-- The settlement after holds have ended: only accounts of which a hold ended and that have unused money can have something to move.
 use mathlib.Core.Path.{◌≡◌, refl, sym, ap, ◌∙◌}
 use mathlib.Core.Bool.{Bool, true, false, cond, ◌&&◌, and-false}
 use Prim.Native.Nat.{ℕ, zero, suc, ◌+◌, ◌≤◌, ◌<◌}
@@ -6,20 +6,20 @@ use native.Mathlib.Omega.{arith}
 use mathlib.Core.List.{List}
 use lib.ListN.{length, get_or}
 use lib.Seq.{ext_get_or}
-use lib.Dec.{eqb}
-use borrow.Author.Tests.{eq-eqb}
+use lib.Dec.{eqb, ltb}
+use borrow.Author.Tests.{eq-eqb, ltb-false}
 use Rattle.lists.specs.Lists.{exists}
 use Rattle.lists.proofs.ExistsLaws.{exists-none, none-exists}
 use Rattle.rules.specs.Rows.{Row, blank}
-use Rattle.rules.specs.Settlement.{moved, settle, settle_accounts}
+use Rattle.rules.specs.Settlement.{money, moved, settle, settle_accounts}
 use Rattle.rules.specs.Book.{Book, settled}
 use Rattle.rules.specs.Tick.{next_day, hold_ends, end_holds, before_raising}
 use Rattle.rules.proofs.SettlementLaws.{settle-same}
 use Rattle.rules.proofs.SettlementAccountsLaws.{settle_accounts-none}
 use Rattle.rules.specs.SoundFacts.{Near, Sound}
 use Rattle.preservation.proofs.NamedLaws.{sound-moved}
-use Rattle.preservation.proofs.TickSteps.{today, ended, ended-length, ended_at, ended-account, end_hold-goes-on}
-use Rattle.tick_rules.specs.Ticks.{freed, settle_those}
+use Rattle.preservation.proofs.TickSteps.{today, ended, ended-length, ended_at, ended-account, end_hold-goes-on, money-ended}
+use Rattle.tick_rules.specs.Ticks.{freed, freed_with_money, settle_those}
 use Rattle.tick_rules.proofs.KeptLaws.{gist, Kept, money-kept, debt-kept}
 
 -- ---- accounts that have nothing to move need no settlement
@@ -60,10 +60,22 @@ module _ (b : Book) where
           debt-kept b.day b s m (ended b) kept-ended (λ k l h. absurd (omega (arith, ended-length b))),
         )
 
-  pub freed-settled : Sound b → (before_raising b).rows ≡ settle_those (freed (today b) b.rows) (length b.accounts) (ended b)
+  -- an account without unused money has nothing to move
+  unpaid : (m : ℕ) → ltb 0 (money m b.rows) ≡ false → moved m (ended b) ≡ 0
+  unfolding moved
+  unpaid m e = omega (arith, money-ended b m, ltb-false 0 (money m b.rows) e)
+
+  still : Sound b → (m : ℕ) → 1 ≤ m → m ≤ length b.accounts → freed_with_money (today b) b.rows m ≡ false → moved m (ended b) ≡ 0
+  unfolding freed_with_money
+  still s m l h = go (freed (today b) b.rows m) refl
+    where
+      go : (v : Bool) → freed (today b) b.rows m ≡ v → v && ltb 0 (money m b.rows) ≡ false → moved m (ended b) ≡ 0
+      go true f e = unpaid m e
+      go false f e = moved-ended m f s.near ∙ sound-moved b s m l h
+
+  pub freed-settled : Sound b → (before_raising b).rows ≡ settle_those (freed_with_money (today b) b.rows) (length b.accounts) (ended b)
   unfolding before_raising settled end_holds next_day
-  freed-settled s =
-      sym (settle_those-all (freed (today b) b.rows) (length b.accounts) (ended b) (λ m l h f. moved-ended m f s.near ∙ sound-moved b s m l h))
+  freed-settled s = sym (settle_those-all (freed_with_money (today b) b.rows) (length b.accounts) (ended b) (still s))
 
 -- ---- where no hold ends, nothing changes
 
@@ -84,5 +96,9 @@ module _ (b : Book) (s : Sound b) (z : exists (hold_ends (b.day + 1)) b.rows ≡
   none-freed m =
       none-exists (λ r. eqb r.account m && hold_ends (today b) r) b.rows blank (λ k l. rw (goes_on k l) (and-false (eqb (get_or b.rows k blank).account m)))
 
+  none-paying : (m : ℕ) → freed_with_money (today b) b.rows m ≡ false
+  unfolding freed_with_money
+  none-paying m = rw (none-freed m)
+
   pub none-ended : (before_raising b).rows ≡ b.rows
-  none-ended = freed-settled b s ∙ settle_those-none (freed (today b) b.rows) none-freed (length b.accounts) (ended b) ∙ ended_same
+  none-ended = freed-settled b s ∙ settle_those-none (freed_with_money (today b) b.rows) none-paying (length b.accounts) (ended b) ∙ ended_same

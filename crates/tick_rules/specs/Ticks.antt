@@ -15,6 +15,10 @@ use Rattle.rules.specs.Tick.{hold_ends, fee_row}
 unfoldable pub freed : ℕ → List Row → ℕ → Bool
 freed today rows n = exists (λ r. r.account is n && hold_ends today r) rows
 
+-- and the account has unused money
+unfoldable pub freed_with_money : ℕ → List Row → ℕ → Bool
+freed_with_money today rows n = freed today rows n && ltb 0 (money n rows)
+
 -- of accounts 1 to n those settled that the test holds of
 unfoldable pub settle_those : (ℕ → Bool) → ℕ → List Row → List Row
 settle_those t zero rows = rows

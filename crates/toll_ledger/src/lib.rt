@@ -5,7 +5,7 @@
 ghost use Rattle.std.specs.Prelude.{◌≡◌, [], pos};
 ghost use Rattle.records.specs.Outcomes.{number_by};
 ghost use Rattle.call_questions.specs.Values.{value_of, heavy_of, rows_read_of};
-ghost use Rattle.rules.specs.Calls.{Gives, Replies, RepliesDebtor, open_call, event_call, batch_call, balance_call, topup_due_call, debtor_call};
+ghost use Rattle.call_rules.specs.Calls.{Gives, Replies, RepliesDebtor, open_call, event_call, batch_call, balance_call, topup_due_call, debtor_call};
 ghost use Rattle.rules.specs.Tables.{tables_at};
 
 use balances::debtor::Debtor;

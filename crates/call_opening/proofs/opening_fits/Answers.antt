@@ -1,5 +1,5 @@
 -- `opening_fits` meets its contract: a wrong number of words decides; else it is the clauses on day, schedule and rates.
-use Rattle.rules.specs.Calls.{opening_fits}
+use Rattle.call_rules.specs.Calls.{opening_fits}
 use borrow.Author.Tests.{eq-eqb, ne_eqb}
 use Rattle.call_opening.proofs.opening_fits.Goals as goal
 

@@ -1,20 +1,14 @@
 -- `row` meets its contract: a used row's words lie in the journal.
-use Rattle.call_questions.proofs.QuestionLaws.{no_row, row-part, Inside, row_inside}
+use Rattle.call_questions.proofs.QuestionLaws.{numbered, no_row, row-part, Inside, row_inside}
 use borrow.Author.Tests.{not-true, not-false}
 use native.Mathlib.Omega.{arith}
-use mathlib.Core.Path.{◌≡◌, refl, sym, ap, ◌∙◌}
+use mathlib.Core.Path.{◌≡◌, refl, sym, ◌∙◌}
 use mathlib.Core.Bool.{true, ◌&&◌}
 use Rattle.lists.specs.Tests.{◌from◌to◌}
 use Rattle.rules.specs.Tables.{tables_with, rows_used, sound_tables}
-use mir.Facts.{to_z-of_z}
-use Rattle.records.specs.Encoding.{nat_of}
 use Rattle.call_questions.proofs.row.Goals as goal
 use Rattle.lent.specs.Lent.{lent}
-use Rattle.call_questions.proofs.row.Goals.{After-natural-n, Else-not-row_used}
-
--- the row's number
-numbered : (c : After-natural-n) → c.natural-n.result ≡ nat_of c.args.number
-numbered c = c.natural-n.ensures ∙ ap nat_of (to_z-of_z c.ranges.number)
+use Rattle.call_questions.proofs.row.Goals.{Else-not-row_used}
 
 -- a row that is used
 there : (e : Else-not-row_used) → sound_tables (tables_with e.args.holidays.now (lent e.args.t)) && e.natural-n.result from 1 to rows_used (tables_with e.args.holidays.now (lent e.args.t)) ≡ true
@@ -24,7 +18,7 @@ inside : (e : Else-not-row_used) → Inside (tables_with e.args.holidays.now (le
 inside e = row_inside (tables_with e.args.holidays.now (lent e.args.t)) e.natural-n.result (there e)
 
 pub returns-then-not-row_used : goal.returns-then-not-row_used
-returns-then-not-row_used c = no_row _ _ _ (numbered (goal.at.returns-then-not-row_used c).After-natural-n) (sym c.row_used.ensures ∙ not-true _ c.if-not-row_used.true-raw) _
+returns-then-not-row_used c = no_row _ _ _ (numbered c.natural-n.ensures c.ranges.number) (sym c.row_used.ensures ∙ not-true _ c.if-not-row_used.true-raw) _
 
 pub overflow_sub-start : goal.overflow_sub-start
 overflow_sub-start c = omega (arith, (inside c).first)
@@ -42,4 +36,4 @@ pub slice_bounds-result-end-2 : goal.slice_bounds-result-end-2
 slice_bounds-result-end-2 c = omega (arith, (inside (goal.at.slice_bounds-result-end-2 c).Else-not-row_used).room)
 
 pub returns : goal.returns
-returns c = row-part (tables_with c.args.holidays.now (lent c.args.t)) _ _ (numbered (goal.at.returns c).After-natural-n) _ (there (goal.at.returns c).Else-not-row_used) refl _
+returns c = row-part (tables_with c.args.holidays.now (lent c.args.t)) _ _ (numbered c.natural-n.ensures c.ranges.number) _ (there (goal.at.returns c).Else-not-row_used) refl _

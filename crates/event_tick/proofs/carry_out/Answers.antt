@@ -2,17 +2,18 @@
 use native.Mathlib.Omega.{arith}
 use Rattle.rules.proofs.TableLaws.{header-length}
 use Rattle.rules.proofs.HolidayTables.{sound-without}
+use Rattle.rules.specs.Tables.{tables_with}
 use Rattle.lent.specs.Lent.{lent_mut}
 use Rattle.posting.proofs.BookLaws.{day-small, used-small}
 use Rattle.event_tick.proofs.AnyHolidays.{midway-without, unraised-with, raised-rows, raised-with, unraised-count, holds-planned}
-use Rattle.event_tick.proofs.StepLaws.{unraised-midway, unraised-room, late-closing, end-header, end-longer, tick-posts}
+use Rattle.event_tick.proofs.StepLaws.{unraised-midway, unraised-room, unraised-marked, late-closing, end-header, end-longer, tick-posts}
 use Rattle.event_tick.proofs.carry_out.Goals as goal
 
 pub used-used-requires : goal.used-used-requires
 used-used-requires c = omega (arith, header-length _ c.requires.1.sound)
 
 pub end_holds-requires : goal.end_holds-requires
-end_holds-requires c = let t = lent_mut c.args.t.now in (sound-without c.requires.0 t c.requires.1.sound, holds-planned c.requires.0 t c.args.plan c.requires.1.plan.ending)
+end_holds-requires c = let t = lent_mut c.args.t.now in (sound-without c.requires.0 t c.requires.1.sound, holds-planned c.requires.0 t c.args.plan c.requires.1.plan.ending, c.requires.2)
 
 pub day-today-requires : goal.day-today-requires
 day-today-requires c = rw c.end_holds.ensures.header (omega (arith, header-length _ c.requires.1.sound))
@@ -37,6 +38,7 @@ raise_tolls-raised-requires c =
     let r = unraised-with c.requires.0 (lent_mut c.args.t.now) _ f.rows in (
       rw (h, f.accounts) (midway-without _ _ _ c.requires.0 _ (unraised-midway _ a.sound _ a.kind a.taken _ r)),
       rw (h, f.accounts, ← raised-rows c.requires.0) (unraised-room _ a.sound _ a.kind a.taken _ r),
+      rw h (unraised-marked (tables_with c.requires.0 (lent_mut c.args.t.now)) a.sound _ a.kind a.taken _ r _ c.requires.2.marks),
     )
 
 pub close_due-requires : goal.close_due-requires

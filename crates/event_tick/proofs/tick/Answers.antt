@@ -2,8 +2,13 @@
 use Rattle.std.proofs.Common.{rules}
 use Rattle.std.specs.Prelude.{◌≡◌, Err}
 use Rattle.posting_laws.proofs.AddedLaws.{posts-refused}
+use Rattle.lent.specs.Lent.{lent_mut}
+use Rattle.rules.proofs.HolidayTables.{sound-without}
 use Rattle.event_tick.proofs.TickLaws.{accepts-planned}
 use Rattle.event_tick.proofs.tick.Goals as goal
+
+pub count_rows-counts-requires : goal.count_rows-counts-requires
+count_rows-counts-requires c = sound-without c.args.holidays.now (lent_mut c.args.t.now) c.requires.0
 
 pub returns-in_err-plan-clause-posts : goal.returns-in_err-plan-clause-posts
 returns-in_err-plan-clause-posts c =
@@ -11,7 +16,7 @@ returns-in_err-plan-clause-posts c =
     rw q (posts-refused _ c.requires.0 _ _ c.in_err-plan.ensures.number)
 
 pub carry_out-requires : goal.carry_out-requires
-carry_out-requires c = (c.args.holidays.now, accepts-planned _ c.requires.0 _ c.requires.1 _ c.in_ok-plan.ensures)
+carry_out-requires c = (c.args.holidays.now, accepts-planned _ c.requires.0 _ c.requires.1 _ c.in_ok-plan.ensures, c.count_rows-counts.ensures)
 
 pub returns-clause-posts : goal.returns-clause-posts
 returns-clause-posts c = c.carry_out.ensures.posts _ (accepts-planned _ c.requires.0 _ c.requires.1 _ c.in_ok-plan.ensures)

@@ -1,7 +1,7 @@
 -- `check_toll` meets its contract: each way through the tests is a case of the table.
 use borrow.Author.Tests.{eq-eqb}
 use native.Mathlib.Omega.{arith}
-use mathlib.Core.Path.{◌≡◌, refl, sym, ◌∙◌}
+use mathlib.Core.Path.{◌≡◌, refl, sym, ap, ◌∙◌}
 use mathlib.Core.Bool.{true, false}
 use Rattle.lists.specs.Tests.{◌is◌, first}
 use Rattle.rules.specs.Schedule.{class}
@@ -14,7 +14,7 @@ use Rattle.event_toll.proofs.check_toll.Goals.{In-Some}
 
 -- the vehicle has a class
 classed : (c : In-Some) → class c.args.e.c c.args.e.d is 0 ≡ false
-classed c = rw (← c.in-Some.ensures) (class_number-not_0 c.in-Some.class)
+classed c = ap (λ n. n is 0) (sym c.in-Some.ensures) ∙ class_number-not_0 c.in-Some.class
 
 pub day-today-requires : goal.day-today-requires
 day-today-requires c = omega (arith, header-length _ c.requires.0)

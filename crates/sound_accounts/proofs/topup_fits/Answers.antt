@@ -4,4 +4,4 @@ use Rattle.sound_accounts.proofs.topup_fits.Goals as goal
 
 pub returns : goal.returns
 unfolding topup_fits
-returns c = cc
+returns c = rw (c.implies.ensures, c.implies-2.ensures, c.implies-3.ensures)

@@ -4,4 +4,4 @@ use Rattle.sound_tolls.proofs.row_day_fits.Goals as goal
 
 pub returns : goal.returns
 unfolding row_day_fits
-returns c = cc
+returns c = c.between.ensures

@@ -92,9 +92,12 @@ rows-requires c =
     let f = (fit (goal.at.rows-requires c).After-get).fits in
     (omega (arith, l.words), omega (arith, f, c.used-used.ensures))
 
-pub invariant_of-f : goal.invariant_of-f
-invariant_of-f c = rw (c.count.ensures, c.rows.ensures.used, ← c.used-used.ensures) (record { bounds = fit-bounds c.args.t.header.now c.args.t.accounts.now c.args.t.journal.now _ _ _ (fit (goal.at.invariant_of-f c).After-get) })
+pub invariant_of-f-clause-bounds : goal.invariant_of-f-clause-bounds
+invariant_of-f-clause-bounds c = rw (c.count-count.ensures, c.rows.ensures.used, ← c.used-used.ensures) (fit-bounds c.args.t.header.now c.args.t.accounts.now c.args.t.journal.now _ _ _ (fit (goal.at.invariant_of-f-clause-bounds c).After-get))
+
+pub invariant_of-f-clause-marked : goal.invariant_of-f-clause-marked
+invariant_of-f-clause-marked c = c.marks_of-marks.ensures
 
 pub returns : goal.returns
 returns c =
-    c.book_passes.ensures ∙ rw (c.count.ensures, c.rows.ensures.journal, c.rows.ensures.used, ← c.used-used.ensures) (fit-sound c.args.t.header.now c.args.t.accounts.now c.args.t.journal.now _ _ _ (fit (goal.at.returns c).After-get))
+    c.book_passes.ensures ∙ rw (c.count-count.ensures, c.rows.ensures.journal, c.rows.ensures.used, ← c.used-used.ensures) (fit-sound c.args.t.header.now c.args.t.accounts.now c.args.t.journal.now _ _ _ (fit (goal.at.returns c).After-get))

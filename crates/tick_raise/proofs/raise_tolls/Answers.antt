@@ -2,8 +2,8 @@
 use native.Mathlib.Omega.{arith}
 use mathlib.Core.Path.{refl, ◌∙◌}
 use Rattle.lent.proofs.LentLaws.{same-none}
-use Rattle.tick_base.proofs.MidwayLaws.{midway-header}
-use Rattle.tick_raise.proofs.RaisingLaws.{turns-none, turn-raisable, turns_more, turns-few, turns-counted, turns-written}
+use Rattle.tick_base.proofs.MidwayLaws.{midway-header, midway-few}
+use Rattle.tick_raise.proofs.RaisingLaws.{turns-none, turn-raisable, turn-marked, turns_more, turns-few, turns-counted, turns-written}
 use Rattle.tick_raise.proofs.raise_tolls.Goals as goal
 
 pub day-today-requires : goal.day-today-requires
@@ -17,19 +17,26 @@ loop-i-init c =
     let p = c.requires in
     (turns-none _ _ p.0 p.1 _ c.day-today.ensures, same-none c.args.t.now, refl)
 
-pub raise_row-requires : goal.raise_row-requires
-raise_row-requires c =
+pub bounds-marks-i : goal.bounds-marks-i
+bounds-marks-i c =
     let p = c.requires in
-    let l = c.loop-i in
-    turn-raisable _ _ p.0 p.1 _ c.day-today.ensures _ _ _ _ l.invariant.0 (rw c.used-used.ensures at c.loop-i-test.true)
+    omega (arith, midway-few _ _ p.0, c.loop-i-test.true, c.used-used.ensures, p.2.sized)
+
+pub raise_marked-requires : goal.raise_marked-requires
+raise_marked-requires c =
+    let p = c.requires in
+    let v = c.loop-i.invariant.0 in
+    let d = c.day-today.ensures in
+    let l = rw c.used-used.ensures at c.loop-i-test.true in
+    (turn-raisable _ _ p.0 p.1 _ d _ _ _ _ v l, turn-marked _ _ p.0 p.1 _ d _ _ _ _ v l c.args.marks.now p.2 _ refl)
 
 pub loop-i-preserved : goal.loop-i-preserved
 loop-i-preserved c =
     let p = c.requires in
     let l = c.loop-i in
     let s = l.invariant.1 in (
-      rw c.from-n.ensures (turns_more _ _ p.0 p.1 _ c.day-today.ensures _ _ _ _ l.invariant.0 (rw c.used-used.ensures at c.loop-i-test.true) _ _ _ c.raise_row.ensures),
-      (s.0, s.1, s.2, c.raise_row.auto.header ∙ s.3, s.4, c.raise_row.auto.journal ∙ s.5),
+      rw c.from-n.ensures (turns_more _ _ p.0 p.1 _ c.day-today.ensures _ _ _ _ l.invariant.0 (rw c.used-used.ensures at c.loop-i-test.true) _ _ _ c.raise_marked.ensures),
+      (s.0, s.1, s.2, c.raise_marked.auto.header ∙ s.3, s.4, c.raise_marked.auto.journal ∙ s.5),
       l.invariant.2,
     )
 

@@ -4,4 +4,4 @@ use Rattle.sound_header.proofs.header.day_fits.Goals as goal
 
 pub returns : goal.returns
 unfolding day_fits
-returns c = cc
+returns c = c.between.ensures

@@ -4,4 +4,4 @@ use Rattle.sound_header.proofs.header.lengths_fit.Goals as goal
 
 pub returns : goal.returns
 unfolding lengths_fit whole_records
-returns c = cc
+returns c = rw (c.sizes_fit.ensures, c.count.ensures, c.room.ensures)

@@ -5,4 +5,6 @@ use Rattle.sound_header.proofs.header.rates_fit.Goals as goal
 
 pub returns : goal.returns
 unfolding rates_fit rates_from
-returns c = cc
+returns c =
+    rw (c.rate_fits.ensures, c.rate_fits-2.ensures, c.rate_fits-3.ensures)
+    (rw (c.rate_fits-4.ensures, c.rate_fits-5.ensures, c.rate_fits-6.ensures))

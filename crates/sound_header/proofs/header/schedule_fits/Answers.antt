@@ -5,4 +5,4 @@ use Rattle.sound_header.proofs.header.schedule_fits.Goals as goal
 
 pub returns : goal.returns
 unfolding schedule_fits schedule_from
-returns c = cc
+returns c = rw (c.between-stage.ensures, c.get.ensures, c.fee_fits.ensures, c.fee_fits-2.ensures, c.fee_fits-3.ensures)

@@ -4,4 +4,4 @@ use Rattle.sound_header.proofs.header.sizes_fit.Goals as goal
 
 pub returns : goal.returns
 unfolding sizes_fit
-returns c = cc
+returns c = rw (c.between.ensures, c.between-2.ensures)

@@ -4,4 +4,4 @@ use Rattle.sound_rows.proofs.row.amount_fits.Goals as goal
 
 pub returns : goal.returns
 unfolding amount_fits
-returns c = cc
+returns c = rw (c.between.ensures, c.most_of.ensures)

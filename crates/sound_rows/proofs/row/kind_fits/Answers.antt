@@ -4,4 +4,4 @@ use Rattle.sound_rows.proofs.row.kind_fits.Goals as goal
 
 pub returns : goal.returns
 unfolding kind_fits
-returns c = cc
+returns c = c.between.ensures

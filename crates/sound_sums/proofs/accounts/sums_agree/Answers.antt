@@ -12,4 +12,5 @@ unfolding sums_agree
 returns c =
     let x = c.args.x in
     let s = c.args.s in
-    all_left_lem (eqb x.returned s.returned) (eqb s.drawn s.paid ∷ (eqb s.money 0 || eqb s.debt 0) ∷ c.implies-clear.result ∷ []) ∙ cc
+    all_left_lem (eqb x.returned s.returned) (eqb s.drawn s.paid ∷ (eqb s.money 0 || eqb s.debt 0) ∷ c.implies-clear.result ∷ [])
+    ∙ rw c.implies-clear.ensures

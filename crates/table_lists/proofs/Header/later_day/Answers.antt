@@ -4,4 +4,4 @@ use Rattle.table_lists.proofs.Header.later_day.Goals as goal
 
 pub returns : goal.returns
 unfolding list_from
-returns c = cc
+returns c = c.get.ensures

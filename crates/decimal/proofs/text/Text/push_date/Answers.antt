@@ -16,4 +16,4 @@ unfolding date_text
 returns-clause-text c =
     c.push_two-4.ensures.text
     ∙ rw (c.push-2.ensures.text, c.push_two-3.ensures.text, c.push.ensures.text, c.push_two-2.ensures.text, c.push_two.ensures.text)
-    (rw (pieces c.args.self.now c.date_of-date.result, c.date_of-date.ensures))
+    (pieces c.args.self.now c.date_of-date.result ∙ rw c.date_of-date.ensures)
