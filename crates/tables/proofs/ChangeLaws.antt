@@ -41,6 +41,21 @@ module _ {A : Type 0} (at : List ℤ → ℕ → A) where
   -- ---- a loop that changes each record
 
   module _ (f : A → A) (t : List ℤ) where
+    pub mapped-none : Mapped at f t t 0
+    mapped-none = record { size = refl; done = λ k h. absurd (omega arith); left = λ k h. refl }
+
+    pub mapped-more : (u v : List ℤ) (i : ℕ) → Mapped at f t u i → Changed at u v i (f (at u i)) → Mapped at f t v (i + 1)
+    mapped-more u v i m c =
+        record {
+          size = c.size ∙ m.size;
+          done = λ k q.
+              elim (ℕ_discrete k i) [
+                | yes p ↦ rw (p, c.there, m.left i (omega arith))
+                | no n ↦ c.others k n ∙ m.done k (omega arith)
+              ];
+          left = λ k q. c.others k (λ w. omega arith) ∙ m.left k (omega arith);
+        }
+
     pub mapped-all : (u : List ℤ) (n : ℕ) → Mapped at f t u n → tabulate (at u) n ≡ map f (tabulate (at t) n)
     mapped-all u n m = tabulate-map f (at u) (at t) n m.done
 
