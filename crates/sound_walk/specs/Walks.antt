@@ -1,5 +1,5 @@
 -- What one pass over the rows has shown of the first i of them.
-use Rattle.std.specs.Prelude.{ℕ, ◌+◌, ◌≤◌, ◌<◌, ◌≡◌, Bool, true, false, ◌&&◌}
+use Rattle.std.specs.Prelude.{ℕ, ◌+◌, ◌≤◌, ◌<◌, ◌≡◌, Bool, true, false, ◌&&◌, length}
 use Rattle.records.specs.Encoding.{row_at}
 use Rattle.rules.specs.Rows.{Row}
 use Rattle.plain_rows.specs.Alike.{AlikeRow}
@@ -11,12 +11,15 @@ use Rattle.sound_fees.specs.Fees.{fees_few, FeesCounted}
 use Rattle.account_sums.specs.AccountSums.{Tallies}
 use Rattle.sound_walk.specs.declared.Arrays.{Arrays}
 
--- the same memory, with the same space
+-- the same memory, of the same lengths, with the same space
 pub record SameArrays (a b : Arrays) : Type 0 where
   pub space : b.space ≡ a.space
   pub cells : b.cells.ghost_name ≡ a.cells.ghost_name
   pub counts : b.counts.ghost_name ≡ a.counts.ghost_name
   pub sums : b.sums.ghost_name ≡ a.sums.ghost_name
+  pub cells-length : length b.cells.now ≡ length a.cells.now
+  pub counts-length : length b.counts.now ≡ length a.counts.now
+  pub sums-length : length b.sums.now ≡ length a.sums.now
 
 -- each stands, their passage numbers differ, and the arrays hold their trees, fees and sums
 pub record Walked (f : Frame) (a : Arrays) (i : ℕ) : Type 0 where
