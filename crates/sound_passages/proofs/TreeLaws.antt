@@ -9,11 +9,13 @@ use mathlib.Core.List.{List}
 use lib.IntN.{ℤ}
 use lib.ListN.{length, get_or, set, replicate, length-set, length-replicate}
 use lib.Seq.{get_or-set_same, get_or-set_other}
+use Rattle.std.specs.Prelude.{Result, Ok, Err}
+use Rattle.std.specs.Result.{result_ok}
 use Rattle.lists.proofs.ListLaws.{zeros}
 use Rattle.records.specs.Encoding.{row_at, rows_of}
 use Rattle.records.specs.Limits.{most_rows}
 use Rattle.sound_passages.specs.Trees.{passages_differ}
-use Rattle.sound_passages.specs.Trees.{mix_of, root_of, IsToll, HasPassage, Leads, here, next, Kept, TreesOf, FreeCell, TakenBy}
+use Rattle.sound_passages.specs.Trees.{mix_of, root_of, IsToll, HasPassage, Leads, here, next, Kept, TreesOf, FreeCell, TakenBy, Sought, CellFor}
 use Rattle.sound_passages.proofs.PassageLaws.{clash-same}
 
 leads-zero : {space : ℕ} {cells : List ℕ} {j y c : ℕ} → Leads space cells j y c → get_or cells c 0 ≡ 0 → ⊥
@@ -72,6 +74,11 @@ way-free space t cells n x y c s w z =
       none = λ j q k e. leads-zero (w.rest j q k e) (sym w.is ∙ z);
       way = λ u h e. w.up u h (here e);
     }
+
+-- what is sought, where the toll that has it is left out
+pub sought-cell : (space : ℕ) (t : List ℤ) (cells : List ℕ) (n x : ℕ) (r : Result ℕ ℕ) → Sought space t cells n x r → CellFor space t cells n x (result_ok r)
+sought-cell space t cells n x (Ok c) s = s
+sought-cell space t cells n x (Err j) s = (j, s)
 
 -- ---- growth
 

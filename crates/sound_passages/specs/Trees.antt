@@ -1,7 +1,7 @@
 -- Digital search trees of tolls in one array, of four cells for each row that it has space for: the first half of the cells are roots, and
 -- cells 2 space + 2 r and the next are the two branches of row r, counted from 0. A cell holds a row's number, counted from 1, and 0 for
 -- none.
-use Rattle.std.specs.Prelude.{ℕ, ◌+◌, ◌*◌, ◌/◌, ◌%◌, ◌≤◌, ◌<◌, ◌≡◌, Bool, true, false, List, ℤ, length, get_or, Option, Some, None}
+use Rattle.std.specs.Prelude.{ℕ, ◌+◌, ◌*◌, ◌/◌, ◌%◌, ◌≤◌, ◌<◌, ◌≡◌, Bool, true, false, List, ℤ, length, get_or, Option, Some, None, Result, Ok, Err}
 use Rattle.lists.specs.Lists.{every}
 use Rattle.records.specs.Encoding.{row_at, rows_of}
 use Rattle.records.specs.Limits.{most_rows}
@@ -57,7 +57,12 @@ pub record TakenBy (t : List ℤ) (n x j : ℕ) : Type 0 where
   pub toll : IsToll t j
   pub passage : HasPassage t j x
 
--- where passage x goes: a free cell, or none where a toll has it
+-- where passage x goes: a free cell, or else the toll that has it
+abbrev pub Sought : ℕ → List ℤ → List ℕ → ℕ → ℕ → Result ℕ ℕ → Type 0
+Sought space t cells n x (Ok c) = FreeCell space t cells n x c
+Sought space t cells n x (Err j) = TakenBy t n x j
+
+-- the same, and none in the toll's place
 abbrev pub CellFor : ℕ → List ℤ → List ℕ → ℕ → ℕ → Option ℕ → Type 0
 CellFor space t cells n x None = (j : ℕ) × TakenBy t n x j
 CellFor space t cells n x (Some c) = FreeCell space t cells n x c

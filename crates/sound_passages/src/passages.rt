@@ -2,7 +2,7 @@
 // numbers makes a way down longer than the bits that tell two numbers apart.
 ghost use Rattle.std.specs.Prelude.{◌≡◌, ◌+◌, ◌≤◌, ◌<◌};
 ghost use Rattle.tables.specs.Changes.{RowIn};
-ghost use Rattle.sound_passages.specs.Trees.{mix_of, IsToll, HasPassage, TreesOf, CellFor, Inserted};
+ghost use Rattle.sound_passages.specs.Trees.{mix_of, IsToll, HasPassage, TreesOf, Sought, CellFor, Inserted};
 
 use records::codes::KIND_TOLL;
 use records::limits::MOST_ROWS;
@@ -22,12 +22,12 @@ fn mix(passage: u64) -> usize
     (passage % 1073741824 * 2654435769 % 4294967296) as usize
 }
 
-// Where passage x goes among the rows passed, in cells with space for as many or more: a free cell, and none where a toll has it.
+// Where passage x goes among the rows passed, in cells with space for as many or more: a free cell, or else the toll that has it.
 // Kept: cells and space apart. They would make two structs: this one reads lent cells, those that insert write them.
-pub fn cell_for(passed: &Rows, cells: &[u16], space: usize, x: u64) -> Option<usize>
+pub fn seek(passed: &Rows, cells: &[u16], space: usize, x: u64) -> Result<usize, usize>
     requires { (passed.now.used ≤ space)
         × TreesOf space passed.now.journal.now cells.now passed.now.used }
-    ensures { CellFor space passed.now.journal.now cells.now passed.now.used x result }
+    ensures { Sought space passed.now.journal.now cells.now passed.now.used x result }
 {
     let mut y = mix(x);
     // A product chooses the root: a division by a number that is no constant would be slow.
@@ -36,13 +36,22 @@ pub fn cell_for(passed: &Rows, cells: &[u16], space: usize, x: u64) -> Option<us
     // Kept: it goes down a tree, and counts no index.
     while s != 0 {
         if reference_at(passed.journal, s - 1) == x {
-            return None;
+            return Err(s - 1);
         }
         c = 2 * space + 2 * (s - 1) + y % 2;
         y /= 2;
         s = usize::from(cells[c]);
     }
-    Some(c)
+    Ok(c)
+}
+
+// The same where it is not asked which toll has it: none in its place.
+pub fn cell_for(passed: &Rows, cells: &[u16], space: usize, x: u64) -> Option<usize>
+    requires { (passed.now.used ≤ space)
+        × TreesOf space passed.now.journal.now cells.now passed.now.used }
+    ensures { CellFor space passed.now.journal.now cells.now passed.now.used x result }
+{
+    seek(passed, cells, space, x).ok()
 }
 
 // Row n, a toll of passage x, goes to its cell: false where an earlier toll has its passage number.
@@ -55,7 +64,7 @@ pub fn insert_toll(journal: &[i64], cells: &mut [u16], space: usize, n: usize, x
     ensures { Inserted space journal.now cells.new n result }
 {
     let passed = Rows { journal, used: n };
-    let Some(c) = cell_for(&passed, cells, space, x) else {
+    let Ok(c) = seek(&passed, cells, space, x) else {
         return false;
     };
     cells[c] = (n + 1) as u16;

@@ -5,15 +5,14 @@ use Rattle.sound_passages.proofs.passages.insert_toll.Goals as goal
 
 pub returns-in_default : goal.returns-in_default
 returns-in_default c =
-    let t = c.in_default.ensures in
     record {
       good = λ e. absurd (false≢true e);
-      bad = λ e. taken-same c.args.journal.now c.args.n t.0 c.requires.3 (rw (← c.requires.4) at t.1);
+      bad = λ e. taken-same c.args.journal.now c.args.n _ c.requires.3 (rw (← c.requires.4) at c.in_default.ensures);
     }
 
 pub returns : goal.returns
 returns c =
     record {
-      good = λ e. trees-add c.args.space c.args.journal.now c.args.cells.now c.args.n c.in-Some.c c.requires.2 c.requires.1 c.requires.3 (rw (← c.requires.4) at c.in-Some.ensures);
+      good = λ e. trees-add c.args.space c.args.journal.now c.args.cells.now c.args.n c.in-Ok.c c.requires.2 c.requires.1 c.requires.3 (rw (← c.requires.4) at c.in-Ok.ensures);
       bad = λ e. absurd (true≢false e);
     }
