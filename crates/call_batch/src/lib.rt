@@ -49,7 +49,7 @@ fn post_indexed(
 }
 
 // One record of the batch: its event posted, answer i written, and the index brought up to the journal.
-fn post_record(
+pub fn post_record(
     t: &mut TablesMut,
     holidays: &[i64],
     answers: &mut [i64],
