@@ -44,7 +44,7 @@ fn judge_tick(
     if t.day() == FINAL_DAY {
         return Err(Refusal::LastDay);
     }
-    let plan = plan_tick(t, holidays, counts);
+    let plan = plan_tick(t.read(), holidays, counts);
     if !t.has_room(plan.added) {
         return Err(Refusal::Full);
     }
@@ -111,7 +111,7 @@ pub fn tick(t: &mut TablesMut, holidays: &[i64], e: Instruction) -> Result<Posti
         e
         (answer_of result) }
 {
-    let counts = count_rows(t);
+    let counts = count_rows(t.read());
     let plan = judge_tick(t, holidays, e, &counts)?;
     Ok(carry_out(t, e, plan, &counts))
 }

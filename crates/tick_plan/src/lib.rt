@@ -10,9 +10,9 @@ mod refunds; // refunds.rt: the accounts that will close, and those of them with
 ghost use Rattle.std.specs.Prelude.{◌≡◌, true};
 ghost use Rattle.rules.specs.Tables.{tables_with, book_of, sound_tables};
 ghost use Rattle.tick_plan.specs.Plans.{Planned, TablesCounted};
-ghost use Rattle.lent.specs.Lent.{lent_mut};
+ghost use Rattle.lent.specs.Lent.{lent};
 
-use lent::TablesMut;
+use lent::Tables;
 use rows::RowCounts;
 use table_lists::Header;
 use tick_base::rows::CountableRows;
@@ -26,9 +26,9 @@ pub struct Plan {
 }
 
 // What the used rows come to, counted for the next day.
-pub fn count_rows(t: &TablesMut) -> RowCounts
-    requires { sound_tables (lent_mut t.now) ≡ true }
-    ensures { TablesCounted (lent_mut t.now) result }
+pub fn count_rows(t: Tables) -> RowCounts
+    requires { sound_tables (lent t) ≡ true }
+    ensures { TablesCounted (lent t.entry) result }
 {
     let today = t.day() + 1;
     let header = Header { words: t.header };
@@ -36,10 +36,10 @@ pub fn count_rows(t: &TablesMut) -> RowCounts
     RowCounts::of_rows(header, &countable, today)
 }
 
-pub fn plan_tick(t: &TablesMut, holidays: &[i64], counts: &RowCounts) -> Plan
-    requires { (sound_tables (tables_with holidays.now (lent_mut t.now)) ≡ true)
-        × TablesCounted (lent_mut t.now) counts.now }
-    ensures { Planned (book_of (tables_with holidays.now (lent_mut t.now))) result }
+pub fn plan_tick(t: Tables, holidays: &[i64], counts: &RowCounts) -> Plan
+    requires { (sound_tables (tables_with holidays.now (lent t)) ≡ true)
+        × TablesCounted (lent t) counts.now }
+    ensures { Planned (book_of (tables_with holidays.now (lent t.entry))) result }
 {
     if !counts.any_closes(t, holidays) {
         return Plan {

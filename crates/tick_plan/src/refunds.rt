@@ -5,12 +5,12 @@ ghost use Rattle.records.specs.Encoding.{nat_of, accounts_of};
 ghost use Rattle.records.specs.Limits.{most_accounts, slot_count};
 ghost use Rattle.rules.specs.BusinessDays.{business_day, holidays_fit};
 ghost use Rattle.rules.specs.Tables.{accounts_in};
-ghost use Rattle.lent.specs.Lent.{lent_mut};
+ghost use Rattle.lent.specs.Lent.{lent};
 ghost use Rattle.tick_plan.specs.Plans.{close_at, NoneClosesBy, refunds_at, refund_at};
 
 use super::rows::RowCounts;
 use holidays::is_business_day;
-use lent::TablesMut;
+use lent::Tables;
 use records::Account;
 use table_accounts::read_account;
 use tick_base::days::days_over;
@@ -28,20 +28,20 @@ impl RowCounts {
     }
 
     // Whether an account would close on a business day.
-    fn any_ready(&self, t: &TablesMut) -> bool
-        requires { accounts_in (lent_mut t.now) ≤ most_accounts }
-        ensures { result ≡ false → NoneClosesBy self.now t.now.accounts.now (accounts_in (lent_mut t.now)) }
+    fn any_ready(&self, t: Tables) -> bool
+        requires { accounts_in (lent t) ≤ most_accounts }
+        ensures { result ≡ false → NoneClosesBy self.now t.entry.accounts.now (accounts_in (lent t.entry)) }
     {
         (0..t.count()).any(|i| self.will_close(i + 1, read_account(t.accounts, i)))
     }
 
     // Whether an account will close. The holidays are searched here, once a tick.
-    pub fn any_closes(&self, t: &TablesMut, holidays: &[i64]) -> bool
-        requires { (accounts_in (lent_mut t.now) ≤ most_accounts) × (holidays_fit (map nat_of holidays.now) ≡ true) }
+    pub fn any_closes(&self, t: Tables, holidays: &[i64]) -> bool
+        requires { (accounts_in (lent t) ≤ most_accounts) × (holidays_fit (map nat_of holidays.now) ≡ true) }
         ensures business { result ≡ true → business_day (map nat_of holidays.now) self.now.today ≡ true }
         ensures none { result ≡ false
             → business_day (map nat_of holidays.now) self.now.today ≡ true
-            → NoneClosesBy self.now t.now.accounts.now (accounts_in (lent_mut t.now)) }
+            → NoneClosesBy self.now t.entry.accounts.now (accounts_in (lent t.entry)) }
     {
         if !is_business_day(holidays, self.today) {
             return false;
@@ -58,10 +58,10 @@ impl RowCounts {
     }
 
     // How many refund rows the accounts bring.
-    pub fn refunds_added(&self, t: &TablesMut) -> usize
-        requires { accounts_in (lent_mut t.now) ≤ most_accounts }
-        ensures { (result ≡ length (gather (refund_at self.now) (accounts_of t.now.accounts.now (accounts_in (lent_mut t.now)))))
-            × (result ≤ accounts_in (lent_mut t.now)) }
+    pub fn refunds_added(&self, t: Tables) -> usize
+        requires { accounts_in (lent t) ≤ most_accounts }
+        ensures { (result ≡ length (gather (refund_at self.now) (accounts_of t.entry.accounts.now (accounts_in (lent t.entry)))))
+            × (result ≤ accounts_in (lent t.entry)) }
     {
         let mut refunds = 0;
         for i in 0..t.count() {

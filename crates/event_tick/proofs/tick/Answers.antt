@@ -8,7 +8,13 @@ use Rattle.event_tick.proofs.TickLaws.{accepts-planned}
 use Rattle.event_tick.proofs.tick.Goals as goal
 
 pub count_rows-counts-requires : goal.count_rows-counts-requires
-count_rows-counts-requires c = sound-without c.args.holidays.now (lent_mut c.args.t.now) c.requires.0
+count_rows-counts-requires c = rw c.read.ensures.tables (sound-without c.args.holidays.now (lent_mut c.args.t.now) c.requires.0)
+
+pub judge_tick-requires : goal.judge_tick-requires
+judge_tick-requires c =
+    let g = c.read.ensures in
+    let counted = rw (g.header, g.journal) at c.count_rows-counts.ensures in
+    (c.requires.0, c.requires.1, c.requires.2, counted)
 
 pub returns-in_err-plan-clause-posts : goal.returns-in_err-plan-clause-posts
 returns-in_err-plan-clause-posts c =
@@ -16,7 +22,10 @@ returns-in_err-plan-clause-posts c =
     rw q (posts-refused _ c.requires.0 _ _ c.in_err-plan.ensures.number)
 
 pub carry_out-requires : goal.carry_out-requires
-carry_out-requires c = (c.args.holidays.now, accepts-planned _ c.requires.0 _ c.requires.1 _ c.in_ok-plan.ensures, c.count_rows-counts.ensures)
+carry_out-requires c =
+    let g = c.read.ensures in
+    let counted = rw (g.header, g.journal) at c.count_rows-counts.ensures in
+    (c.args.holidays.now, accepts-planned _ c.requires.0 _ c.requires.1 _ c.in_ok-plan.ensures, counted)
 
 pub returns-clause-posts : goal.returns-clause-posts
 returns-clause-posts c = c.carry_out.ensures.posts _ (accepts-planned _ c.requires.0 _ c.requires.1 _ c.in_ok-plan.ensures)

@@ -2,13 +2,13 @@
 use native.Mathlib.Omega.{arith}
 use borrow.Author.Tests.{not-true, not-false}
 use Rattle.rules.proofs.HolidayTables.{sound-holidays}
-use Rattle.lent.specs.Lent.{lent_mut}
+use Rattle.lent.specs.Lent.{lent}
 use Rattle.posting.proofs.BookLaws.{count_small}
 use Rattle.tick_plan.proofs.CountLaws.{quiet-planned, added-few, tick-planned}
 use Rattle.tick_plan.proofs.plan_tick.Goals as goal
 
 pub any_closes-requires : goal.any_closes-requires
-any_closes-requires c = (count_small _ c.requires.0, sound-holidays c.args.holidays.now (lent_mut c.args.t.now) c.requires.0)
+any_closes-requires c = (count_small _ c.requires.0, sound-holidays c.args.holidays.now (lent c.args.t) c.requires.0)
 
 pub returns-then-not-any_closes : goal.returns-then-not-any_closes
 returns-then-not-any_closes c =

@@ -10,7 +10,7 @@ use Rattle.tick_plan.proofs.rows.RowCounts.any_ready.Goals as goal
 pub returns : goal.returns
 returns c =
     let x = c.args.self.now in
-    let a = c.args.t.now.accounts.now in
+    let a = c.args.t.accounts.now in
     let n = c.count.result in
     rw c.count.ensures at (none-by x a n _
     (cases_from_any _ _ _ (ClosesIs x a true) (ClosesIs x a false) c.any.ensures.ran

@@ -16,6 +16,6 @@ loop-i-init c = (omega arith, refl)
 
 pub loop-i-preserved : goal.loop-i-preserved
 loop-i-preserved c =
-    let h = length-gather-tabulate (refund_at c.args.self.now) (account_at c.args.t.now.accounts.now) c.loop-i.i in
+    let h = length-gather-tabulate (refund_at c.args.self.now) (account_at c.args.t.accounts.now) c.loop-i.i in
     let r = refund-counted c.args.self.now (c.loop-i.i + 1) _ _ (rw c.read_account.ensures at c.will_refund.ensures) in
     (omega (arith, c.loop-i.invariant.0, byte-few c.will_refund.result), omega (arith, c.loop-i.invariant.1, r, h))
