@@ -14,12 +14,12 @@ ghost use Rattle.table_rows.specs.UsedRows.{rows_in};
 ghost use Rattle.listing_rules.specs.Texts.{field, line, row_text, account_text, book_text};
 ghost use Rattle.listing_rules.specs.Sizes.{most_row_bytes, most_day_bytes, most_account_bytes, book_names_bytes, most_field_bytes};
 ghost use Rattle.listing_book.specs.Listed.{Dated};
-ghost use Rattle.lent.specs.Lent.{lent_mut};
+ghost use Rattle.lent.specs.Lent.{lent};
 
 use balances::summable::SummableRows;
 use balances::sums_of;
 use decimal::Text;
-use lent::TablesMut;
+use lent::Tables;
 use listing_text::write_field;
 use records::codes::STATE_UNUSED;
 use records::{Account, Row};
@@ -93,11 +93,11 @@ fn write_account(out: &mut Text, summable: SummableRows, n: u64, x: Account)
 }
 
 // Writes a line for each used account of the tables, in a book with these rows.
-fn write_accounts(out: &mut Text, t: &TablesMut, summable: SummableRows)
-    requires { length out.old + accounts_in (lent_mut t.now) * most_account_bytes ≤ text_bytes }
+fn write_accounts(out: &mut Text, t: Tables, summable: SummableRows)
+    requires { length out.old + accounts_in (lent t) * most_account_bytes ≤ text_bytes }
     ensures text { (b : Book) → b.rows ≡ rows_in summable.entry.rows
-        → out.new ≡ out.old ++ gather (account_text b) (accounts_of t.now.accounts.now (accounts_in (lent_mut t.now))) }
-    ensures short { length out.new ≤ length out.old + accounts_in (lent_mut t.now) * most_account_bytes }
+        → out.new ≡ out.old ++ gather (account_text b) (accounts_of t.entry.accounts.now (accounts_in (lent t.entry))) }
+    ensures short { length out.new ≤ length out.old + accounts_in (lent t.entry) * most_account_bytes }
 {
     let count = t.count();
     for i in 0..count {
@@ -108,12 +108,12 @@ fn write_accounts(out: &mut Text, t: &TablesMut, summable: SummableRows)
 // ---- the book
 
 // Writes the rows and the used accounts of a sound book, each part with its names before it.
-pub fn write_book(t: &TablesMut, out: &mut Text)
-    requires sound { sound_tables (lent_mut t.now) ≡ true }
+pub fn write_book(t: Tables, out: &mut Text)
+    requires sound { sound_tables (lent t) ≡ true }
     requires room { length out.old + book_names_bytes
-        + rows_used (lent_mut t.now) * most_row_bytes
-        + accounts_in (lent_mut t.now) * most_account_bytes ≤ text_bytes }
-    ensures { out.new ≡ out.old ++ book_text (book_of (lent_mut t.now)) }
+        + rows_used (lent t) * most_row_bytes
+        + accounts_in (lent t) * most_account_bytes ≤ text_bytes }
+    ensures { out.new ≡ out.old ++ book_text (book_of (lent t.entry)) }
 {
     let rows = t.rows();
     out.extend_from_slice(b"row,account,kind,date,amount,settled\n");

@@ -9,10 +9,10 @@ ghost use Rattle.listing_rules.specs.Listing.{most_lines, listed};
 ghost use Rattle.listing_rules.specs.Sizes.{most_answer_bytes, most_book_bytes, most_end_bytes};
 ghost use Rattle.listing_lines.specs.Lines.{Ready};
 ghost use Rattle.listing_steps.specs.Steps.{is_waiting, is_over, over_at, Stands, Awaits, Stepped};
-ghost use Rattle.lent.specs.Lent.{lent_mut, SameTables};
+ghost use Rattle.lent.specs.Lent.{lent, lent_mut, SameTables};
 
 use decimal::Text;
-use lent::TablesMut;
+use lent::{Tables, TablesMut};
 use listing_book::write_book;
 use listing_input::Input;
 use listing_lines::{BadLine, take_line};
@@ -68,9 +68,9 @@ fn unended_line(input: &Input, lines: u64, out: &mut Text) -> Place
 }
 
 // Every line is taken: prints what the end of the input brings.
-fn write_end(t: &TablesMut, lines: u64, out: &mut Text)
-    requires { Ready lines (lent_mut t.now) × (length out.old + most_book_bytes ≤ text_bytes) }
-    ensures { out.new ≡ out.old ++ listed lines (book_of (lent_mut t.now)) [] }
+fn write_end(t: Tables, lines: u64, out: &mut Text)
+    requires { Ready lines (lent t) × (length out.old + most_book_bytes ≤ text_bytes) }
+    ensures { out.new ≡ out.old ++ listed lines (book_of (lent t.entry)) [] }
 {
     if lines < FIRST_LINES {
         write_bad_line(out, lines + 1);
@@ -129,11 +129,11 @@ impl Listing<'_> {
         self.place.phase = Phase::Over;
         let rest = self.input.as_bytes();
         if rest.is_empty() {
-            write_end(&self.t, lines, &mut self.out);
+            write_end(self.t.read(), lines, &mut self.out);
             return;
         }
         if take_line(&mut self.t, rest, lines, &mut self.out).is_ok() {
-            write_end(&self.t, lines + 1, &mut self.out);
+            write_end(self.t.read(), lines + 1, &mut self.out);
         }
     }
 }

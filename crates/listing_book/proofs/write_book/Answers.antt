@@ -3,7 +3,7 @@ use native.Mathlib.Omega.{arith}
 use Rattle.posting.proofs.BookLaws.{rows-lie, journal-summable}
 use Rattle.listing_rules.specs.Texts.{bytes_of, line}
 use Rattle.listing_book.proofs.ListedLaws.{sound-dated, book-listed}
-use Rattle.lent.specs.Lent.{lent_mut}
+use Rattle.lent.specs.Lent.{lent}
 use Rattle.listing_book.proofs.write_book.Goals as goal
 
 pub rows-rows-requires : goal.rows-rows-requires
@@ -27,5 +27,5 @@ unfolding line bytes_of
 returns c =
     let a = c.args in
     let g = c.rows-rows.ensures in
-    book-listed (lent_mut a.t.now) c.requires.sound _ g.used _ _ _ _ _
+    book-listed (lent a.t) c.requires.sound _ g.used _ _ _ _ _
     c.extend_from_slice.ensures.text (rw g.journal at c.write_rows.ensures.text) c.extend_from_slice-2.ensures.text (rw g.journal at c.write_accounts.ensures.text)

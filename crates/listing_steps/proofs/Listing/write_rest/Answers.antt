@@ -5,19 +5,21 @@ use Rattle.listing_steps.proofs.Listing.write_rest.Goals as goal
 
 pub returns-then-is_empty-clause-text : goal.returns-then-is_empty-clause-text
 returns-then-is_empty-clause-text c =
-    rw (← rest-none c.args.self.now.place.lines _ c.args.self.now.input (search rules)) c.write_end.ensures
+    rw (← rest-none c.args.self.now.place.lines _ c.args.self.now.input (search rules)) (rw c.read.ensures.tables at c.write_end.ensures)
 
 pub write_end-requires-then-is_ok : goal.write_end-requires-then-is_ok
 write_end-requires-then-is_ok c =
     let w = rw c.as_bytes-rest.ensures at c.take_line.ensures.taken in
     let good = sym c.is_ok.ensures.value ∙ c.if-is_ok.true in
+    rw c.read-then-is_ok.ensures.tables
     (rest-ready c.args.self.now.place.lines _ _ c.args.self.now.input _ _ _ w c.requires.1 (search rules) good, omega (arith, w.short))
 
 pub returns-then-is_ok-clause-text : goal.returns-then-is_ok-clause-text
 returns-then-is_ok-clause-text c =
     let w = rw c.as_bytes-rest.ensures at c.take_line.ensures.taken in
     let good = sym c.is_ok.ensures.value ∙ c.if-is_ok.true in
-    rest-good c.args.self.now.place.lines _ _ c.args.self.now.input _ _ _ w c.requires.1 (search rules) good _ c.write_end-then-is_ok.ensures
+    let end = rw c.read-then-is_ok.ensures.tables at c.write_end-then-is_ok.ensures in
+    rest-good c.args.self.now.place.lines _ _ c.args.self.now.input _ _ _ w c.requires.1 (search rules) good _ end
 
 pub returns-else-is_ok-clause-text : goal.returns-else-is_ok-clause-text
 returns-else-is_ok-clause-text c =
