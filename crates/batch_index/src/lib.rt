@@ -6,7 +6,7 @@ mod slots; // slots.rt: from which row on something of each account's sources an
 
 ghost use Rattle.std.specs.Prelude.{◌≡◌, true, ◌≤◌};
 ghost use Rattle.rules.specs.Tables.{rows_used, sound_tables};
-ghost use Rattle.lent.specs.Lent.{lent_mut};
+ghost use Rattle.lent.specs.Lent.{lent};
 ghost use Rattle.records.specs.Limits.{most_rows};
 ghost use Rattle.sound_passages.specs.Trees.{TreesOf};
 ghost use Rattle.event_lookups.specs.Lookups.{LooksUp};
@@ -14,7 +14,7 @@ ghost use Rattle.batch_index.specs.Index.{Indexed, IndexedBefore, Empty, Indexab
 
 use balances::{is_low, may_topup};
 use event_lookups::Lookup;
-use lent::TablesMut;
+use lent::Tables;
 use records::Instruction;
 use records::codes::{EVENT_DECISION, EVENT_TICK, EVENT_TOLL, EVENT_TOPUP_RESULT};
 use records::limits::MOST_ROWS;
@@ -54,9 +54,9 @@ impl Index {
     }
 
     // The index of sound tables, made in one of no rows.
-    pub fn start(&mut self, t: &TablesMut)
-        requires { (sound_tables (lent_mut t.now) ≡ true) × Empty self.old }
-        ensures { Indexed (lent_mut t.now) self.new }
+    pub fn start(&mut self, t: Tables)
+        requires { (sound_tables (lent t) ≡ true) × Empty self.old }
+        ensures { Indexed (lent t.entry) self.new }
     {
         let countable = CountableRows { rows: t.rows() };
         index_passages(&countable.rows, 0, &mut self.cells);
@@ -64,10 +64,10 @@ impl Index {
     }
 
     // What the index has for an event, without a pass over the journal.
-    pub fn look_up(&self, t: &TablesMut, e: Instruction) -> Lookup
-        requires { (sound_tables (lent_mut t.now) ≡ true)
-            × Indexed (lent_mut t.now) self.now }
-        ensures { LooksUp (lent_mut t.now) e result }
+    pub fn look_up(&self, t: Tables, e: Instruction) -> Lookup
+        requires { (sound_tables (lent t) ≡ true)
+            × Indexed (lent t) self.now }
+        ensures { LooksUp (lent t.entry) e result }
     {
         let slot = self.slots.slot_of(e.account);
         let mut found = Lookup {
@@ -97,11 +97,11 @@ impl Index {
 
     // The index after an event that found `before` rows: the rows that it added go in. Where held rows may have been paid, which the
     // added rows do not tell, the slots are made anew, in the time of the tick or of the settlement that paid them.
-    pub fn update(&mut self, t: &TablesMut, before: usize, e: Instruction)
-        requires { (sound_tables (lent_mut t.now) ≡ true)
-            × (before ≤ rows_used (lent_mut t.now))
-            × IndexedBefore (lent_mut t.now) before e self.old }
-        ensures { Indexed (lent_mut t.now) self.new }
+    pub fn update(&mut self, t: Tables, before: usize, e: Instruction)
+        requires { (sound_tables (lent t) ≡ true)
+            × (before ≤ rows_used (lent t))
+            × IndexedBefore (lent t) before e self.old }
+        ensures { Indexed (lent t.entry) self.new }
     {
         let countable = CountableRows { rows: t.rows() };
         index_passages(&countable.rows, before, &mut self.cells);

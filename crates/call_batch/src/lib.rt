@@ -39,12 +39,13 @@ fn post_indexed(
         (answer_of result) }
     ensures indexed { Indexed (lent_mut t.new) index.new }
 {
-    let e = forward(t, e);
-    let x = admit(t, e)?;
+    let tables = t.read();
+    let e = forward(tables, e);
+    let x = admit(tables, e)?;
     let before = t.used() as usize;
-    let k = index.look_up(t, e);
+    let k = index.look_up(tables, e);
     let outcome = post_admitted(t, holidays, e, x, k);
-    index.update(t, before, e);
+    index.update(t.read(), before, e);
     outcome
 }
 
@@ -84,9 +85,9 @@ pub fn batch_call(
         (tables_with holidays.now (lent_mut t.new))
         answers.new }
 {
-    check_batch(t, holidays, events.len(), answers)?;
+    check_batch(t.read(), holidays, events.len(), answers)?;
     let mut index = Index::new();
-    index.start(t);
+    index.start(t.read());
     for (i, event) in events.iter().enumerate() {
         post_record(t, holidays, answers, i, *event, &mut index);
     }

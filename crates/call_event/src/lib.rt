@@ -30,7 +30,7 @@ fn post_call(
         answer.now
         (answer_of result) }
 {
-    check_event(t, holidays, event, answer)?;
+    check_event(t.read(), holidays, event, answer)?;
     let e = read_event(event);
     post_event(t, holidays, e)
 }

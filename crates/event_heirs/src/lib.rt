@@ -4,9 +4,9 @@
 ghost use Rattle.std.specs.Prelude.{◌≡◌};
 ghost use Rattle.rules.specs.Successors.{takes_tolls, toll_account, forwarded};
 ghost use Rattle.rules.specs.Tables.{book_of};
-ghost use Rattle.lent.specs.Lent.{lent_mut};
+ghost use Rattle.lent.specs.Lent.{lent};
 
-use lent::TablesMut;
+use lent::Tables;
 use records::codes::{EVENT_TOLL, STATE_CLOSED, STATE_OPEN, STATE_PENDING};
 use records::{Account, Instruction};
 
@@ -18,8 +18,8 @@ fn takes_tolls(x: Account) -> bool
 }
 
 // The account on which a toll of account n posts: its successor, one step and no further, where n is closed and the successor takes tolls.
-fn toll_account(t: &TablesMut, n: u64) -> u64
-    ensures { result ≡ toll_account (book_of (lent_mut t.now)) n }
+fn toll_account(t: Tables, n: u64) -> u64
+    ensures { result ≡ toll_account (book_of (lent t.entry)) n }
 {
     let x = t.account(n);
     if x.state != STATE_CLOSED {
@@ -33,8 +33,8 @@ fn toll_account(t: &TablesMut, n: u64) -> u64
 }
 
 // The event as it is posted: a toll on the account that takes it, every other event as it came.
-pub fn forward(t: &TablesMut, e: Instruction) -> Instruction
-    ensures { result ≡ forwarded (book_of (lent_mut t.now)) e }
+pub fn forward(t: Tables, e: Instruction) -> Instruction
+    ensures { result ≡ forwarded (book_of (lent t.entry)) e }
 {
     if e.kind != EVENT_TOLL {
         return e;

@@ -10,10 +10,10 @@ ghost use Rattle.rules.specs.Rows.{toll};
 ghost use Rattle.rules.specs.Tables.{sound_tables};
 ghost use Rattle.table_rows.specs.UsedRows.{rows_in};
 ghost use Rattle.event_lookups.specs.Lookups.{LooksUp};
-ghost use Rattle.lent.specs.Lent.{lent_mut};
+ghost use Rattle.lent.specs.Lent.{lent};
 
 use balances::topup_due;
-use lent::TablesMut;
+use lent::Tables;
 use records::Instruction;
 use records::codes::{EVENT_TOLL, EVENT_TOPUP_RESULT, KIND_TOLL};
 use table_rows::{Rows, kind_at, reference_at};
@@ -48,9 +48,9 @@ fn passage_found(rows: &Rows, passage: u64) -> bool
 }
 
 // For one event: the journal is searched where it is a toll or a top-up result, and nothing is known of the account's rows.
-pub fn look_up(t: &TablesMut, e: Instruction) -> Lookup
-    requires { sound_tables (lent_mut t.now) ≡ true }
-    ensures { LooksUp (lent_mut t.now) e result }
+pub fn look_up(t: Tables, e: Instruction) -> Lookup
+    requires { sound_tables (lent t) ≡ true }
+    ensures { LooksUp (lent t.entry) e result }
 {
     let mut found = Lookup::default();
     if e.kind == EVENT_TOLL {
@@ -58,7 +58,7 @@ pub fn look_up(t: &TablesMut, e: Instruction) -> Lookup
         return found;
     }
     if e.kind == EVENT_TOPUP_RESULT {
-        found.due = topup_due(t.read(), e.account);
+        found.due = topup_due(t, e.account);
     }
     found
 }

@@ -8,10 +8,10 @@ ghost use Rattle.records.specs.Outcomes.{number_by};
 ghost use Rattle.rules.specs.Refusals.{list_refused, unknown, taken, on_closed, shared_refusals};
 ghost use Rattle.rules.specs.Tables.{lists_in, sound_tables};
 ghost use Rattle.event_refusals.specs.Admissions.{Read, Admits};
-ghost use Rattle.lent.specs.Lent.{lent_mut};
+ghost use Rattle.lent.specs.Lent.{lent};
 
 use event_forms::well_formed;
-use lent::TablesMut;
+use lent::Tables;
 use records::codes::{
     EVENT_CLOSE_REQUEST, EVENT_OPEN, EVENT_PAYMENT, EVENT_RATE_LIST, EVENT_RESERVE, EVENT_TICK,
     EVENT_TOLL, EVENT_TOPUP_RESULT, STATE_CLOSED, STATE_UNUSED,
@@ -88,9 +88,9 @@ fn check_shared(late: bool, count: u64, e: Instruction, x: Account) -> Result<()
 }
 
 // The account that the event names, read once, or the shared refusal that applies to it.
-pub fn admit(t: &TablesMut, e: Instruction) -> Result<Account, Refusal>
-    requires { sound_tables (lent_mut t.now) ≡ true }
-    ensures { Admits (lent_mut t.now) e result }
+pub fn admit(t: Tables, e: Instruction) -> Result<Account, Refusal>
+    requires { sound_tables (lent t) ≡ true }
+    ensures { Admits (lent t.entry) e result }
 {
     let late = list_refused(Header { words: t.header }, e);
     let x = t.account(e.account);

@@ -81,8 +81,9 @@ pub fn post_event(t: &mut TablesMut, holidays: &[i64], e: Instruction) -> Result
         e
         (answer_of result) }
 {
-    let e = forward(t, e);
-    let x = admit(t, e)?;
-    let k = look_up(t, e);
+    let tables = t.read();
+    let e = forward(tables, e);
+    let x = admit(tables, e)?;
+    let k = look_up(tables, e);
     post_admitted(t, holidays, e, x, k)
 }

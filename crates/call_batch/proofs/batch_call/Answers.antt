@@ -2,7 +2,7 @@
 use Rattle.std.proofs.Common.{rules}
 use Rattle.std.specs.Prelude.{◌≡◌, Err}
 use native.Mathlib.Omega.{arith}
-use mathlib.Core.Path.{refl}
+use mathlib.Core.Path.{refl, ap}
 use Rattle.rules.specs.Tables.{tables_with}
 use Rattle.rules.proofs.HolidayTables.{sound-without}
 use Rattle.lent.proofs.LentLaws.{same-none, same-same}
@@ -13,19 +13,25 @@ use Rattle.call_batch.proofs.batch_call.Goals.{In_ok-check_batch}
 
 -- a batch that is not refused
 run : (c : In_ok-check_batch) → Taken (tables_with c.args.holidays.now (lent_mut c.args.t.now)) c.args.events.now c.args.answers.now
-run c = taken _ _ _ (c.in_ok-check_batch.ensures c.args.events.now refl)
+run c =
+    let e = ap (tables_with c.args.holidays.now) c.read.ensures.tables in
+    taken _ _ _ (rw e at (c.in_ok-check_batch.ensures c.args.events.now refl))
 
 pub returns-in_err-check_batch-clause-gives : goal.returns-in_err-check_batch-clause-gives
 returns-in_err-check_batch-clause-gives c =
     let q : c.from_residual.result ≡ Err c.in_err-check_batch.field-0.0 = search rules in
-    rw q (batch-refused _ c.args.events.now _ _ (c.in_err-check_batch.ensures c.args.events.now refl))
+    let e = ap (tables_with c.args.holidays.now) c.read.ensures.tables in
+    rw q (batch-refused _ c.args.events.now _ _ (rw e at (c.in_err-check_batch.ensures c.args.events.now refl)))
 
 pub start-requires : goal.start-requires
 start-requires c =
+    rw c.read-2.ensures.tables
     (sound-without c.args.holidays.now (lent_mut c.args.t.now) (run (goal.at.start-requires c).In_ok-check_batch).sound, c.new-index.ensures)
 
 pub loop-i-init : goal.loop-i-init
-loop-i-init c = (same-none c.args.t.now, after_none _ _ _ (run (goal.at.loop-i-init c).In_ok-check_batch), c.start.ensures)
+loop-i-init c =
+    let i = rw c.read-2.ensures.tables at c.start.ensures in
+    (same-none c.args.t.now, after_none _ _ _ (run (goal.at.loop-i-init c).In_ok-check_batch), i)
 
 pub post_record-requires : goal.post_record-requires
 post_record-requires c =

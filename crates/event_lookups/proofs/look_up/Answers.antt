@@ -16,7 +16,7 @@ returns-then-e-eq-EVENT_TOLL c =
 
 pub returns-then-e-eq-EVENT_TOPUP_RESULT : goal.returns-then-e-eq-EVENT_TOPUP_RESULT
 returns-then-e-eq-EVENT_TOPUP_RESULT c =
-    looks-up-all _ _ _ (search rules) (search rules) (λ k. absurd (c.if-e-eq-EVENT_TOLL.false k)) (λ k. rw c.read.ensures.tables at c.topup_due.ensures)
+    looks-up-all _ _ _ (search rules) (search rules) (λ k. absurd (c.if-e-eq-EVENT_TOLL.false k)) (λ k. c.topup_due.ensures)
 
 pub returns-else-e-eq-EVENT_TOPUP_RESULT : goal.returns-else-e-eq-EVENT_TOPUP_RESULT
 returns-else-e-eq-EVENT_TOPUP_RESULT c =
