@@ -1,4 +1,4 @@
--- Where a byte stands in a list of bytes, and how many bytes a text may have.
+-- Where a byte stands in a list of bytes, and how many bytes a number, a date and the listing program's text may have.
 use Rattle.std.specs.Prelude.{ℕ, suc, Bool, true, false, List, [], ◌∷◌, eqb}
 
 -- the place in a list with one more byte before it, from the place without: 0 where that byte is the one looked for
@@ -18,6 +18,6 @@ most_number_bytes = 20
 abbrev pub date_bytes : ℕ
 date_bytes = 10
 
--- the bytes that a text has room for
+-- the bytes that the listing program's text has room for
 abbrev pub text_bytes : ℕ
 text_bytes = 65536

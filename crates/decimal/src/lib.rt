@@ -6,7 +6,7 @@ ghost use Rattle.std.specs.Prelude.{◌≡◌, [], ◌∷◌, ◌<◌, length, t
 ghost use Rattle.decimal.specs.Bytes.{index_of};
 ghost use Rattle.decimal.specs.Decimal.{digit_value, magnitude, plain, minus, number_of, fields_of, is_numbers, numbers_of};
 
-pub use text::Text;
+pub use text::{TEXT_BYTES, Text};
 
 mod text;
 

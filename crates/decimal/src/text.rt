@@ -1,47 +1,46 @@
 // A text that is written from front to back into a fixed buffer.
 ghost use Rattle.std.specs.Prelude.{◌≡◌, [], ◌∷◌, ◌++◌, ◌+◌, ◌≤◌, ◌<◌, length};
-ghost use Rattle.decimal.specs.Bytes.{most_number_bytes, date_bytes, text_bytes};
+ghost use Rattle.decimal.specs.Bytes.{most_number_bytes, date_bytes};
 ghost use Rattle.decimal.specs.Decimal.{digits_of, text_of, two_digits, date_text};
 
 use itoa::Buffer;
 use std::marker::Model;
 
-// The bytes that a text has room for.
-const TEXT_BYTES: usize = 65536;
+// The bytes that the listing program's text has room for.
+pub const TEXT_BYTES: usize = 65536;
 
-// A text, which clauses see as its bytes.
+// A text with room for N bytes, which clauses see as its bytes.
 // Kept: a fixed buffer with its length beside it, since there is no heap.
 #[derive(Drop)]
-pub struct Text {
-    bytes: [u8; TEXT_BYTES],
+pub struct Text<const N: usize> {
+    bytes: [u8; N],
     len: usize,
 }
 
-impl Model for Text {
+impl<const N: usize> Model for Text<N> {
     ghost use Rattle.std.specs.Prelude.{ℕ, List, ◌≤◌, take};
-    ghost use Rattle.decimal.specs.Bytes.{text_bytes};
 
     ghost Value = { List ℕ };
 
     ghost view = { λ t. take t.len t.bytes };
 
-    ghost invariant = { λ t. t.len ≤ text_bytes };
+    ghost invariant = { λ t. t.len ≤ N };
 }
 
-impl Text {
+impl<const N: usize> Text<N> {
     // A text of no bytes.
     pub fn new() -> Self
         ensures { result ≡ [] }
     {
         Text {
-            bytes: [0; TEXT_BYTES],
+            bytes: [0; N],
             len: 0,
         }
     }
 
     pub fn len(&self) -> usize
         ensures value { result ≡ length self.now }
-        ensures within { result ≤ text_bytes }
+        ensures within { result ≤ N }
     {
         self.len
     }
@@ -59,7 +58,7 @@ impl Text {
     }
 
     pub fn push(&mut self, b: u8)
-        requires { length self.old < text_bytes }
+        requires { length self.old < N }
         ensures text { self.new ≡ self.old ++ (b ∷ []) }
         ensures longer { length self.new ≡ length self.old + 1 }
     {
@@ -68,18 +67,19 @@ impl Text {
     }
 
     pub fn extend_from_slice(&mut self, bytes: &[u8])
-        requires { length self.old + length bytes.now ≤ text_bytes }
+        requires { length self.old + length bytes.now ≤ N }
         ensures text { self.new ≡ self.old ++ bytes.now }
         ensures longer { length self.new ≡ length self.old + length bytes.now }
     {
         let end = self.len + bytes.len();
-        self.bytes[self.len..end].copy_from_slice(bytes);
+        let buffer = &mut self.bytes[..];
+        buffer[self.len..end].copy_from_slice(bytes);
         self.len = end;
     }
 
     // The digits of a number.
     pub fn push_digits(&mut self, n: u64)
-        requires { length self.old + length (digits_of n) ≤ text_bytes }
+        requires { length self.old + length (digits_of n) ≤ N }
         ensures text { self.new ≡ self.old ++ digits_of n }
         ensures longer { length self.new ≡ length self.old + length (digits_of n) }
     {
@@ -91,7 +91,7 @@ impl Text {
     // Kept, here, for dates and for the listing's lines (write_answer, write_bad_line, write_row, write_account): by `Display` the text
     // goes through a writer that may fail, and these cannot.
     pub fn push_number(&mut self, v: i64)
-        requires { length self.old + most_number_bytes ≤ text_bytes }
+        requires { length self.old + most_number_bytes ≤ N }
         ensures text { self.new ≡ self.old ++ text_of v }
         ensures short { length self.new ≤ length self.old + most_number_bytes }
     {
@@ -101,7 +101,7 @@ impl Text {
 
     // The last two digits of a number.
     fn push_two(&mut self, n: u64)
-        requires { length self.old + 2 ≤ text_bytes }
+        requires { length self.old + 2 ≤ N }
         ensures text { self.new ≡ self.old ++ two_digits n }
         ensures short { length self.new ≡ length self.old + 2 }
     {
@@ -111,7 +111,7 @@ impl Text {
 
     // The date of a day number as yyyy-mm-dd.
     pub fn push_date(&mut self, day: u64)
-        requires { (length self.old + date_bytes ≤ text_bytes) × (1 ≤ day) × (day ≤ 36525) }
+        requires { (length self.old + date_bytes ≤ N) × (1 ≤ day) × (day ≤ 36525) }
         ensures text { self.new ≡ self.old ++ date_text day }
         ensures short { length self.new ≡ length self.old + date_bytes }
     {

@@ -1,5 +1,6 @@
 -- A turn of the program: a step of the listing, or a read, or the end of the input; and what is printed after it.
 use Rattle.std.specs.Prelude.{◌≡◌, Bool, true, false, cond, ◌||◌, ℕ, ◌<◌, List, [], ◌++◌, leb, length}
+use Rattle.decimal.specs.Bytes.{text_bytes}
 use Rattle.rules.specs.Tables.{Tables}
 use Rattle.lent.specs.Lent.{lent_mut}
 use Rattle.listing_steps.specs.declared.Phase.TheVariants as phase
@@ -40,7 +41,7 @@ pub record Starts (s : State) : Type 0 where
 
 -- the program can take its next turn: where it waits everything is printed
 pub record Standing (s : State) : Type 0 where
-  pub stands : Stands s.tables s.out s.place
+  pub stands : Stands text_bytes s.tables s.out s.place
   pub waiting : waits s.place ≡ true → Waiting s.input
   pub empty : waits s.place ≡ true → s.out ≡ []
 

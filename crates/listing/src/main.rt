@@ -10,7 +10,7 @@ ghost use Rattle.listing.specs.Turns.{state_of, Starts, Standing, Reads, Turned,
 ghost use Rattle.listing.specs.Runs.{Ran};
 ghost use Rattle.lent.specs.Lent.{lent_mut, SameTables};
 
-use decimal::Text;
+use decimal::{TEXT_BYTES, Text};
 use lent::TablesMut;
 use listing_input::Input;
 use listing_steps::{Listing, Phase, Place};
@@ -40,7 +40,7 @@ pub enum Ending {
 // ---- printing
 
 // Whether what is written is to be printed: before it waits, at the end, and where little room is left.
-fn must_print(p: Place, out: &Text) -> bool
+fn must_print(p: Place, out: &Text<TEXT_BYTES>) -> bool
     ensures { result ≡ due p out.now }
 {
     match p.phase {

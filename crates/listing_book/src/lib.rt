@@ -5,7 +5,6 @@
 ghost use Rattle.std.specs.Prelude.{◌≡◌, true, ◌++◌, ◌+◌, ◌*◌, ◌≤◌, length};
 ghost use Rattle.lists.specs.Lists.{gather};
 ghost use Rattle.records.specs.Encoding.{accounts_of};
-ghost use Rattle.decimal.specs.Bytes.{text_bytes};
 ghost use Rattle.decimal.specs.Decimal.{text_of, date_text};
 ghost use Rattle.records.specs.Limits.{final_day};
 ghost use Rattle.rules.specs.Book.{Book, sources, debits, minus};
@@ -29,8 +28,8 @@ use table_rows::{Rows, read_row};
 // ---- rows
 
 // Writes the date of a day and the comma that ends its field.
-fn write_day_field(out: &mut Text, day: u64)
-    requires { (length out.old + most_day_bytes ≤ text_bytes) × (1 ≤ day) × (day ≤ final_day) }
+fn write_day_field<const N: usize>(out: &mut Text<N>, day: u64)
+    requires { (length out.old + most_day_bytes ≤ N) × (1 ≤ day) × (day ≤ final_day) }
     ensures text { out.new ≡ out.old ++ field (date_text day) }
     ensures short { length out.new ≤ length out.old + most_day_bytes }
 {
@@ -39,8 +38,8 @@ fn write_day_field(out: &mut Text, day: u64)
 }
 
 // Writes the line of row n.
-fn write_row(out: &mut Text, n: u64, r: Row)
-    requires { (length out.old + most_row_bytes ≤ text_bytes) × (1 ≤ r.day) × (r.day ≤ final_day) }
+fn write_row<const N: usize>(out: &mut Text<N>, n: u64, r: Row)
+    requires { (length out.old + most_row_bytes ≤ N) × (1 ≤ r.day) × (r.day ≤ final_day) }
     ensures text { out.new ≡ out.old ++ row_text n r }
     ensures short { length out.new ≤ length out.old + most_row_bytes }
 {
@@ -53,8 +52,8 @@ fn write_row(out: &mut Text, n: u64, r: Row)
 }
 
 // Writes a line for each used row.
-fn write_rows(out: &mut Text, rows: &Rows)
-    requires { (length out.old + rows.now.used * most_row_bytes ≤ text_bytes)
+fn write_rows<const N: usize>(out: &mut Text<N>, rows: &Rows)
+    requires { (length out.old + rows.now.used * most_row_bytes ≤ N)
         × Dated rows.now.journal.now rows.now.used }
     ensures text { out.new ≡ out.old ++ gather row_text (rows_in rows.now) }
     ensures short { length out.new ≤ length out.old + rows.now.used * most_row_bytes }
@@ -67,8 +66,8 @@ fn write_rows(out: &mut Text, rows: &Rows)
 // ---- accounts
 
 // Writes the balance of account n, its sources less its debits, as the last field of a line.
-fn write_balance(out: &mut Text, summable: SummableRows, n: u64)
-    requires { length out.old + most_field_bytes ≤ text_bytes }
+fn write_balance<const N: usize>(out: &mut Text<N>, summable: SummableRows, n: u64)
+    requires { length out.old + most_field_bytes ≤ N }
     ensures text { out.new ≡ out.old ++ line (text_of
         (minus (sources (rows_in summable.entry.rows) n) (debits (rows_in summable.entry.rows) n))) }
     ensures short { length out.new ≤ length out.old + most_field_bytes }
@@ -79,8 +78,8 @@ fn write_balance(out: &mut Text, summable: SummableRows, n: u64)
 }
 
 // Writes the line of account n in a book with these rows, nothing of an unused one.
-fn write_account(out: &mut Text, summable: SummableRows, n: u64, x: Account)
-    requires { length out.old + most_account_bytes ≤ text_bytes }
+fn write_account<const N: usize>(out: &mut Text<N>, summable: SummableRows, n: u64, x: Account)
+    requires { length out.old + most_account_bytes ≤ N }
     ensures text { (b : Book) → b.rows ≡ rows_in summable.entry.rows → out.new ≡ out.old ++ account_text b n x }
     ensures short { length out.new ≤ length out.old + most_account_bytes }
 {
@@ -93,8 +92,8 @@ fn write_account(out: &mut Text, summable: SummableRows, n: u64, x: Account)
 }
 
 // Writes a line for each used account of the tables, in a book with these rows.
-fn write_accounts(out: &mut Text, t: Tables, summable: SummableRows)
-    requires { length out.old + accounts_in (lent t) * most_account_bytes ≤ text_bytes }
+fn write_accounts<const N: usize>(out: &mut Text<N>, t: Tables, summable: SummableRows)
+    requires { length out.old + accounts_in (lent t) * most_account_bytes ≤ N }
     ensures text { (b : Book) → b.rows ≡ rows_in summable.entry.rows
         → out.new ≡ out.old ++ gather (account_text b) (accounts_of t.entry.accounts.now (accounts_in (lent t.entry))) }
     ensures short { length out.new ≤ length out.old + accounts_in (lent t.entry) * most_account_bytes }
@@ -108,11 +107,11 @@ fn write_accounts(out: &mut Text, t: Tables, summable: SummableRows)
 // ---- the book
 
 // Writes the rows and the used accounts of a sound book, each part with its names before it.
-pub fn write_book(t: Tables, out: &mut Text)
+pub fn write_book<const N: usize>(t: Tables, out: &mut Text<N>)
     requires sound { sound_tables (lent t) ≡ true }
     requires room { length out.old + book_names_bytes
         + rows_used (lent t) * most_row_bytes
-        + accounts_in (lent t) * most_account_bytes ≤ text_bytes }
+        + accounts_in (lent t) * most_account_bytes ≤ N }
     ensures { out.new ≡ out.old ++ book_text (book_of (lent t.entry)) }
 {
     let rows = t.rows();

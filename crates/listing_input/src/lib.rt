@@ -33,6 +33,14 @@ impl Model for Input {
     ghost invariant = { λ i. (i.from ≤ i.to) × (i.to ≤ input_bytes) };
 }
 
+// The place of the first line feed, where there is one.
+pub fn line_end(bytes: &[u8]) -> Option<usize>
+    ensures value { unwrap_or result (length bytes.now) ≡ index_of 10 bytes.now }
+    ensures within { IfSome result (λ k. k < length bytes.now) }
+{
+    find(bytes, b'\n')
+}
+
 impl Input {
     // Nothing is read.
     pub fn new() -> Self
@@ -56,7 +64,7 @@ impl Input {
         ensures value { unwrap_or result (length self.now) ≡ index_of 10 self.now }
         ensures within { IfSome result (λ k. k < length self.now) }
     {
-        find(self.as_bytes(), b'\n')
+        line_end(self.as_bytes())
     }
 
     // Takes the first n bytes.

@@ -2,7 +2,6 @@
 #![tactic(auto)]
 
 ghost use Rattle.std.specs.Prelude.{◌≡◌, [], cond, ◌++◌, ◌+◌, ◌≤◌, ◌<◌, length, is_ok};
-ghost use Rattle.decimal.specs.Bytes.{text_bytes};
 ghost use Rattle.listing_rules.specs.Listing.{most_lines, is_good};
 ghost use Rattle.listing_rules.specs.Sizes.{most_answer_bytes};
 ghost use Rattle.listing_lines.specs.Lines.{answer_names, Ready, Judged, Carried, Taken};
@@ -51,8 +50,8 @@ fn second_line(t: &mut TablesMut, line: &[u8]) -> Result<(), BadLine>
 }
 
 // Line 3: the names of an event's words. The answers' names are printed for it.
-fn third_line(line: &[u8], out: &mut Text) -> Result<(), BadLine>
-    requires { length out.old + most_answer_bytes ≤ text_bytes }
+fn third_line<const N: usize>(line: &[u8], out: &mut Text<N>) -> Result<(), BadLine>
+    requires { length out.old + most_answer_bytes ≤ N }
     ensures good { is_ok result ≡ is_good 2 line.now }
     ensures text { out.new ≡ out.old ++ cond (is_good 2 line.now) answer_names [] }
     ensures short { length out.new ≤ length out.old + most_answer_bytes }
@@ -65,8 +64,13 @@ fn third_line(line: &[u8], out: &mut Text) -> Result<(), BadLine>
 }
 
 // An event line, n lines before it: posted, its answer printed.
-fn event_line(t: &mut TablesMut, line: &[u8], n: u64, out: &mut Text) -> Result<(), BadLine>
-    requires { (length out.old + most_answer_bytes ≤ text_bytes) × (3 ≤ n) × (n < most_lines)
+fn event_line<const N: usize>(
+    t: &mut TablesMut,
+    line: &[u8],
+    n: u64,
+    out: &mut Text<N>,
+) -> Result<(), BadLine>
+    requires { (length out.old + most_answer_bytes ≤ N) × (3 ≤ n) × (n < most_lines)
         × Ready n (lent_mut t.old) }
     ensures same { SameTables t.old t.new }
     ensures carried { Carried n
@@ -81,8 +85,13 @@ fn event_line(t: &mut TablesMut, line: &[u8], n: u64, out: &mut Text) -> Result<
 }
 
 // Any line, n lines before it. Nothing is printed for a bad one.
-fn carry_out(t: &mut TablesMut, line: &[u8], n: u64, out: &mut Text) -> Result<(), BadLine>
-    requires { (length out.old + most_answer_bytes ≤ text_bytes) × (n < most_lines)
+fn carry_out<const N: usize>(
+    t: &mut TablesMut,
+    line: &[u8],
+    n: u64,
+    out: &mut Text<N>,
+) -> Result<(), BadLine>
+    requires { (length out.old + most_answer_bytes ≤ N) × (n < most_lines)
         × Ready n (lent_mut t.old) }
     ensures same { SameTables t.old t.new }
     ensures carried { Carried n
@@ -100,8 +109,13 @@ fn carry_out(t: &mut TablesMut, line: &[u8], n: u64, out: &mut Text) -> Result<(
 }
 
 // Any line, n lines before it.
-pub fn take_line(t: &mut TablesMut, line: &[u8], n: u64, out: &mut Text) -> Result<(), BadLine>
-    requires { (length out.old + most_answer_bytes ≤ text_bytes) × (n < most_lines)
+pub fn take_line<const N: usize>(
+    t: &mut TablesMut,
+    line: &[u8],
+    n: u64,
+    out: &mut Text<N>,
+) -> Result<(), BadLine>
+    requires { (length out.old + most_answer_bytes ≤ N) × (n < most_lines)
         × Ready n (lent_mut t.old) }
     ensures same { SameTables t.old t.new }
     ensures taken { Taken n

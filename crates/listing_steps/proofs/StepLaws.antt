@@ -9,7 +9,7 @@ use lib.ListN.{length, take, drop}
 use Rattle.std.specs.Prelude.{is_ok}
 use Rattle.std.proofs.lemmas.Bool.{cases_lt}
 use Rattle.std.proofs.Common.{inl, inr}
-use Rattle.decimal.specs.Bytes.{index_of, text_bytes}
+use Rattle.decimal.specs.Bytes.{index_of}
 use Rattle.decimal.proofs.WritingLaws.{appended}
 use Rattle.rules.specs.Book.{Book}
 use Rattle.rules.specs.Tables.{Tables, accounts_in, room_in, rows_used, book_of}
@@ -26,7 +26,7 @@ use Rattle.listing_steps.specs.Steps.{is_waiting, is_over, Stands, to_list, wait
 
 -- ---- a step
 
-module _ (t : Tables) (i b : List ℕ) (p : Place) (s : Stands t b p) where
+module _ (bytes : ℕ) (t : Tables) (i b : List ℕ) (p : Place) (s : Stands bytes t b p) where
   -- no whole line yet
   pub step-waits : index_of 10 i ≡ length i → length i ≤ most_line_bytes → Stepped t t i i b b p (waiting_at p)
   unfolding to_list
@@ -139,9 +139,9 @@ unfolding listed
 end-book n b h = rw (le-ltb n 3 h) refl
 
 -- its rows and accounts have room
-pub end-room : (n : ℕ) (t : Tables) (size : ℕ) → Ready n t → 3 ≤ n → size + most_book_bytes ≤ text_bytes
-    → size + book_names_bytes + rows_used t * most_row_bytes + accounts_in t * most_account_bytes ≤ text_bytes
-end-room n t size r h k =
+pub end-room : (n : ℕ) (t : Tables) (size bytes : ℕ) → Ready n t → 3 ≤ n → size + most_book_bytes ≤ bytes
+    → size + book_names_bytes + rows_used t * most_row_bytes + accounts_in t * most_account_bytes ≤ bytes
+end-room n t size bytes r h k =
     let a : accounts_in t ≡ 64 = rw r.sized.accounts refl in
     let j : room_in t ≡ 512 = rw r.sized.journal refl in
     omega (arith, used_le t (r.sound (omega arith)))

@@ -1,7 +1,7 @@
 -- A step of the listing: what is to be listed before it is what it prints, and what is to be listed after it, whatever input is still to
 -- come.
 use Rattle.std.specs.Prelude.{◌≡◌, Bool, true, false, cond, ℕ, ◌+◌, ◌≤◌, ◌<◌, List, [], ◌++◌, length, drop}
-use Rattle.decimal.specs.Bytes.{index_of, text_bytes}
+use Rattle.decimal.specs.Bytes.{index_of}
 use Rattle.rules.specs.Tables.{Tables, book_of}
 use Rattle.listing_rules.specs.Texts.{lines_of, bad_line}
 use Rattle.listing_rules.specs.Listing.{most_lines, listed}
@@ -30,10 +30,10 @@ waits p = is_waiting p.phase
 abbrev pub over : Place → Bool
 over p = is_over p.phase
 
--- the tables are ready, there is room for one more line of output, and the lines can be counted on
-pub record Stands (t : Tables) (out : List ℕ) (p : Place) : Type 0 where
+-- the tables are ready, there is room for one more line of output in a text of so many bytes, and the lines can be counted on
+pub record Stands (bytes : ℕ) (t : Tables) (out : List ℕ) (p : Place) : Type 0 where
   pub ready : Ready p.lines t
-  pub room : length out + most_answer_bytes ≤ text_bytes
+  pub room : length out + most_answer_bytes ≤ bytes
   pub few : p.lines < most_lines
 
 -- the bytes read and not taken, and then more, listed after the lines taken

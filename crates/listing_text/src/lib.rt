@@ -2,7 +2,6 @@
 #![tactic(auto)]
 
 ghost use Rattle.std.specs.Prelude.{◌≡◌, [], ◌∷◌, ◌++◌, ◌+◌, ◌≤◌, length};
-ghost use Rattle.decimal.specs.Bytes.{text_bytes};
 ghost use Rattle.decimal.specs.Decimal.{digits_of};
 ghost use Rattle.listing_rules.specs.Texts.{answer_text, bad_line};
 ghost use Rattle.listing_rules.specs.Sizes.{most_answer_bytes, most_field_bytes, most_bad_line_bytes};
@@ -11,8 +10,8 @@ use decimal::Text;
 use records::Answer;
 
 // Writes a number and the byte that ends its field.
-pub fn write_field(out: &mut Text, n: u64, end: u8)
-    requires { length out.old + most_field_bytes ≤ text_bytes }
+pub fn write_field<const N: usize>(out: &mut Text<N>, n: u64, end: u8)
+    requires { length out.old + most_field_bytes ≤ N }
     ensures text { out.new ≡ out.old ++ (digits_of n ++ (end ∷ [])) }
     ensures short { length out.new ≤ length out.old + most_field_bytes }
 {
@@ -21,8 +20,8 @@ pub fn write_field(out: &mut Text, n: u64, end: u8)
 }
 
 // Writes the answer to the n-th event.
-pub fn write_answer(out: &mut Text, n: u64, a: Answer)
-    requires { length out.old + most_answer_bytes ≤ text_bytes }
+pub fn write_answer<const N: usize>(out: &mut Text<N>, n: u64, a: Answer)
+    requires { length out.old + most_answer_bytes ≤ N }
     ensures text { out.new ≡ out.old ++ answer_text n a }
     ensures short { length out.new ≤ length out.old + most_answer_bytes }
 {
@@ -35,8 +34,8 @@ pub fn write_answer(out: &mut Text, n: u64, a: Answer)
 }
 
 // Writes that line n is bad.
-pub fn write_bad_line(out: &mut Text, n: u64)
-    requires { length out.old + most_bad_line_bytes ≤ text_bytes }
+pub fn write_bad_line<const N: usize>(out: &mut Text<N>, n: u64)
+    requires { length out.old + most_bad_line_bytes ≤ N }
     ensures text { out.new ≡ out.old ++ bad_line n }
     ensures short { length out.new ≤ length out.old + most_bad_line_bytes }
 {

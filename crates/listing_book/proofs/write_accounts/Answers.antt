@@ -6,10 +6,10 @@ use Rattle.listing_book.proofs.ListedLaws.{listed-none, listed_more}
 use Rattle.listing_book.proofs.write_accounts.Goals as goal
 
 pub loop-i-init : goal.loop-i-init
-loop-i-init c = record { text = λ b e. listed-none (account_text b) (account_at c.args.t.accounts.now) _; short = omega arith }
+loop-i-init g c = record { text = λ b e. listed-none (account_text b) (account_at c.args.t.accounts.now) _; short = omega arith }
 
 pub loop-i-preserved : goal.loop-i-preserved
-loop-i-preserved c = record {
+loop-i-preserved g c = record {
   text = λ b e.
       listed_more (account_text b) (account_at c.args.t.accounts.now) _ _ _ c.loop-i.i _ c.read_account.ensures
       (c.loop-i.invariant.text b e) (c.write_account.ensures.text b e);

@@ -11,13 +11,13 @@ use Rattle.decimal.proofs.WritingLaws.{appended}
 use Rattle.listing_book.proofs.write_balance.Goals as goal
 
 pub balance-requires : goal.balance-requires
-balance-requires c =
+balance-requires g c =
     let h = sums-fit _ _ c.args.summable.amounts _ _ c.sums_of-s.ensures in
     (omega arith, omega arith)
 
 pub returns-clause-text : goal.returns-clause-text
 unfolding line
-returns-clause-text c =
+returns-clause-text g c =
     let m = c.balance in
     let e = to_z-of_z {w = w64} (sfits_of m.type_inv) ∙ m.ensures ∙ ap₂ minus c.sums_of-s.ensures.sources c.sums_of-s.ensures.debits in
     appended _ _ _ _ _ (rw e at c.push_number.ensures.text) c.push.ensures.text

@@ -5,4 +5,4 @@ use Rattle.listing_book.proofs.write_day_field.Goals as goal
 
 pub returns-clause-text : goal.returns-clause-text
 unfolding field
-returns-clause-text c = appended _ _ _ _ _ c.push_date.ensures.text c.push.ensures.text
+returns-clause-text g c = appended _ _ _ _ _ c.push_date.ensures.text c.push.ensures.text

@@ -5,16 +5,16 @@ use Rattle.listing_lines.proofs.TakenLaws.{bad-verdict, carried-bad, judged-good
 use Rattle.listing_lines.proofs.event_line.Goals as goal
 
 pub returns-in_err-values-clause-carried : goal.returns-in_err-values-clause-carried
-returns-in_err-values-clause-carried c =
+returns-in_err-values-clause-carried g c =
     let line = c.args.line.now in
     let unread = rw c.in_err-values.ensures.ok_part at c.read_numbers.ensures in
     carried-bad c.args.n _ _ line _ c.args.out.now (event-good line c.args.n c.requires.1 ∙ unread) (bad-verdict _ c.from_residual.ensures.0)
 
 pub post_event-outcome-requires : goal.post_event-outcome-requires
-post_event-outcome-requires c = c.requires.3.sound (omega arith)
+post_event-outcome-requires g c = c.requires.3.sound (omega arith)
 
 pub returns-clause-carried : goal.returns-clause-carried
-returns-clause-carried c =
+returns-clause-carried g c =
     let a = c.args in
     let line = a.line.now in
     let three = c.requires.1 in

@@ -7,12 +7,12 @@ use Rattle.listing_lines.proofs.third_line.Goals as goal
 
 pub returns-then-ne : goal.returns-then-ne
 unfolding bytes_of
-returns-then-ne c =
+returns-then-ne g c =
     let bad : false ≡ is_good 2 c.args.line.now = names-other _ _ c.if-ne.ensures ∙ sym (third-good c.args.line.now) in
     record { good = bad; text = rw (← bad, append-nil c.args.out.now); short = omega arith }
 
 pub returns : goal.returns
 unfolding bytes_of line
-returns c =
+returns g c =
     let good : true ≡ is_good 2 c.args.line.now = names-same _ _ c.if-ne.ensures ∙ sym (third-good c.args.line.now) in
     record { good = good; text = rw (← good) c.extend_from_slice.ensures.text; short = omega arith }

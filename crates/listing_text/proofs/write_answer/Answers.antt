@@ -5,7 +5,7 @@ use Rattle.listing_text.proofs.write_answer.Goals as goal
 
 pub returns-clause-text : goal.returns-clause-text
 unfolding answer_text field line
-returns-clause-text c =
+returns-clause-text g c =
     let two = appended _ _ _ _ _ c.write_field.ensures.text c.write_field-2.ensures.text in
     let three = appended _ _ _ _ _ two c.write_field-3.ensures.text in
     let four = appended _ _ _ _ _ three c.write_field-4.ensures.text in

@@ -4,10 +4,10 @@ use Rattle.decimal.proofs.RoundTrip.{digits-short}
 use Rattle.listing_text.proofs.write_field.Goals as goal
 
 pub push_digits-requires : goal.push_digits-requires
-push_digits-requires c = omega (arith, digits-short 19 c.args.n (omega arith))
+push_digits-requires g c = omega (arith, digits-short 19 c.args.n (omega arith))
 
 pub push-requires : goal.push-requires
-push-requires c = omega (arith, digits-short 19 c.args.n (omega arith))
+push-requires g c = omega (arith, digits-short 19 c.args.n (omega arith))
 
 pub returns-clause-short : goal.returns-clause-short
-returns-clause-short c = omega (arith, digits-short 19 c.args.n (omega arith))
+returns-clause-short g c = omega (arith, digits-short 19 c.args.n (omega arith))

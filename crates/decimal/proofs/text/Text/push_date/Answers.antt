@@ -13,7 +13,7 @@ pieces t d = simp append_assoc
 
 pub returns-clause-text : goal.returns-clause-text
 unfolding date_text
-returns-clause-text c =
+returns-clause-text g c =
     c.push_two-4.ensures.text
     ∙ rw (c.push-2.ensures.text, c.push_two-3.ensures.text, c.push.ensures.text, c.push_two-2.ensures.text, c.push_two.ensures.text)
     (pieces c.args.self.now c.date_of-date.result ∙ rw c.date_of-date.ensures)

@@ -5,4 +5,4 @@ use Rattle.decimal.proofs.text.Text.push_two.Goals as goal
 
 pub returns-clause-text : goal.returns-clause-text
 unfolding two_digits
-returns-clause-text c = appended _ _ _ _ _ c.push.ensures.text c.push-2.ensures.text
+returns-clause-text g c = appended _ _ _ _ _ c.push.ensures.text c.push-2.ensures.text
