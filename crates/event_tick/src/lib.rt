@@ -24,7 +24,7 @@ use tables::words::put;
 use tick_close::close_accounts;
 use tick_holds::free_and_settle;
 use tick_plan::rows::RowCounts;
-use tick_plan::{Plan, count_rows, plan_tick};
+use tick_plan::{Plan, count_rows_to, plan_tick};
 use tick_raise::raise_tolls;
 
 // The plan of an admitted event 9, or why it is refused. The tests in checking order. 14 never is the reason: 8,192 sources of at most
@@ -111,7 +111,8 @@ pub fn tick(t: &mut TablesMut, holidays: &[i64], e: Instruction) -> Result<Posti
         e
         (answer_of result) }
 {
-    let counts = count_rows(t.read());
+    let mut counts = RowCounts::none(t.day() + 1);
+    count_rows_to(t.read(), &mut counts);
     let plan = judge_tick(t, holidays, e, &counts)?;
     Ok(carry_out(t, e, plan, &counts))
 }

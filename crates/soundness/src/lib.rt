@@ -12,11 +12,11 @@ use account_sums::{SLOTS, Sums};
 use holidays::holidays_fit;
 use lent::Tables;
 use records::layout::{HEADER_SCHEDULE, STAGE_PLACE};
-use records::limits::MOST_ROWS;
+use records::limits::{MOST_ROWS, SLOT_COUNT};
 use sound_header::header::{day_fits, lengths_fit, schedule_fits};
 use sound_journal::frame::Frame;
 use sound_journal::later_rows_zero;
-use sound_journal::marks::marks_of;
+use sound_journal::marks::mark_used;
 use sound_lists::lists_stand;
 use sound_passages::passages::{CELLS, ROW_CELLS};
 use sound_sums::accounts::all_agree;
@@ -109,7 +109,8 @@ fn three_sound(t: Tables) -> bool
         stage: get(t.header, HEADER_SCHEDULE + STAGE_PLACE),
     };
     let count = t.count();
-    let marks = marks_of(t.accounts, count);
+    let mut marks = [false; SLOT_COUNT];
+    mark_used(t.accounts, count, &mut marks);
     let f = Frame {
         accounts: t.accounts,
         count,

@@ -42,14 +42,23 @@ impl Remains {
         add(&mut self.owed, a, part(!source, left));
     }
 
-    // Of the used rows.
+    // The used rows, to what was of no rows.
+    pub fn add_rows(&mut self, countable: &CountableRows)
+        requires { Remainders countable.now.rows.journal.now self.old 0 }
+        ensures { Remainders countable.now.rows.journal.now self.new countable.now.rows.used }
+    {
+        for i in 0..countable.rows.used {
+            self.add_row(countable, i);
+        }
+    }
+
+    // Of the used rows. Who keeps it in a frame of its own begins with `none` and adds the rows there: a value of 4 KiB that is returned
+    // is copied, by `memcpy`, which the C library alone has.
     pub fn of_rows(countable: &CountableRows) -> Remains
         ensures { Remainders countable.now.rows.journal.now result countable.now.rows.used }
     {
         let mut sums = Remains::none();
-        for i in 0..countable.rows.used {
-            sums.add_row(countable, i);
-        }
+        sums.add_rows(countable);
         sums
     }
 }

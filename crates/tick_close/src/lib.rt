@@ -111,7 +111,8 @@ pub fn close_accounts(t: &mut TablesMut)
     let used = t.used() as usize;
     let today = t.day();
     let countable = CountableRows { rows: t.rows() };
-    let remains = Remains::of_rows(&countable);
+    let mut remains = Remains::none();
+    remains.add_rows(&countable);
     let accounts = &mut *t.accounts;
     let journal = &mut *t.journal;
     use_rows(accounts, journal, used, today, &remains.owed);

@@ -29,7 +29,7 @@ pub struct RowCounts {
 
 impl RowCounts {
     // Of no rows.
-    fn none(today: u64) -> RowCounts
+    pub fn none(today: u64) -> RowCounts
         ensures { (h t : List ℤ) → RowsCounted h t today result 0 }
     {
         RowCounts {
@@ -77,15 +77,25 @@ impl RowCounts {
         self.add_row(header, countable, i);
     }
 
-    // Of the used rows, of whose tolls none is held that is settled.
+    // The used rows, of whose tolls none is held that is settled, to what was of no rows.
+    pub fn count_rows(&mut self, header: Header, countable: &CountableRows)
+        requires { HeldOpen countable.now.rows.journal.now countable.now.rows.used
+            × RowsCounted header.words.now countable.now.rows.journal.now self.old.today self.old 0 }
+        ensures { RowsCounted header.entry.words.now countable.now.rows.journal.now self.old.today self.new countable.now.rows.used }
+    {
+        for i in 0..countable.rows.used {
+            self.count_row(header, countable, i);
+        }
+    }
+
+    // Of the used rows, likewise. Who keeps it in a frame of its own begins with `none` and counts the rows there: a value of 9 KiB that
+    // is returned is copied.
     pub fn of_rows(header: Header, countable: &CountableRows, today: u64) -> RowCounts
         requires { HeldOpen countable.now.rows.journal.now countable.now.rows.used }
         ensures { RowsCounted header.entry.words.now countable.now.rows.journal.now today result countable.now.rows.used }
     {
         let mut counts = RowCounts::none(today);
-        for i in 0..countable.rows.used {
-            counts.count_row(header, countable, i);
-        }
+        counts.count_rows(header, countable);
         counts
     }
 }

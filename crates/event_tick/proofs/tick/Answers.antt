@@ -1,19 +1,30 @@
 -- `tick` meets its contract: refused, the tables stay.
 use Rattle.std.proofs.Common.{rules}
+use native.Mathlib.Omega.{arith}
 use Rattle.std.specs.Prelude.{◌≡◌, Err}
 use Rattle.posting_laws.proofs.AddedLaws.{posts-refused}
 use Rattle.lent.specs.Lent.{lent_mut}
 use Rattle.rules.proofs.HolidayTables.{sound-without}
+use Rattle.rules.proofs.TableLaws.{header-length}
+use Rattle.posting.proofs.BookLaws.{day-small}
 use Rattle.event_tick.proofs.TickLaws.{accepts-planned}
 use Rattle.event_tick.proofs.tick.Goals as goal
 
-pub count_rows-counts-requires : goal.count_rows-counts-requires
-count_rows-counts-requires c = rw c.read.ensures.tables (sound-without c.args.holidays.now (lent_mut c.args.t.now) c.requires.0)
+pub day-requires : goal.day-requires
+day-requires c = omega (arith, header-length _ c.requires.0)
+
+pub overflow_add-day : goal.overflow_add-day
+overflow_add-day c = omega (arith, c.day.ensures, day-small _ c.requires.0)
+
+pub count_rows_to-requires : goal.count_rows_to-requires
+count_rows_to-requires c =
+    let g = c.read.ensures in
+    (rw g.tables (sound-without c.args.holidays.now (lent_mut c.args.t.now) c.requires.0), λ h j. rw (g.header, ← c.day.ensures) (c.none-counts.ensures h j))
 
 pub judge_tick-requires : goal.judge_tick-requires
 judge_tick-requires c =
     let g = c.read.ensures in
-    let counted = rw (g.header, g.journal) at c.count_rows-counts.ensures in
+    let counted = rw (g.header, g.journal) at c.count_rows_to.ensures in
     (c.requires.0, c.requires.1, c.requires.2, counted)
 
 pub returns-in_err-plan-clause-posts : goal.returns-in_err-plan-clause-posts
@@ -24,7 +35,7 @@ returns-in_err-plan-clause-posts c =
 pub carry_out-requires : goal.carry_out-requires
 carry_out-requires c =
     let g = c.read.ensures in
-    let counted = rw (g.header, g.journal) at c.count_rows-counts.ensures in
+    let counted = rw (g.header, g.journal) at c.count_rows_to.ensures in
     (c.args.holidays.now, accepts-planned _ c.requires.0 _ c.requires.1 _ c.in_ok-plan.ensures, counted)
 
 pub returns-clause-posts : goal.returns-clause-posts

@@ -96,7 +96,7 @@ pub invariant_of-f-clause-bounds : goal.invariant_of-f-clause-bounds
 invariant_of-f-clause-bounds c = rw (c.count-count.ensures, c.rows.ensures.used, ← c.used-used.ensures) (fit-bounds c.args.t.header.now c.args.t.accounts.now c.args.t.journal.now _ _ _ (fit (goal.at.invariant_of-f-clause-bounds c).After-get))
 
 pub invariant_of-f-clause-marked : goal.invariant_of-f-clause-marked
-invariant_of-f-clause-marked c = c.marks_of-marks.ensures
+invariant_of-f-clause-marked c = c.mark_used.ensures
 
 pub returns : goal.returns
 returns c =

@@ -16,6 +16,9 @@ rows-requires c = (omega (arith, midway-header _ _ c.requires.1.midway), midway-
 pub invariant_of-countable : goal.invariant_of-countable
 invariant_of-countable c = record { countable = rw (c.rows.ensures.journal, c.rows.ensures.used) (midway-countable _ _ c.requires.1.midway) }
 
+pub add_rows-requires : goal.add_rows-requires
+add_rows-requires c = c.none-remains.ensures _
+
 pub use_rows-requires : goal.use_rows-requires
 use_rows-requires c =
     rw c.used-used.ensures (rows-usable _ c.requires.1.midway)
@@ -23,12 +26,12 @@ use_rows-requires c =
 pub close_each-requires : goal.close_each-requires
 close_each-requires c =
     let p = c.requires.1 in
-    let sums = rw (c.rows.ensures.journal, c.rows.ensures.used) at c.of_rows-remains.ensures in
+    let sums = rw (c.rows.ensures.journal, c.rows.ensures.used) at c.add_rows.ensures in
     let used = rw (c.used-used.ensures, c.day-today.ensures) at c.use_rows.ensures in
     rw c.day-today.ensures (all-closable _ p.midway p.business _ sums _ used p.room)
 
 pub returns-clause-written : goal.returns-clause-written
 returns-clause-written c hs p =
-    let sums = rw (c.rows.ensures.journal, c.rows.ensures.used) at c.of_rows-remains.ensures in
+    let sums = rw (c.rows.ensures.journal, c.rows.ensures.used) at c.add_rows.ensures in
     let used = rw (c.used-used.ensures, c.day-today.ensures) at c.use_rows.ensures in
     closed-written _ p.midway p.business _ sums _ used _ _ _ (rw c.day-today.ensures at c.close_each.ensures.closed)

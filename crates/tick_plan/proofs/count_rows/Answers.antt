@@ -1,28 +1,14 @@
--- `count_rows` meets its contract: the rows are those of the tables.
+-- `count_rows` meets its contract: it counts to what was counted of no rows.
 use native.Mathlib.Omega.{arith}
 use Rattle.rules.proofs.TableLaws.{header-length}
-use Rattle.posting.proofs.BookLaws.{day-small, used-room}
-use Rattle.tick_base.proofs.MidwayLaws.{sound-midway, midway-countable}
-use Rattle.tick_plan.proofs.CountLaws.{held-open}
+use Rattle.posting.proofs.BookLaws.{day-small}
 use Rattle.tick_plan.proofs.count_rows.Goals as goal
 
-pub day-today-requires : goal.day-today-requires
-day-today-requires c = omega (arith, header-length _ c.requires)
+pub day-requires : goal.day-requires
+day-requires c = omega (arith, header-length _ c.requires)
 
-pub overflow_add-today : goal.overflow_add-today
-overflow_add-today c = omega (arith, c.day-today.ensures, day-small _ c.requires)
+pub overflow_add-day : goal.overflow_add-day
+overflow_add-day c = omega (arith, c.day.ensures, day-small _ c.requires)
 
-pub invariant_of-header : goal.invariant_of-header
-invariant_of-header c = record { wide = omega (arith, header-length _ c.requires) }
-
-pub rows-requires : goal.rows-requires
-rows-requires c = (omega (arith, header-length _ c.requires), used-room _ c.requires)
-
-pub invariant_of-countable : goal.invariant_of-countable
-invariant_of-countable c = record { countable = rw (c.rows.ensures.journal, c.rows.ensures.used) (midway-countable _ _ (sound-midway _ c.requires)) }
-
-pub of_rows-requires : goal.of_rows-requires
-of_rows-requires c = rw (c.rows.ensures.journal, c.rows.ensures.used) (held-open _ c.requires)
-
-pub returns : goal.returns
-returns c = rw (c.rows.ensures.journal, c.rows.ensures.used, c.day-today.ensures) at c.of_rows.ensures
+pub count_rows_to-requires : goal.count_rows_to-requires
+count_rows_to-requires c = (c.requires, λ h j. rw c.day.ensures at (c.none-counts.ensures h j))

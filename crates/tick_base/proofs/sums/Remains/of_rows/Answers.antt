@@ -1,5 +1,5 @@
--- `sums::Remains::of_rows` meets its contract: no row is passed before the first.
+-- `sums::Remains::of_rows` meets its contract: the rows are added to sums of none.
 use Rattle.tick_base.proofs.sums.Remains.of_rows.Goals as goal
 
-pub loop-i-init : goal.loop-i-init
-loop-i-init c = c.none-sums.ensures _
+pub add_rows-requires : goal.add_rows-requires
+add_rows-requires c = c.none-sums.ensures _

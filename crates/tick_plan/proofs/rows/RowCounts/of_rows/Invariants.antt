@@ -1,5 +1,0 @@
-use Rattle.tick_plan.specs.Plans.{RowsCounted}
-use Rattle.tick_plan.proofs.rows.RowCounts.of_rows.Given as goal
-
-abbrev pub invariant-loop-i : goal.invariant-loop-i
-invariant-loop-i l = RowsCounted l.header.words.now l.countable.rows.journal.now l.today l.counts l.i
