@@ -10,4 +10,5 @@ returns-in_default-clause-stepped g c =
 pub returns-clause-stepped : goal.returns-clause-stepped
 returns-clause-stepped g c =
     let e = c.in-Some.ensures in
-    step_line _ _ _ _ _ c.requires _ _ _ _ e.value e.within c.take_line-taken.ensures.taken _ c.phase_after.ensures.over c.phase_after.ensures.goes
+    step_line _ _ _ _ _ c.requires _ _ _ _ e.value e.within c.take_line-taken.ensures.taken _
+    c.phase_after.ensures.over c.phase_after.ensures.goes
