@@ -5,45 +5,65 @@ ghost use Rattle.std.specs.Prelude.{◌≡◌, true, Ok};
 ghost use Rattle.records.specs.Outcomes.{answer_of, number_by};
 ghost use Rattle.lists.specs.Tests.{first};
 ghost use Rattle.rules.specs.Book.{Book, account};
-ghost use Rattle.rules.specs.Tables.{book_of, sound_tables};
+ghost use Rattle.rules.specs.Tables.{book_of, sound_tables, three_tables};
 ghost use Rattle.posting.specs.Posts.{PostsAny};
 ghost use Rattle.event_refusals.specs.Admissions.{Admitted, Names};
 ghost use Rattle.records.specs.Codes.{event_open, event_close_request, event_reserve, event_successor};
 ghost use Rattle.event_accounts.specs.AccountEvents.{reserve_refusals, successor_refusals};
-ghost use Rattle.lent.specs.Lent.{lent_mut, SameTables};
+ghost use Rattle.lent.specs.Lent.{lent};
 
 use event_ends::put_account;
-use lent::TablesMut;
+use lent::Tables;
 use records::codes::{STATE_CLOSED, STATE_PENDING};
 use records::refusals::Refusal;
 use records::{Account, Instruction, Posting};
 use table_accounts::other_used;
 
 // Event 1: the account is opened. Admitted, it is not refused.
-pub fn open_account(t: &mut TablesMut, e: Instruction) -> Posting
-    requires { (sound_tables (lent_mut t.old) ≡ true)
+pub fn open_account(
+    header: &[i64],
+    accounts: &mut [i64],
+    journal: &[i64],
+    e: Instruction,
+) -> Posting
+    requires { (sound_tables (three_tables header.now accounts.old journal.now) ≡ true)
         × (e.kind ≡ event_open)
-        × Admitted (lent_mut t.old) e }
-    ensures same { SameTables t.old t.new }
-    ensures posts { PostsAny (lent_mut t.old) (lent_mut t.new) e (answer_of (Ok result)) }
+        × Admitted (three_tables header.now accounts.old journal.now) e }
+    ensures { PostsAny (three_tables header.now accounts.old journal.now)
+        (three_tables header.now accounts.new journal.now)
+        e
+        (answer_of (Ok result)) }
 {
-    put_account(t, e, Account::open(e.a, e.b), false)
+    put_account(header, accounts, journal, e, Account::open(e.a, e.b), false)
 }
 
 // Event 8: the account is pending from today.
-pub fn request_close(t: &mut TablesMut, e: Instruction, x: Account) -> Result<Posting, Refusal>
-    requires { (sound_tables (lent_mut t.old) ≡ true)
+pub fn request_close(
+    header: &[i64],
+    accounts: &mut [i64],
+    journal: &[i64],
+    e: Instruction,
+    x: Account,
+) -> Result<Posting, Refusal>
+    requires { (sound_tables (three_tables header.now accounts.old journal.now) ≡ true)
         × (e.kind ≡ event_close_request)
-        × Admitted (lent_mut t.old) e
-        × Names (lent_mut t.old) e x }
-    ensures same { SameTables t.old t.new }
-    ensures posts { PostsAny (lent_mut t.old) (lent_mut t.new) e (answer_of result) }
+        × Admitted (three_tables header.now accounts.old journal.now) e
+        × Names (three_tables header.now accounts.old journal.now) e x }
+    ensures { PostsAny (three_tables header.now accounts.old journal.now)
+        (three_tables header.now accounts.new journal.now)
+        e
+        (answer_of result) }
 {
     if x.state == STATE_PENDING {
         return Err(Refusal::Untimely);
     }
+    let t = Tables {
+        header,
+        accounts,
+        journal,
+    };
     let pending = x.request_close(t.day());
-    Ok(put_account(t, e, pending, false))
+    Ok(put_account(header, accounts, journal, e, pending, false))
 }
 
 // 11: the account has no primary; 16: the reserve to add is there already, or there is none to remove.
@@ -60,23 +80,31 @@ fn check_reserve(e: Instruction, x: Account) -> Result<(), Refusal>
 }
 
 // Event 11: the reserve is added or removed.
-pub fn set_reserve(t: &mut TablesMut, e: Instruction, x: Account) -> Result<Posting, Refusal>
-    requires { (sound_tables (lent_mut t.old) ≡ true)
+pub fn set_reserve(
+    header: &[i64],
+    accounts: &mut [i64],
+    journal: &[i64],
+    e: Instruction,
+    x: Account,
+) -> Result<Posting, Refusal>
+    requires { (sound_tables (three_tables header.now accounts.old journal.now) ≡ true)
         × (e.kind ≡ event_reserve)
-        × Admitted (lent_mut t.old) e
-        × Names (lent_mut t.old) e x }
-    ensures same { SameTables t.old t.new }
-    ensures posts { PostsAny (lent_mut t.old) (lent_mut t.new) e (answer_of result) }
+        × Admitted (three_tables header.now accounts.old journal.now) e
+        × Names (three_tables header.now accounts.old journal.now) e x }
+    ensures { PostsAny (three_tables header.now accounts.old journal.now)
+        (three_tables header.now accounts.new journal.now)
+        e
+        (answer_of result) }
 {
     check_reserve(e, x)?;
     let reserved = x.set_reserve(e.a);
-    Ok(put_account(t, e, reserved, false))
+    Ok(put_account(header, accounts, journal, e, reserved, false))
 }
 
 // 18: the account is not closed, or the successor would be itself, unused or outside the table.
-fn check_successor(t: &TablesMut, e: Instruction, x: Account) -> Result<(), Refusal>
-    requires { Names (lent_mut t.now) e x }
-    ensures { number_by result ≡ first (successor_refusals (book_of (lent_mut t.now)) e) }
+fn check_successor(t: Tables, e: Instruction, x: Account) -> Result<(), Refusal>
+    requires { Names (lent t) e x }
+    ensures { number_by result ≡ first (successor_refusals (book_of (lent t.entry)) e) }
 {
     let nameable = (x.state == STATE_CLOSED) & other_used(t.accounts, t.count(), e.account, e.a);
     if !nameable {
@@ -86,15 +114,28 @@ fn check_successor(t: &TablesMut, e: Instruction, x: Account) -> Result<(), Refu
 }
 
 // Event 12: the successor is named, in the place of one named before.
-pub fn set_successor(t: &mut TablesMut, e: Instruction, x: Account) -> Result<Posting, Refusal>
-    requires { (sound_tables (lent_mut t.old) ≡ true)
+pub fn set_successor(
+    header: &[i64],
+    accounts: &mut [i64],
+    journal: &[i64],
+    e: Instruction,
+    x: Account,
+) -> Result<Posting, Refusal>
+    requires { (sound_tables (three_tables header.now accounts.old journal.now) ≡ true)
         × (e.kind ≡ event_successor)
-        × Admitted (lent_mut t.old) e
-        × Names (lent_mut t.old) e x }
-    ensures same { SameTables t.old t.new }
-    ensures posts { PostsAny (lent_mut t.old) (lent_mut t.new) e (answer_of result) }
+        × Admitted (three_tables header.now accounts.old journal.now) e
+        × Names (three_tables header.now accounts.old journal.now) e x }
+    ensures { PostsAny (three_tables header.now accounts.old journal.now)
+        (three_tables header.now accounts.new journal.now)
+        e
+        (answer_of result) }
 {
+    let t = Tables {
+        header,
+        accounts,
+        journal,
+    };
     check_successor(t, e, x)?;
     let named = x.set_successor(e.a);
-    Ok(put_account(t, e, named, false))
+    Ok(put_account(header, accounts, journal, e, named, false))
 }

@@ -6,35 +6,37 @@ pub mod fees; // fees.rt: the fees of a toll, summed and settled
 ghost use Rattle.std.specs.Prelude.{◌≡◌, true};
 ghost use Rattle.rules.specs.Refusals.{answer_number};
 ghost use Rattle.records.specs.Outcomes.{number_by, answer_of};
-ghost use Rattle.rules.specs.Tables.{book_of, sound_tables};
+ghost use Rattle.rules.specs.Tables.{book_of, sound_tables, three_tables};
 ghost use Rattle.table_rows.specs.UsedRows.{rows_in};
 ghost use Rattle.event_lookups.specs.Lookups.{LooksUp};
 ghost use Rattle.posting.specs.Posts.{PostsAny};
 ghost use Rattle.event_refusals.specs.Admissions.{Admitted};
 ghost use Rattle.event_decision.specs.Decision.{upheld_toll, credit_for, Upholdable, UpheldRows, Releasable, freed_row};
 ghost use Rattle.records.specs.Codes.{event_decision};
-ghost use Rattle.lent.specs.Lent.{lent_mut, SameTables};
+ghost use Rattle.lent.specs.Lent.{lent};
 
 use self::fees::{settle_fees, with_fees};
 use balances::summable::SummableRows;
 use event_ends::put_and_settle;
 use event_lookups::Lookup;
-use lent::TablesMut;
+use lent::Tables;
 use posting::answers::posted;
 use posting::rows::{add_row, released, row_naming};
 use records::codes::{CODE_YES, DISPUTE_UPHELD, KIND_CREDIT, KIND_TOLL};
+use records::layout::{DAY_PLACE, USED_PLACE};
 use records::refusals::Refusal;
 use records::{Instruction, Posting, Row};
 use row_tests::{held_toll, is_of, remaining_of};
 use settlement::settle_from;
-use table_rows::write_row;
+use table_rows::{Rows, write_row};
+use tables::words::get;
 
 // Why an admitted event 6 is refused, if it is.
-fn check_decision(t: &TablesMut, e: Instruction) -> Result<(), Refusal>
-    requires { (sound_tables (lent_mut t.now) ≡ true)
+fn check_decision(t: Tables, e: Instruction) -> Result<(), Refusal>
+    requires { (sound_tables (lent t) ≡ true)
         × (e.kind ≡ event_decision)
-        × Admitted (lent_mut t.now) e }
-    ensures { number_by result ≡ answer_number (book_of (lent_mut t.now)) e }
+        × Admitted (lent t) e }
+    ensures { number_by result ≡ answer_number (book_of (lent t.entry)) e }
 {
     let r = t.rows().numbered(e.a);
     if !is_of(r, KIND_TOLL, e.account) {
@@ -73,45 +75,56 @@ fn upheld(r: Row) -> Row
 }
 
 // Verdict 1: a credit of the toll and its fees settles exactly these.
-fn uphold(t: &mut TablesMut, e: Instruction)
-    requires { Upholdable t.old.header.now t.old.journal.now e }
-    ensures same { SameTables t.old t.new }
-    ensures accounts { t.new.accounts.now ≡ t.old.accounts.now }
-    ensures upheld { UpheldRows t.old.header.now t.new.header.now t.old.journal.now t.new.journal.now e }
+fn uphold(header: &mut [i64], journal: &mut [i64], e: Instruction)
+    requires { Upholdable header.old journal.old e }
+    ensures { UpheldRows header.old header.new journal.old journal.new e }
 {
-    let used = t.used() as usize;
-    let summable = SummableRows { rows: t.rows() };
-    let credit = credit_for(summable, t.day(), e);
-    let toll = upheld(t.rows().numbered(e.a));
-    write_row(t.journal, (e.a - 1) as usize, toll);
-    settle_fees(t.journal, used, e.a);
-    add_row(&mut *t.header, &mut *t.journal, credit);
+    let used = get(header, USED_PLACE) as usize;
+    let rows = Rows { journal, used };
+    let credit = credit_for(SummableRows { rows }, get(header, DAY_PLACE), e);
+    let toll = upheld(rows.numbered(e.a));
+    write_row(journal, (e.a - 1) as usize, toll);
+    settle_fees(journal, used, e.a);
+    add_row(header, journal, credit);
 }
 
 // Verdict 0: the toll that event 6 names, free again.
-fn freed_row(t: &TablesMut, e: Instruction) -> Row
-    requires { Releasable t.now.header.now t.now.journal.now e }
-    ensures { result ≡ freed_row t.now.header.now t.now.journal.now e }
+fn freed_row(t: Tables, e: Instruction) -> Row
+    requires { Releasable t.header.now t.journal.now e }
+    ensures { result ≡ freed_row t.entry.header.now t.entry.journal.now e }
 {
     released(t.rows().numbered(e.a), t.day())
 }
 
 // Event 6: the dispute is decided; then settlement.
-pub fn decide(t: &mut TablesMut, e: Instruction, k: Lookup) -> Result<Posting, Refusal>
-    requires { (sound_tables (lent_mut t.old) ≡ true)
+pub fn decide(
+    header: &mut [i64],
+    accounts: &[i64],
+    journal: &mut [i64],
+    e: Instruction,
+    k: Lookup,
+) -> Result<Posting, Refusal>
+    requires { (sound_tables (three_tables header.old accounts.now journal.old) ≡ true)
         × (e.kind ≡ event_decision)
-        × LooksUp (lent_mut t.old) e k
-        × Admitted (lent_mut t.old) e }
-    ensures same { SameTables t.old t.new }
-    ensures posts { PostsAny (lent_mut t.old) (lent_mut t.new) e (answer_of result) }
+        × LooksUp (three_tables header.old accounts.now journal.old) e k
+        × Admitted (three_tables header.old accounts.now journal.old) e }
+    ensures { PostsAny (three_tables header.old accounts.now journal.old)
+        (three_tables header.new accounts.now journal.new)
+        e
+        (answer_of result) }
 {
+    let t = Tables {
+        header,
+        accounts,
+        journal,
+    };
     check_decision(t, e)?;
     if e.b == CODE_YES {
         let used = t.used();
-        uphold(t, e);
-        settle_from(t.journal, used as usize + 1, e.account, k.source, k.debit);
+        uphold(header, journal, e);
+        settle_from(journal, used as usize + 1, e.account, k.source, k.debit);
         return Ok(posted(used, 1, 0, false));
     }
     let free = freed_row(t, e);
-    Ok(put_and_settle(t, e, free, k))
+    Ok(put_and_settle(header, accounts, journal, e, free, k))
 }

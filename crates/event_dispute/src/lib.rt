@@ -6,27 +6,27 @@ ghost use Rattle.rules.specs.Book.{row};
 ghost use Rattle.rules.specs.Events.{hold_from};
 ghost use Rattle.rules.specs.Refusals.{answer_number};
 ghost use Rattle.records.specs.Outcomes.{number_by, answer_of};
-ghost use Rattle.rules.specs.Tables.{book_of, sound_tables};
+ghost use Rattle.rules.specs.Tables.{book_of, sound_tables, three_tables};
 ghost use Rattle.event_lookups.specs.Lookups.{LooksUp};
 ghost use Rattle.posting.specs.Posts.{PostsAny};
 ghost use Rattle.event_refusals.specs.Admissions.{Admitted};
 ghost use Rattle.records.specs.Codes.{event_dispute};
-ghost use Rattle.lent.specs.Lent.{lent_mut, SameTables};
+ghost use Rattle.lent.specs.Lent.{lent};
 
 use event_ends::put_and_settle;
 use event_lookups::Lookup;
-use lent::TablesMut;
+use lent::Tables;
 use records::codes::{DISPUTE_HELD, DISPUTE_NEVER, KIND_TOLL};
 use records::refusals::Refusal;
 use records::{Instruction, Posting, Row};
 use row_tests::is_of;
 
 // Why an admitted event 5 is refused, if it is.
-fn check_dispute(t: &TablesMut, e: Instruction) -> Result<(), Refusal>
-    requires { (sound_tables (lent_mut t.now) ≡ true)
+fn check_dispute(t: Tables, e: Instruction) -> Result<(), Refusal>
+    requires { (sound_tables (lent t) ≡ true)
         × (e.kind ≡ event_dispute)
-        × Admitted (lent_mut t.now) e }
-    ensures { number_by result ≡ answer_number (book_of (lent_mut t.now)) e }
+        × Admitted (lent t) e }
+    ensures { number_by result ≡ answer_number (book_of (lent t.entry)) e }
 {
     let r = t.rows().numbered(e.a);
     if !is_of(r, KIND_TOLL, e.account) {
@@ -50,23 +50,36 @@ fn held_from(r: Row, today: u64) -> Row
 }
 
 // The toll that event 5 names, held from today on.
-fn held_row(t: &TablesMut, e: Instruction) -> Row
-    requires { sound_tables (lent_mut t.now) ≡ true }
-    ensures { result ≡ hold_from (book_of (lent_mut t.now)).day (row (book_of (lent_mut t.now)) e.a) }
+fn held_row(t: Tables, e: Instruction) -> Row
+    requires { sound_tables (lent t) ≡ true }
+    ensures { result ≡ hold_from (book_of (lent t.entry)).day (row (book_of (lent t.entry)) e.a) }
 {
     held_from(t.rows().numbered(e.a), t.day())
 }
 
 // Event 5: the toll is held; then settlement.
-pub fn hold_toll(t: &mut TablesMut, e: Instruction, k: Lookup) -> Result<Posting, Refusal>
-    requires { (sound_tables (lent_mut t.old) ≡ true)
+pub fn hold_toll(
+    header: &[i64],
+    accounts: &[i64],
+    journal: &mut [i64],
+    e: Instruction,
+    k: Lookup,
+) -> Result<Posting, Refusal>
+    requires { (sound_tables (three_tables header.now accounts.now journal.old) ≡ true)
         × (e.kind ≡ event_dispute)
-        × LooksUp (lent_mut t.old) e k
-        × Admitted (lent_mut t.old) e }
-    ensures same { SameTables t.old t.new }
-    ensures posts { PostsAny (lent_mut t.old) (lent_mut t.new) e (answer_of result) }
+        × LooksUp (three_tables header.now accounts.now journal.old) e k
+        × Admitted (three_tables header.now accounts.now journal.old) e }
+    ensures { PostsAny (three_tables header.now accounts.now journal.old)
+        (three_tables header.now accounts.now journal.new)
+        e
+        (answer_of result) }
 {
+    let t = Tables {
+        header,
+        accounts,
+        journal,
+    };
     check_dispute(t, e)?;
     let held = held_row(t, e);
-    Ok(put_and_settle(t, e, held, k))
+    Ok(put_and_settle(header, accounts, journal, e, held, k))
 }

@@ -62,7 +62,13 @@ fn end_holds(t: &mut TablesMut, plan: Plan, counts: &RowCounts)
     ensures rows { UnraisedRows (lent_mut t.old) t.new.journal.now }
 {
     if plan.ending {
-        free_and_settle(t, &counts.ends, &counts.remains.money);
+        free_and_settle(
+            &mut *t.header,
+            &mut *t.accounts,
+            &mut *t.journal,
+            &counts.ends,
+            &counts.remains.money,
+        );
     }
 }
 
@@ -95,7 +101,12 @@ fn carry_out(t: &mut TablesMut, e: Instruction, plan: Plan, counts: &RowCounts) 
     end_holds(t, plan, counts);
     let today = t.day();
     put(t.header, DAY_PLACE, today + 1);
-    let raised = raise_tolls(t, &counts.marks);
+    let raised = raise_tolls(
+        &mut *t.header,
+        &mut *t.accounts,
+        &mut *t.journal,
+        &counts.marks,
+    );
     close_due(t, plan);
     posted(used, t.used() - used, raised, false)
 }

@@ -6,18 +6,18 @@ ghost use Rattle.rules.specs.Refusals.{answer_number};
 ghost use Rattle.event_rates.specs.Classes.{class_number};
 ghost use Rattle.rules.specs.Schedule.{class};
 ghost use Rattle.records.specs.Outcomes.{number_by, answer_of};
-ghost use Rattle.rules.specs.Tables.{book_of, sound_tables};
+ghost use Rattle.rules.specs.Tables.{book_of, sound_tables, three_tables};
 ghost use Rattle.event_lookups.specs.Lookups.{LooksUp};
 ghost use Rattle.posting.specs.Posts.{PostsAny};
 ghost use Rattle.event_refusals.specs.Admissions.{Admitted};
 ghost use Rattle.records.specs.Codes.{event_toll};
 ghost use Rattle.event_toll.specs.Toll.{toll_row};
-ghost use Rattle.lent.specs.Lent.{lent_mut, SameTables};
+ghost use Rattle.lent.specs.Lent.{lent};
 
 use event_ends::add_and_settle;
 use event_lookups::Lookup;
 use event_rates::{Class, class_of, rate_of};
-use lent::TablesMut;
+use lent::Tables;
 use posting::rows::new_row;
 use records::codes::KIND_TOLL;
 use records::layout::{HEADER_SCHEDULE, STAGE_PLACE};
@@ -27,12 +27,12 @@ use records::{Instruction, Posting, Row};
 use tables::words::get;
 
 // The class of the vehicle of an admitted event 2, or why the event is refused.
-fn check_toll(t: &TablesMut, e: Instruction, k: Lookup) -> Result<Class, Refusal>
-    requires { (sound_tables (lent_mut t.now) ≡ true)
+fn check_toll(t: Tables, e: Instruction, k: Lookup) -> Result<Class, Refusal>
+    requires { (sound_tables (lent t) ≡ true)
         × (e.kind ≡ event_toll)
-        × LooksUp (lent_mut t.now) e k
-        × Admitted (lent_mut t.now) e }
-    ensures number { number_by result ≡ answer_number (book_of (lent_mut t.now)) e }
+        × LooksUp (lent t) e k
+        × Admitted (lent t) e }
+    ensures number { number_by result ≡ answer_number (book_of (lent t.entry)) e }
     ensures class { IfOk result (λ k. class_number k ≡ class e.c e.d) }
 {
     let today = t.day();
@@ -52,12 +52,12 @@ fn check_toll(t: &TablesMut, e: Instruction, k: Lookup) -> Result<Class, Refusal
 }
 
 // The row of a toll that is not refused: at the rate of its passage day, due a stage length from today.
-fn toll_row(t: &TablesMut, e: Instruction, vehicle: Class) -> Row
-    requires { (sound_tables (lent_mut t.now) ≡ true)
+fn toll_row(t: Tables, e: Instruction, vehicle: Class) -> Row
+    requires { (sound_tables (lent t) ≡ true)
         × (e.kind ≡ event_toll)
-        × (0 ≡ answer_number (book_of (lent_mut t.now)) e)
+        × (0 ≡ answer_number (book_of (lent t)) e)
         × (class_number vehicle ≡ class e.c e.d) }
-    ensures { result ≡ toll_row (book_of (lent_mut t.now)) e }
+    ensures { result ≡ toll_row (book_of (lent t.entry)) e }
 {
     let today = t.day();
     let amount = rate_of(t.header, e.b, vehicle, e.e);
@@ -69,15 +69,28 @@ fn toll_row(t: &TablesMut, e: Instruction, vehicle: Class) -> Row
 }
 
 // Event 2: the toll's row; then settlement.
-pub fn post_toll(t: &mut TablesMut, e: Instruction, k: Lookup) -> Result<Posting, Refusal>
-    requires { (sound_tables (lent_mut t.old) ≡ true)
+pub fn post_toll(
+    header: &mut [i64],
+    accounts: &[i64],
+    journal: &mut [i64],
+    e: Instruction,
+    k: Lookup,
+) -> Result<Posting, Refusal>
+    requires { (sound_tables (three_tables header.old accounts.now journal.old) ≡ true)
         × (e.kind ≡ event_toll)
-        × LooksUp (lent_mut t.old) e k
-        × Admitted (lent_mut t.old) e }
-    ensures same { SameTables t.old t.new }
-    ensures posts { PostsAny (lent_mut t.old) (lent_mut t.new) e (answer_of result) }
+        × LooksUp (three_tables header.old accounts.now journal.old) e k
+        × Admitted (three_tables header.old accounts.now journal.old) e }
+    ensures { PostsAny (three_tables header.old accounts.now journal.old)
+        (three_tables header.new accounts.now journal.new)
+        e
+        (answer_of result) }
 {
+    let t = Tables {
+        header,
+        accounts,
+        journal,
+    };
     let class = check_toll(t, e, k)?;
     let r = toll_row(t, e, class);
-    Ok(add_and_settle(t, r, k))
+    Ok(add_and_settle(header, journal, r, k))
 }

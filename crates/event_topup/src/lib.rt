@@ -48,7 +48,14 @@ fn pay_topup(t: &mut TablesMut, e: Instruction, x: Account, k: Lookup) -> Postin
 {
     let paid = x.pay_topup();
     write_account(t.accounts, (e.account - 1) as usize, paid);
-    pay_and_settle(t, e.account, x.topup, METHOD_CARD, k)
+    pay_and_settle(
+        &mut *t.header,
+        &mut *t.journal,
+        e.account,
+        x.topup,
+        METHOD_CARD,
+        k,
+    )
 }
 
 // Event 7: a paid or a declined top-up. Declines and reserve alone tell whom the result concerns, the primary or its reserve.
@@ -71,5 +78,12 @@ pub fn topup_result(
         return Ok(pay_topup(t, e, x, k));
     }
     let declined = x.decline(t.day());
-    Ok(put_account(t, e, declined, x.last_decline()))
+    Ok(put_account(
+        &mut *t.header,
+        &mut *t.accounts,
+        &mut *t.journal,
+        e,
+        declined,
+        x.last_decline(),
+    ))
 }

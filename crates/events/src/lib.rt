@@ -54,20 +54,27 @@ pub fn post_admitted(
         (answer_of result) }
 {
     let kind = e.kind;
-    // Kept: a switch, since the functions take different parameters.
+    // Kept: a switch, since the functions take different parameters. Each table is lent by `&mut`, also to a function that only reads it:
+    // for a field of `t` that is lent to be read beside one that is lent to be written the prover has no rule.
     match kind {
-        EVENT_OPEN => Ok(open_account(t, e)),
-        EVENT_TOLL => post_toll(t, e, k),
-        EVENT_PAYMENT => post_payment(t, e, x, k),
+        EVENT_OPEN => Ok(open_account(&mut *t.header, &mut *t.accounts, &mut *t.journal, e)),
+        EVENT_TOLL => post_toll(&mut *t.header, &mut *t.accounts, &mut *t.journal, e, k),
+        EVENT_PAYMENT => post_payment(&mut *t.header, &mut *t.accounts, &mut *t.journal, e, x, k),
         EVENT_RETURNED_CHECK => return_check(t, e, x, k),
-        EVENT_DISPUTE => hold_toll(t, e, k),
-        EVENT_DECISION => decide(t, e, k),
+        EVENT_DISPUTE => hold_toll(&mut *t.header, &mut *t.accounts, &mut *t.journal, e, k),
+        EVENT_DECISION => decide(&mut *t.header, &mut *t.accounts, &mut *t.journal, e, k),
         EVENT_TOPUP_RESULT => topup_result(t, e, x, k),
-        EVENT_CLOSE_REQUEST => request_close(t, e, x),
+        EVENT_CLOSE_REQUEST => request_close(
+            &mut *t.header,
+            &mut *t.accounts,
+            &mut *t.journal,
+            e,
+            x,
+        ),
         EVENT_TICK => tick(t, holidays, e),
-        EVENT_RATE_LIST => Ok(add_list(t, e)),
-        EVENT_RESERVE => set_reserve(t, e, x),
-        EVENT_SUCCESSOR => set_successor(t, e, x),
+        EVENT_RATE_LIST => Ok(add_list(&mut *t.header, &mut *t.accounts, &mut *t.journal, e)),
+        EVENT_RESERVE => set_reserve(&mut *t.header, &mut *t.accounts, &mut *t.journal, e, x),
+        EVENT_SUCCESSOR => set_successor(&mut *t.header, &mut *t.accounts, &mut *t.journal, e, x),
         _ => Err(Refusal::Malformed),
     }
 }

@@ -6,14 +6,13 @@ ghost use Rattle.std.specs.Prelude.{◌≡◌, true, ◌≤◌};
 ghost use Rattle.records.specs.Encoding.{row_at};
 ghost use Rattle.records.specs.Limits.{most_accounts};
 ghost use Rattle.rules.specs.Tick.{end_hold};
-ghost use Rattle.rules.specs.Tables.{sound_tables};
+ghost use Rattle.rules.specs.Tables.{sound_tables, three_tables};
 ghost use Rattle.tables.specs.Changes.{RowIn, RowChanged, RowsMapped};
 ghost use Rattle.settlement.specs.Settling.{Journal};
 ghost use Rattle.tick_holds.specs.Holds.{Ending, EndingRows, HoldsCounted, SettledThose, UnraisedRows};
-ghost use Rattle.lent.specs.Lent.{lent_mut, SameTables};
 
 use account_sums::SLOTS;
-use lent::TablesMut;
+use lent::Tables;
 use posting::rows::released;
 use row_passes::change_rows;
 use settlement::settle;
@@ -61,16 +60,25 @@ fn settle_freed(
 
 // The holds that end at the tick to the next day, and the settlement that they allow, where it is counted by account how many end and what
 // money is unused.
-pub fn free_and_settle(t: &mut TablesMut, ends: &[u64; SLOTS], money: &[u64; SLOTS])
-    requires { (sound_tables (lent_mut t.old) ≡ true) × HoldsCounted (lent_mut t.old) ends.now money.now }
-    ensures same { SameTables t.old t.new }
-    ensures header { t.new.header.now ≡ t.old.header.now }
-    ensures accounts { t.new.accounts.now ≡ t.old.accounts.now }
-    ensures rows { UnraisedRows (lent_mut t.old) t.new.journal.now }
+pub fn free_and_settle(
+    header: &[i64],
+    accounts: &[i64],
+    journal: &mut [i64],
+    ends: &[u64; SLOTS],
+    money: &[u64; SLOTS],
+)
+    requires { (sound_tables (three_tables header.now accounts.now journal.old) ≡ true)
+        × HoldsCounted (three_tables header.now accounts.now journal.old) ends.now money.now }
+    ensures { UnraisedRows (three_tables header.now accounts.now journal.old) journal.new }
 {
+    let t = Tables {
+        header,
+        accounts,
+        journal,
+    };
     let used = t.used() as usize;
     let today = t.day() + 1;
-    end_holds(t.journal, used, today);
     let count = t.count();
-    settle_freed(t.journal, used, count, ends, money);
+    end_holds(journal, used, today);
+    settle_freed(journal, used, count, ends, money);
 }

@@ -7,14 +7,13 @@ ghost use Rattle.records.specs.Layout.{day_place};
 ghost use Rattle.records.specs.Encoding.{word, row_at};
 ghost use Rattle.rules.specs.Rows.{with_mark, with_due};
 ghost use Rattle.rules.specs.Tick.{rises, raise_tolls};
-ghost use Rattle.rules.specs.Tables.{book_of, room_in, rows_used};
+ghost use Rattle.rules.specs.Tables.{book_of, room_in, rows_used, three_tables};
 ghost use Rattle.posting.specs.Written.{Written};
 ghost use Rattle.tick_base.specs.Midway.{Midway};
 ghost use Rattle.tick_plan.specs.Marks.{Marked};
 ghost use Rattle.tick_raise.specs.Raising.{Raisable, RowRaised};
-ghost use Rattle.lent.specs.Lent.{lent_mut, SameTables};
 
-use lent::TablesMut;
+use lent::Tables;
 use posting::rows::{add_row, row_naming};
 use records::Row;
 use records::codes::KIND_FEE;
@@ -74,21 +73,32 @@ fn raise_marked(header: &mut [i64], journal: &mut [i64], i: usize, today: u64, m
 }
 
 // The tolls due today are raised, in row order, in the blocks of rows that are marked. The result is how many.
-pub fn raise_tolls(t: &mut TablesMut, marks: &[u64; BLOCKS]) -> u64
-    requires { Midway (word t.old.header.now day_place - 1) (lent_mut t.old)
-        × (length (raise_tolls (book_of (lent_mut t.old))).rows ≤ room_in (lent_mut t.old))
-        × Marked (word t.old.header.now day_place) t.old.journal.now marks.now (rows_used (lent_mut t.old)) }
-    ensures same { SameTables t.old t.new }
-    ensures accounts { t.new.accounts.now ≡ t.old.accounts.now }
-    ensures raised { result ≡ count (rises (word t.old.header.now day_place)) (book_of (lent_mut t.old)).rows }
-    ensures written { Written (lent_mut t.old) (lent_mut t.new) (raise_tolls (book_of (lent_mut t.old))) }
+pub fn raise_tolls(
+    header: &mut [i64],
+    accounts: &[i64],
+    journal: &mut [i64],
+    marks: &[u64; BLOCKS],
+) -> u64
+    requires { Midway (word header.old day_place - 1) (three_tables header.old accounts.now journal.old)
+        × (length (raise_tolls (book_of (three_tables header.old accounts.now journal.old))).rows
+        ≤ room_in (three_tables header.old accounts.now journal.old))
+        × Marked (word header.old day_place) journal.old marks.now (rows_used (three_tables header.old accounts.now journal.old)) }
+    ensures raised { result ≡ count (rises (word header.old day_place)) (book_of (three_tables header.old accounts.now journal.old)).rows }
+    ensures written { Written (three_tables header.old accounts.now journal.old)
+        (three_tables header.new accounts.now journal.new)
+        (raise_tolls (book_of (three_tables header.old accounts.now journal.old))) }
 {
+    let t = Tables {
+        header,
+        accounts,
+        journal,
+    };
     let today = t.day();
     let used = t.used() as usize;
     let mut n = 0;
     for i in 0..used {
         let mark = marks[i / BLOCK_ROWS];
-        n += u64::from(raise_marked(&mut *t.header, &mut *t.journal, i, today, mark));
+        n += u64::from(raise_marked(header, journal, i, today, mark));
     }
     n
 }

@@ -10,9 +10,9 @@ use Rattle.posting_laws.proofs.AnyHolidays.{refused-any}
 use Rattle.event_accounts.proofs.RequestLaws.{request-by, request-puts}
 use Rattle.event_accounts.proofs.request_close.Goals as goal
 
-pub returns-then-x-eq-STATE_PENDING-clause-posts : goal.returns-then-x-eq-STATE_PENDING-clause-posts
+pub returns-then-x-eq-STATE_PENDING : goal.returns-then-x-eq-STATE_PENDING
 unfolding first
-returns-then-x-eq-STATE_PENDING-clause-posts c =
+returns-then-x-eq-STATE_PENDING c =
     refused-any _ c.requires.0 c.args.e Untimely (rw c.requires.1)
     (request-by _ c.requires.0 _ c.requires.1 c.requires.2 true (rw (← c.requires.3) (eq-eqb _ _ c.if-x-eq-STATE_PENDING.true)))
 

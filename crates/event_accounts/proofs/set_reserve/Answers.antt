@@ -6,8 +6,8 @@ use Rattle.posting_laws.proofs.AnyHolidays.{refused-any}
 use Rattle.event_accounts.proofs.ReserveLaws.{answer-reserve, reserve-puts}
 use Rattle.event_accounts.proofs.set_reserve.Goals as goal
 
-pub returns-in_err-check_reserve-clause-posts : goal.returns-in_err-check_reserve-clause-posts
-returns-in_err-check_reserve-clause-posts c =
+pub returns-in_err-check_reserve : goal.returns-in_err-check_reserve
+returns-in_err-check_reserve c =
     let s = c.requires.0 in
     let q : c.from_residual.result ≡ Err c.in_err-check_reserve.field-0.0 = search rules in
     rw q

@@ -6,8 +6,8 @@ use Rattle.posting_laws.proofs.AnyHolidays.{refused-any}
 use Rattle.event_accounts.proofs.SuccessorLaws.{answer-successor, successor-puts}
 use Rattle.event_accounts.proofs.set_successor.Goals as goal
 
-pub returns-in_err-check_successor-clause-posts : goal.returns-in_err-check_successor-clause-posts
-returns-in_err-check_successor-clause-posts c =
+pub returns-in_err-check_successor : goal.returns-in_err-check_successor
+returns-in_err-check_successor c =
     let s = c.requires.0 in
     let q : c.from_residual.result ≡ Err c.in_err-check_successor.field-0.0 = search rules in
     rw q

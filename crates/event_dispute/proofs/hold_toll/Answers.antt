@@ -5,8 +5,8 @@ use Rattle.posting_laws.proofs.AnyHolidays.{refused-any}
 use Rattle.event_dispute.proofs.DisputeLaws.{dispute-puts}
 use Rattle.event_dispute.proofs.hold_toll.Goals as goal
 
-pub returns-in_err-check_dispute-clause-posts : goal.returns-in_err-check_dispute-clause-posts
-returns-in_err-check_dispute-clause-posts c =
+pub returns-in_err-check_dispute : goal.returns-in_err-check_dispute
+returns-in_err-check_dispute c =
     let q : c.from_residual.result ≡ Err c.in_err-check_dispute.field-0.0 = search rules in
     rw q (refused-any _ c.requires.0 c.args.e _ (rw c.requires.1) c.in_err-check_dispute.ensures)
 

@@ -2,14 +2,14 @@
 use native.Mathlib.Omega.{arith}
 use Rattle.event_ends.proofs.pay_and_settle.Goals as goal
 
-pub day-requires : goal.day-requires
-day-requires c = omega (arith, c.requires.room.header)
+pub get-today-requires : goal.get-today-requires
+get-today-requires c = omega (arith, c.requires.room.header)
 
-pub used-requires : goal.used-requires
-used-requires c = omega (arith, c.requires.room.header)
+pub get-used-requires : goal.get-used-requires
+get-used-requires c = omega (arith, c.requires.room.header)
 
 pub add_and_settle-requires : goal.add_and_settle-requires
-add_and_settle-requires c = rw (c.new_row.ensures, c.day.ensures, c.used.ensures) c.requires
+add_and_settle-requires c = rw (c.new_row.ensures, c.get-today.ensures, c.get-used.ensures) c.requires
 
 pub returns-clause-settled : goal.returns-clause-settled
-returns-clause-settled c = rw (c.new_row.ensures, c.day.ensures) at c.add_and_settle.ensures.settled
+returns-clause-settled c = rw (c.new_row.ensures, c.get-today.ensures) at c.add_and_settle.ensures.settled

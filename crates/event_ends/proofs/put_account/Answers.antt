@@ -13,15 +13,15 @@ write_account-requires c =
     let p = c.requires.1 in
     (named_in _ c.requires.0 _ p.names-account p.accepted, p.storable)
 
-pub used-requires : goal.used-requires
-used-requires c = omega (arith, header-length _ c.requires.0)
+pub get-requires : goal.get-requires
+get-requires c = omega (arith, header-length _ c.requires.0)
 
 pub posted-requires : goal.posted-requires
 posted-requires c =
-    let u = c.used.ensures in
+    let u = c.get.ensures in
     omega (arith, used-small _ c.requires.0)
 
-pub returns-clause-posts : goal.returns-clause-posts
-returns-clause-posts c =
+pub returns : goal.returns
+returns c =
     let p = c.requires.1 in
     rw (c.posted.ensures, ← p.removes) (account-posts _ c.requires.0 _ p.names-account p.accepted _ p.change _ c.write_account.ensures)

@@ -9,8 +9,8 @@ use Rattle.posting_laws.proofs.PutRowLaws.{row-used, put-settles, put-posts}
 use Rattle.event_lookups.proofs.LookupLaws.{still_before, still-put, begun-still, row-at}
 use Rattle.event_ends.proofs.put_and_settle.Goals as goal
 
-pub used-used-requires : goal.used-used-requires
-used-used-requires c = omega (arith, header-length _ c.requires.0)
+pub get-used-requires : goal.get-used-requires
+get-used-requires c = omega (arith, header-length _ c.requires.0)
 
 pub overflow_sub-e : goal.overflow_sub-e
 overflow_sub-e c = (row-used _ c.requires.0 _ c.requires.2.stands).0
@@ -27,7 +27,7 @@ settle_from-requires c =
     let p = c.requires.2 in
     let w = c.write_row.ensures in
     let i = row-used _ s _ p.stands in
-    rw c.used-used.ensures (
+    rw c.get-used.ensures (
       put-settles _ s _ p.accepted _ p.change p.stands _ w p.storable.amount,
       begun-still _ _ _ _ _ c.requires.1 (omega arith)
           (still-put _ _ _ _ _ _ w (still_before _ _ _ c.requires.1) _ (row-at _ s _ i.0 i.1) p.kind p.account p.amount p.settled),
@@ -35,13 +35,13 @@ settle_from-requires c =
 
 pub posted-requires : goal.posted-requires
 posted-requires c =
-    let u = c.used-used.ensures in
+    let u = c.get-used.ensures in
     omega (arith, used-small _ c.requires.0)
 
-pub returns-clause-posts : goal.returns-clause-posts
-returns-clause-posts c =
+pub returns : goal.returns
+returns c =
     let p = c.requires.2 in
-    let d = rw c.used-used.ensures at c.settle_from.ensures in
+    let d = rw c.get-used.ensures at c.settle_from.ensures in
     rw c.posted.ensures
     (posts-any _ _ c.args.e _ (named-no-tick c.args.e p.names-account)
     (put-posts _ c.requires.0 _ p.accepted _ p.change p.stands _ c.write_row.ensures (eqb-false _ _ p.keeps-topup) p.names-account _ d))

@@ -48,7 +48,7 @@ close_due-requires c =
     let h = rw (c.day-today.ensures, f.header) at c.put.ensures in
     let r = unraised-with c.requires.0 (lent_mut c.args.t.now) _ f.rows in
     let w = raised-with c.requires.0 _ _ (rw (h, f.accounts) at c.raise_tolls-raised.ensures.written) in
-    (c.requires.0, late-closing _ a.sound _ a.kind a.taken _ r _ w _ a.plan)
+    (c.requires.0, rw f.accounts (late-closing _ a.sound _ a.kind a.taken _ r _ w _ a.plan))
 
 pub used-requires : goal.used-requires
 used-requires c =
@@ -57,7 +57,8 @@ used-requires c =
     let h = rw (c.day-today.ensures, f.header) at c.put.ensures in
     let r = unraised-with c.requires.0 (lent_mut c.args.t.now) _ f.rows in
     let w = raised-with c.requires.0 _ _ (rw (h, f.accounts) at c.raise_tolls-raised.ensures.written) in
-    omega (arith, end-header _ a.sound _ a.kind a.taken _ r _ w _ (c.close_due.ensures.written c.requires.0 (late-closing _ a.sound _ a.kind a.taken _ r _ w _ a.plan)))
+    let x = rw f.accounts at (c.close_due.ensures.written c.requires.0 (rw f.accounts (late-closing _ a.sound _ a.kind a.taken _ r _ w _ a.plan))) in
+    omega (arith, end-header _ a.sound _ a.kind a.taken _ r _ w _ x)
 
 pub overflow_sub-used : goal.overflow_sub-used
 overflow_sub-used c =
@@ -66,7 +67,7 @@ overflow_sub-used c =
     let h = rw (c.day-today.ensures, f.header) at c.put.ensures in
     let r = unraised-with c.requires.0 (lent_mut c.args.t.now) _ f.rows in
     let w = raised-with c.requires.0 _ _ (rw (h, f.accounts) at c.raise_tolls-raised.ensures.written) in
-    let x = c.close_due.ensures.written c.requires.0 (late-closing _ a.sound _ a.kind a.taken _ r _ w _ a.plan) in
+    let x = rw f.accounts at (c.close_due.ensures.written c.requires.0 (rw f.accounts (late-closing _ a.sound _ a.kind a.taken _ r _ w _ a.plan))) in
     rw (c.used-used.ensures, c.used.ensures) (end-longer _ a.sound _ a.kind a.taken _ r _ w _ x)
 
 pub posted-requires : goal.posted-requires
@@ -79,6 +80,6 @@ returns-clause-posts c hs a =
     let h = rw (c.day-today.ensures, f.header) at c.put.ensures in
     let r = unraised-with hs (lent_mut c.args.t.now) _ f.rows in
     let w = raised-with hs _ _ (rw (h, f.accounts) at c.raise_tolls-raised.ensures.written) in
-    let x = c.close_due.ensures.written hs (late-closing _ a.sound _ a.kind a.taken _ r _ w _ a.plan) in
+    let x = rw f.accounts at (c.close_due.ensures.written hs (rw f.accounts (late-closing _ a.sound _ a.kind a.taken _ r _ w _ a.plan))) in
     rw (c.posted.ensures, c.used-used.ensures, c.used.ensures)
     (tick-posts _ a.sound _ a.kind a.taken _ r _ w _ x _ (unraised-count hs _ _ _ (rw (h, f.accounts) at c.raise_tolls-raised.ensures.raised)))

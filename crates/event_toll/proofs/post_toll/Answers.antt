@@ -7,8 +7,8 @@ use Rattle.event_ends.proofs.AddedLaws.{row-settles}
 use Rattle.event_toll.proofs.TollLaws.{toll-fits, toll-storable, toll-posts}
 use Rattle.event_toll.proofs.post_toll.Goals as goal
 
-pub returns-in_err-class-clause-posts : goal.returns-in_err-class-clause-posts
-returns-in_err-class-clause-posts c =
+pub returns-in_err-class : goal.returns-in_err-class
+returns-in_err-class c =
     let q : c.from_residual.result ≡ Err c.in_err-class.field-0.0 = search rules in
     rw q (refused-any _ c.requires.0 c.args.e _ (rw c.requires.1) c.in_err-class.ensures.number)
 
@@ -22,11 +22,11 @@ add_and_settle-requires c =
     let q = c.in_ok-class.ensures.number in
     rw c.toll_row-r.ensures (row-settles _ s _ (toll-fits _ s _ k q) (toll-storable _ s _ k q) _ _ c.requires.2 refl)
 
-pub returns-clause-posts : goal.returns-clause-posts
-returns-clause-posts c =
+pub returns : goal.returns
+returns c =
     let s = c.requires.0 in
     let k = c.requires.1 in
     let q = c.in_ok-class.ensures.number in
     let d = rw c.toll_row-r.ensures at c.add_and_settle.ensures.settled in
-    rw (c.add_and_settle.ensures.accounts, c.add_and_settle.ensures.answer)
+    rw (c.add_and_settle.ensures.answer)
     (posts-any _ _ c.args.e _ (rw k) (toll-posts _ s _ k q _ _ _ d.added d.settled))

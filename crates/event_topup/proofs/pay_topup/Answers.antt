@@ -27,4 +27,4 @@ returns-clause-posts c =
     let s = c.requires.0.sound in
     let changed = rw (c.pay_topup-paid.ensures, c.requires.2) at c.write_account.ensures in
     let d = rw (day-read _ s, c.requires.2) at c.pay_and_settle.ensures.settled in
-    rw (c.pay_and_settle.ensures.accounts, c.pay_and_settle.ensures.answer) (paid-posts _ _ c.requires.0 _ _ _ _ changed d.added d.settled)
+    rw c.pay_and_settle.ensures.answer (paid-posts _ _ c.requires.0 _ _ _ _ changed d.added d.settled)

@@ -23,8 +23,8 @@ settle_freed-requires c =
     let u = c.used-used.ensures in
     (rw u (mapped-journal _ _ _ _ (journal-settles _ s) (rw u at c.end_holds.ensures)), rw c.count-count.ensures (count_small _ s))
 
-pub returns-clause-rows : goal.returns-clause-rows
-returns-clause-rows c =
+pub returns : goal.returns
+returns c =
     let s = c.requires.0 in
     let u = c.used-used.ensures in
     let d = c.day-today.ensures in

@@ -1,7 +1,6 @@
 -- `raise_tolls` meets its contract: turn after turn, the rows passed are raised and their fees added.
 use native.Mathlib.Omega.{arith}
-use mathlib.Core.Path.{refl, ◌∙◌}
-use Rattle.lent.proofs.LentLaws.{same-none}
+use mathlib.Core.Path.{refl}
 use Rattle.tick_base.proofs.MidwayLaws.{midway-header, midway-few}
 use Rattle.tick_raise.proofs.RaisingLaws.{turns-none, turn-raisable, turn-marked, turns_more, turns-few, turns-counted, turns-written}
 use Rattle.tick_raise.proofs.raise_tolls.Goals as goal
@@ -15,7 +14,7 @@ used-used-requires c = omega (arith, midway-header _ _ c.requires.0)
 pub loop-i-init : goal.loop-i-init
 loop-i-init c =
     let p = c.requires in
-    (turns-none _ _ p.0 p.1 _ c.day-today.ensures, same-none c.args.t.now, refl)
+    turns-none _ _ p.0 p.1 _ c.day-today.ensures
 
 pub bounds-marks-i : goal.bounds-marks-i
 bounds-marks-i c =
@@ -25,7 +24,7 @@ bounds-marks-i c =
 pub raise_marked-requires : goal.raise_marked-requires
 raise_marked-requires c =
     let p = c.requires in
-    let v = c.loop-i.invariant.0 in
+    let v = c.loop-i.invariant in
     let d = c.day-today.ensures in
     let l = rw c.used-used.ensures at c.loop-i-test.true in
     (turn-raisable _ _ p.0 p.1 _ d _ _ _ _ v l, turn-marked _ _ p.0 p.1 _ d _ _ _ _ v l c.args.marks.now p.2 _ refl)
@@ -33,26 +32,21 @@ raise_marked-requires c =
 pub loop-i-preserved : goal.loop-i-preserved
 loop-i-preserved c =
     let p = c.requires in
-    let l = c.loop-i in
-    let s = l.invariant.1 in (
-      rw c.from-n.ensures (turns_more _ _ p.0 p.1 _ c.day-today.ensures _ _ _ _ l.invariant.0 (rw c.used-used.ensures at c.loop-i-test.true) _ _ _ c.raise_marked.ensures),
-      (s.0, s.1, s.2, c.raise_marked.auto.header ∙ s.3, s.4, c.raise_marked.auto.journal ∙ s.5),
-      l.invariant.2,
-    )
+    rw c.from-n.ensures (turns_more _ _ p.0 p.1 _ c.day-today.ensures _ _ _ _ c.loop-i.invariant (rw c.used-used.ensures at c.loop-i-test.true) _ _ _ c.raise_marked.ensures)
 
 pub overflow_add-n : goal.overflow_add-n
 overflow_add-n c =
     let p = c.requires in
-    omega (arith, turns-few _ _ p.0 p.1 _ c.day-today.ensures _ _ _ _ (loop-i-preserved c).0)
+    omega (arith, turns-few _ _ p.0 p.1 _ c.day-today.ensures _ _ _ _ (loop-i-preserved c))
 
 pub returns-clause-raised : goal.returns-clause-raised
 returns-clause-raised c =
     let p = c.requires in
     let l = c.loop-i in
-    turns-counted _ _ p.0 p.1 _ c.day-today.ensures _ _ _ _ l.invariant.0 (omega (arith, l.invariant.0.within, c.used-used.ensures))
+    turns-counted _ _ p.0 p.1 _ c.day-today.ensures _ _ _ _ l.invariant (omega (arith, l.invariant.within, c.used-used.ensures))
 
 pub returns-clause-written : goal.returns-clause-written
 returns-clause-written c =
     let p = c.requires in
     let l = c.loop-i in
-    rw l.invariant.2 (turns-written _ _ p.0 p.1 _ c.day-today.ensures _ _ _ _ l.invariant.0 (omega (arith, l.invariant.0.within, c.used-used.ensures)))
+    turns-written _ _ p.0 p.1 _ c.day-today.ensures _ _ _ _ l.invariant (omega (arith, l.invariant.within, c.used-used.ensures))
