@@ -17,7 +17,7 @@ pub data Step (t u : Tables) : Type 0 where
   debtor-step : (account n heavy rows : ℤ) → RepliesDebtor (debtor_call t account) n heavy rows → u ≡ t → Step t u
 
 -- calls in order, from the tables t to the tables u, each on the tables as the last one left them: so each is lent the holidays that the
--- first was (HolidaysKept)
+-- first was (HolidaysStay)
 pub data Run : Tables → Tables → Type 0 where
   none : {t : Tables} → Run t t
   more : {t u v : Tables} → Step t u → Run u v → Run t v
